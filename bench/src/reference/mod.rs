@@ -1,0 +1,4 @@
+//! The reference of document 01, one module for each layer. It aims at being plainly right, not fast.
+
+pub mod field;
+pub mod wire;

@@ -1,0 +1,4 @@
+-- Laws for the crates above.
+pub mod Laws
+pub mod Rows
+mod Digits

@@ -1,0 +1,3 @@
+-- Sets of controllers, and rows of them in message bytes.
+pub mod Set
+pub mod Row

@@ -1,0 +1,6 @@
+-- `Laws` is for the crates above; the others are what it rests on.
+mod Sum
+mod Linear
+mod Product
+mod Powers
+pub mod Laws

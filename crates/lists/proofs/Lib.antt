@@ -1,0 +1,6 @@
+-- Laws for the crates above.
+pub mod Tests
+pub mod Sums
+pub mod Parts
+pub mod Fills
+pub mod Table

@@ -1,0 +1,58 @@
+-- Laws of parts of lists that were lent and came back, of copies, and of slots of one width. The main one: `put-next`, a part
+-- lent behind what is written already.
+use mathlib.Core.Path.{_≡_, refl, sym, ap, subst, _∙_}
+use mathlib.Core.List.{List, [], _∷_, _++_, append-nil, append-assoc}
+use Prim.Native.Nat.{ℕ, zero, suc, _+_, _-_, _*_, _≤_, _<_}
+use native.Mathlib.Nat.{le-of-suc-le-suc, suc-mul, mul-le-mul-right, le-refl}
+use native.Mathlib.Numerals.{add-one}
+use native.Mathlib.Omega.{arith}
+use lib.ListN.{length, getD, set, take, drop, replicate, drop-of-length-le, length-append}
+use lib.Seq.{take-all, take-at, drop-at, drop-drop, length-take-le}
+
+-- ---- copies from the front
+copy-suc : (i : ℕ) (s d : List ℕ) → i < length s → i < length d → set (take i s ++ drop i d) i (getD s i 0) ≡ take (suc i) s ++ drop (suc i) d
+copy-suc i [] d h g = absurd (omega arith)
+copy-suc i (x ∷ s) [] h g = absurd (omega arith)
+copy-suc zero (x ∷ s) (y ∷ d) h g = refl
+copy-suc (suc i) (x ∷ s) (y ∷ d) h g = ap (λ (l : List ℕ). x ∷ l) (copy-suc i s d (le-of-suc-le-suc h) (le-of-suc-le-suc g))
+
+-- a turn of a loop that copies
+pub copy-more : (i : ℕ) (s d : List ℕ) → i < length s → i < length d → set (take i s ++ drop i d) i (getD s i 0) ≡ take (i + 1) s ++ drop (i + 1) d
+copy-more i s d h g = rw add-one (copy-suc i s d h g)
+
+pub copy-all : (i : ℕ) (s d : List ℕ) → length s ≤ i → length d ≤ i → take i s ++ drop i d ≡ s
+copy-all i s d h g = ap (λ (l : List ℕ). take i s ++ l) (drop-of-length-le d g) ∙ append-nil (take i s) ∙ take-all i s h
+
+-- ---- one value from the front
+pub fill-all : (i v : ℕ) (d : List ℕ) → i ≡ length d → replicate i v ++ drop i d ≡ replicate (length d) v
+fill-all i v d e =
+    ap (λ (l : List ℕ). replicate i v ++ l) (drop-of-length-le d (subst (λ (m : ℕ). length d ≤ m) (sym e) (le-refl (length d))))
+    ∙ append-nil (replicate i v) ∙ ap (λ (m : ℕ). replicate m v) e
+
+-- ---- parts
+-- a part that was lent behind what is written, p, and came back as v
+pub put-next : (p v o : List ℕ) (a e : ℕ) → length p ≡ a → a ≤ e
+    → take a (p ++ drop a o) ++ (v ++ drop (e - a) (drop a (p ++ drop a o))) ≡ (p ++ v) ++ drop e o
+put-next p v o a e h g =
+    let u : a + (e - a) ≡ e = omega arith in
+    rw (take-at p (drop a o) a h, drop-at p (drop a o) a h, drop-drop (e - a) a o, u, append-assoc p v (drop e o))
+
+-- a part from a to e that came back as v, of the same length: the length stays
+pub length-put : (d v : List ℕ) (a e : ℕ) → a ≤ e → e ≤ length d → length v ≡ e - a → length (take a d ++ (v ++ drop (e - a) (drop a d))) ≡ length d
+length-put d v a e h g l =
+    length-append (take a d) (v ++ drop (e - a) (drop a d))
+    ∙ omega (
+      arith,
+      length-append v (drop (e - a) (drop a d)),
+      length-take-le a d (omega arith),
+      lib.ListN.length-drop (e - a) (drop a d),
+      lib.ListN.length-drop a d,
+    )
+
+-- ---- slots of one width
+-- slot j of n lies within the box
+pub slot-within : (n w j : ℕ) → j < n → j * w + w ≤ n * w
+slot-within n w j l = subst (λ (m : ℕ). m ≤ n * w) (suc-mul j w) (mul-le-mul-right w l)
+
+pub next-offset : (j w : ℕ) → (j + 1) * w ≡ j * w + w
+next-offset j w = rw add-one (suc-mul j w)

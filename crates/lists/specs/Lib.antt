@@ -1,0 +1,3 @@
+-- Sums, counts and lists that are filled from the front.
+pub mod Sum
+pub mod Fill

@@ -1,0 +1,5 @@
+-- Laws for the crates above (Laws), and those that the functions' proofs cite.
+pub mod Laws
+mod Numbers
+mod Factors
+mod Slots

@@ -1,0 +1,4 @@
+-- Rounds and calls, lengths, slots.
+pub mod Round
+pub mod Length
+pub mod Slot
