@@ -2,3 +2,4 @@
 
 pub mod field;
 pub mod wire;
+pub mod vote;

@@ -234,6 +234,10 @@ first-least (suc n) p (suc i) l = go (p 0) l (first-least n (λ i. p (suc i)) i)
     go true m ih = absurd (omega arith)
     go false m ih = ih (omega arith)
 
+pub first-some : (n : ℕ) (p : ℕ → Bool) (i : ℕ) → p i ≡ true → first n p ≤ i
+first-some n p i y =
+    ⊎-elim (λ (l : i < first n p). absurd (true≢false (sym y ∙ first-least n p i l))) (λ (l : first n p ≤ i). l) (lt-or-le i (first n p))
+
 pub lowest-le : (s : ℕ) → lowestOf s ≤ 16
 unfolding lowestOf
 lowest-le s = first-le 16 (member s)
@@ -244,7 +248,7 @@ lowest-member s l = first-passes 16 (member s) l
 
 pub lowest-least : (s i : ℕ) → member s i ≡ true → lowestOf s ≤ i
 unfolding lowestOf
-lowest-least s i y = ⊎-elim (λ (l : i < first 16 (member s)). absurd (true≢false (sym y ∙ first-least 16 (member s) i l))) (λ h. h) (lt-or-le i (first 16 (member s)))
+lowest-least s i y = first-some 16 (member s) i y
 
 -- a set that is not empty has a least member
 pub lowest-some : (s : ℕ) → s < 2 ^ 16 → 0 < s → lowestOf s < 16

@@ -1,14 +1,15 @@
 -- Laws of rows in message bytes. The main one: `row-read`, a row of the message that was written is read back.
 use mathlib.Core.Path.{_≡_, sym, ap, ap₂, _∙_}
-use mathlib.Core.List.{List, [], _++_}
+use mathlib.Core.List.{List, [], _∷_, _++_}
 use Prim.Native.Nat.{ℕ, _+_, _*_, _/_, _%_, _^_, _≤_, _<_, min}
 use native.Mathlib.Omega.{arith}
 use borrow.Author.Tests.{eq-eqb, ne-eqb, lt-ltb, le-ltb}
-use lib.ListN.{length, getD, length-append, List·getD-append}
+use lib.ListN.{length, getD, drop, length-append, List·getD-append}
 use lib.Pow.{pow-pos}
 use lib.Seq.{getD-append-add}
 use Rattle.lists.proofs.Tests.{lt-or-le}
-use Rattle.lists.proofs.Fills.{length-tabulate, getD-tabulate}
+use Rattle.lists.specs.Fill.{filled}
+use Rattle.lists.proofs.Fills.{length-tabulate, getD-tabulate, filled-split}
 use Rattle.bitset.specs.Set.{restricted}
 use Rattle.bitset.specs.Row.{wordAt, rowOf, rowByte, rowsOf}
 use Rattle.bitset.proofs.Laws.{restrict-lt, restrict-below}
@@ -35,6 +36,13 @@ row-lt n m r =
     (λ (l : 2 * r + 2 ≤ length m). rw (row-held n m r l) (restrict-lt (wordAt m r) n))
     (lt-or-le (length m) (2 * r + 2))
 
+-- a message of one row, low byte first
+pub row-pair : (n x : ℕ) → x < 2 ^ n → rowOf n (x % 256 ∷ x / 256 ∷ []) 0 ≡ x
+unfolding wordAt
+row-pair n x h =
+    let w : x % 256 + 256 * (x / 256) ≡ x = omega arith in
+    row-held n (x % 256 ∷ x / 256 ∷ []) 0 (omega arith) ∙ ap (λ (a : ℕ). restricted a n) w ∙ restrict-below x n h
+
 -- ---- two messages, one after the other
 pub row-left : (n : ℕ) (a b : List ℕ) (r : ℕ) → 2 * r + 2 ≤ length a → rowOf n (a ++ b) r ≡ rowOf n a r
 unfolding wordAt
@@ -58,9 +66,18 @@ row-right n a b m r e =
     at i j q = ap (λ (x : ℕ). getD (a ++ b) x 0) q ∙ getD-append-add a b j 0
 
 -- ---- the message that was written
-pub length-rows : (n : ℕ) (rows : List ℕ) → n ≤ 16 → length (rowsOf n rows) ≡ 2 * n
+pub rows-length : (n : ℕ) (rows : List ℕ) → length (rowsOf n rows) ≡ 2 * min n 16
 unfolding rowsOf
-length-rows n rows l = length-tabulate (rowByte n rows) (2 * min n 16) ∙ omega arith
+rows-length n rows = length-tabulate (rowByte n rows) (2 * min n 16)
+
+pub length-rows : (n : ℕ) (rows : List ℕ) → n ≤ 16 → length (rowsOf n rows) ≡ 2 * n
+length-rows n rows l = rows-length n rows ∙ omega arith
+
+-- what `write_rows` leaves of a list that is long enough
+pub rows-written : (n : ℕ) (rows out : List ℕ) → 2 * min n 16 ≤ length out
+    → filled (rowByte n rows) (2 * min n 16) out ≡ rowsOf n rows ++ drop (2 * min n 16) out
+unfolding rowsOf
+rows-written n rows out h = filled-split (rowByte n rows) (2 * min n 16) out h
 
 byte-low : (n : ℕ) (rows : List ℕ) (r : ℕ) → rowByte n rows (2 * r) ≡ restricted (getD rows r 0) n % 256
 unfolding rowByte

@@ -4,3 +4,4 @@ pub mod Sums
 pub mod Parts
 pub mod Fills
 pub mod Table
+pub mod Sames

@@ -56,3 +56,26 @@ slot-within n w j l = subst (λ (m : ℕ). m ≤ n * w) (suc-mul j w) (mul-le-mu
 
 pub next-offset : (j w : ℕ) → (j + 1) * w ≡ j * w + w
 next-offset j w = rw add-one (suc-mul j w)
+
+-- ---- what holds of 0 and of each element of a list holds of each element of a part
+module _ (P : ℕ → Type 0) (none : P 0) where
+  pub all-take : (n : ℕ) (l : List ℕ) → ((i : ℕ) → P (getD l i 0)) → (i : ℕ) → P (getD (take n l) i 0)
+  all-take zero l h i = none
+  all-take (suc n) [] h i = none
+  all-take (suc n) (x ∷ l) h zero = h 0
+  all-take (suc n) (x ∷ l) h (suc i) = all-take n l (λ j. h (suc j)) i
+
+  pub all-drop : (n : ℕ) (l : List ℕ) → ((i : ℕ) → P (getD l i 0)) → (i : ℕ) → P (getD (drop n l) i 0)
+  all-drop zero l h i = h i
+  all-drop (suc n) [] h i = none
+  all-drop (suc n) (x ∷ l) h i = all-drop n l (λ j. h (suc j)) i
+
+  pub all-append : (a b : List ℕ) → ((i : ℕ) → P (getD a i 0)) → ((i : ℕ) → P (getD b i 0)) → (i : ℕ) → P (getD (a ++ b) i 0)
+  all-append [] b f g i = g i
+  all-append (x ∷ a) b f g zero = f 0
+  all-append (x ∷ a) b f g (suc i) = all-append a b (λ j. f (suc j)) g i
+
+  pub all-zeros : (n : ℕ) (i : ℕ) → P (getD (replicate n 0) i 0)
+  all-zeros zero i = none
+  all-zeros (suc n) zero = none
+  all-zeros (suc n) (suc i) = all-zeros n i

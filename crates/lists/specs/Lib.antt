@@ -1,3 +1,4 @@
--- Sums, counts and lists that are filled from the front.
+-- Sums, counts, lists given by a function of the index, and equality of lists as a test.
 pub mod Sum
 pub mod Fill
+pub mod Same

@@ -6,12 +6,12 @@ use mathlib.Core.Bool.{Bool, true, false, cond}
 use mathlib.Core.List.{List}
 use mathlib.Core.Logic.{_⊎_, inl, inr, ⊎-elim}
 use Prim.Native.Nat.{ℕ, _+_, _-_, _*_, _/_, _%_, _<_, _≤_}
-use native.Mathlib.Nat.{mul-le-mul-right}
+use native.Mathlib.Nat.{mul-le-mul-right, mul-pos}
 use native.Mathlib.Omega.{arith}
 use borrow.Author.Tests.{eq-eqb, ne-eqb, le-leb, lt-leb, eqb-true, eqb-false, leb-true, leb-false}
 use lib.Dec.{leb, eqb}
 use lib.ListN.{length}
-use Rattle.lists.proofs.Tests.{either, cond-yes, cond-no}
+use Rattle.lists.proofs.Tests.{either, cond-yes, cond-no, lt-or-le, same-or-not}
 use Rattle.settings.specs.Valid.{Coded}
 use Rattle.settings.proofs.Laws.{lengths-0, 0-lengths}
 use Rattle.wire.specs.declared.Round.{Round}
@@ -30,6 +30,7 @@ pub use Rattle.wire.proofs.Slots.{
   holds-fits,
   message-none,
   length-message,
+  message-all,
   Sized,
   sized-silence,
   sized-bytes,
@@ -39,6 +40,7 @@ pub use Rattle.wire.proofs.Slots.{
   slots-all,
   silent-slots,
   content,
+  to-all,
   put-next-slot,
   length-rest,
   copied-all,
@@ -342,6 +344,40 @@ phase-seen p = omega arith
 pub phase-king : (p : ℕ) → phaseOf (3 * p + 3) ≡ p
 unfolding phaseOf
 phase-king p = omega arith
+
+-- ---- every message of a run has a length
+phase-pos : (n t k m : ℕ) → Coded n t k → 1 ≤ rowLength (phaseRound m) n t k
+phase-pos n t k m v = go (eqb m 1) (eqb m 2)
+  where
+    go : (a b : Bool) → 1 ≤ rowLength (cond a Matrix (cond b Seen King)) n t k
+    go true b = omega (arith, length-matrix n t k, v .quorum .n-least)
+    go false true = omega (arith, length-seen n t k, v .quorum .n-least)
+    go false false = omega (arith, length-king n t k, v .quorum .n-least)
+
+pub length-pos : {n t k : ℕ} → Coded n t k → (c : ℕ) → 1 ≤ c → c ≤ 3 * t + 8 → 1 ≤ messageLength n t k c
+length-pos {n} {t} {k} v c h l =
+    rw (length-of v c)
+    (⊎-elim (λ (e : c ≡ 1). at e (round-block t) (omega (arith, length-block n t k, block-length k t, mul-pos (v .k-least) (one t))))
+    (λ (a : c ≡ 1 → ⊥). ⊎-elim (λ (e : c ≡ 2). at e (round-pieces t) (omega (arith, length-pieces n t k, v .k-least)))
+    (λ (b : c ≡ 2 → ⊥). ⊎-elim (λ (e : c ≡ 3). at e (round-marks t) (omega (arith, length-marks n t k)))
+    (λ (d : c ≡ 3 → ⊥). ⊎-elim
+    (λ (m : c < 3 * t + 7). subst (λ (r : Round). 1 ≤ rowLength r n t k) (sym (round-vote t c (from-four c (λ e. omega arith) a b d) (omega arith))) (phase-pos n t k (c % 3) v))
+    (λ (m : 3 * t + 7 ≤ c). ⊎-elim (λ (e : c ≡ 3 * t + 7). at e (round-forward t) (omega (arith, length-forward n t k, v .k-least)))
+    (λ (f : c ≡ 3 * t + 7 → ⊥). at (end c l m f) (round-rebuild t) (omega (arith, length-rebuild n t k, v .k-least)))
+    (same-or-not c (3 * t + 7)))
+    (lt-or-le c (3 * t + 7)))
+    (same-or-not c 3))
+    (same-or-not c 2))
+    (same-or-not c 1))
+  where
+    one : (t : ℕ) → 0 < t + 1
+    one t = omega arith
+
+    end : (c : ℕ) → c ≤ 3 * t + 8 → 3 * t + 7 ≤ c → (c ≡ 3 * t + 7 → ⊥) → c ≡ 3 * t + 8
+    end c l m f = omega arith
+
+    at : {x : ℕ} {r : Round} → c ≡ x → roundKind t x ≡ r → 1 ≤ rowLength r n t k → 1 ≤ rowLength (roundKind t c) n t k
+    at {x} {r} e q p = subst (λ (y : Round). 1 ≤ rowLength y n t k) (sym (ap (roundKind t) e ∙ q)) p
 
 -- ---- inboxes and outboxes
 pub round-count : (t : ℕ) → roundCount t ≡ 3 * t + 8

@@ -1,7 +1,7 @@
 -- Slots of one width. The main laws: `slot-of-slots`, slot j of an outbox written slot by slot, and `message-of-slot`, a slot that arrived
 -- as it was written is read as what was sent.
 use mathlib.Core.Path.{_≡_, refl, sym, ap, ap₂, subst, _∙_}
-use mathlib.Core.Bool.{true, false, not, _&&_}
+use mathlib.Core.Bool.{Bool, cond, true, false, not, _&&_}
 use mathlib.Core.List.{List, [], _∷_, _++_, append-nil}
 use mathlib.Core.Logic.{⊎-elim}
 use Prim.Native.Nat.{ℕ, zero, suc, _+_, _-_, _*_, _/_, _<_, _≤_, min}
@@ -13,8 +13,8 @@ use lib.Dec.{leb, eqb}
 use lib.ListN.{length, getD, set, take, drop, replicate, length-append, length-drop, length-take, replicate-append-replicate, drop-of-length-le, getD-replicate, length-replicate}
 use lib.Seq.{length-take-le, take-all, take-append-le, drop-append-le, take-at, drop-at, drop-drop, getD-take, getD-drop}
 use Rattle.lists.proofs.Tests.{either, and-left, and-right, and-both, and-no-left, and-no-right, cond-yes, cond-no, lt-or-le}
-use Rattle.lists.proofs.Parts.{next-offset}
-use Rattle.wire.specs.Slot.{header, width, slotOf, holds, isPresent, messageOf, Sent, silence, bytes, written, slots, putSlot, copied}
+use Rattle.lists.proofs.Parts.{all-take, all-drop, next-offset}
+use Rattle.wire.specs.Slot.{header, width, slotOf, holds, isPresent, messageOf, Sent, silence, bytes, written, slots, toAll, putSlot, copied}
 
 -- ---- the layout
 pub width-pos : (len : ℕ) → 0 < width len
@@ -110,6 +110,15 @@ length-message box len j n =
     (λ (h : holds box len j ≡ false). absurd (n (ap length (message-none box len j h))))
     (either (holds box len j))
 
+-- what holds of 0 and of each byte of the box holds of each byte of a message
+pub message-all : (P : ℕ → Type 0) → P 0 → (box : List ℕ) (len j : ℕ) → ((i : ℕ) → P (getD box i 0)) → (i : ℕ) → P (getD (messageOf box len j) i 0)
+unfolding messageOf slotOf
+message-all P z box len j h i = go (holds box len j && isPresent (slotOf box len j))
+  where
+    go : (b : Bool) → P (getD (cond b (drop header (slotOf box len j)) []) i 0)
+    go true = all-drop P z header (slotOf box len j) (all-take P z (width len) (drop ((j - 1) * width len) box) (all-drop P z ((j - 1) * width len) box h)) i
+    go false = z
+
 -- ---- slots written in full
 abbrev pub Sized : ℕ → Sent → Type 0
 Sized len s = length (written len s) ≡ width len
@@ -198,6 +207,10 @@ unfolding putSlot
 put-held box len j m h l e =
     cond-yes (holds box len j && eqb (length m) len) _ box
     (and-both (holds box len j) (eqb (length m) len) (holds-yes box len j h l) (eq-eqb (length m) len e))
+
+-- one message to all, in an outbox that is as long as its slots
+pub to-all : (n : ℕ) (m o : List ℕ) → length o ≡ n * width (length m) → toAll n m o ≡ slots (length m) (λ _. bytes m) n
+to-all n m o e = cond-yes (eqb (length o) (n * width (length m))) (slots (length m) (λ _. bytes m) n) o (eq-eqb (length o) (n * width (length m)) e)
 
 -- a turn of a loop that writes an outbox slot by slot
 pub put-next-slot : (len : ℕ) (f : ℕ → Sent) → ((i : ℕ) → Sized len (f i)) → (o box m : List ℕ) (j : ℕ) → (j + 1) * width len ≤ length o

@@ -7,6 +7,7 @@
 --   Sent                     what one controller sends to another in a round: silence, or a message
 --   written len s            a slot written in full: 01 and the message, or all 00
 --   slots len f n            the n slots of an outbox whose slot j is f j
+--   toAll n m outbox         the outbox with the message m in its n slots; as it is where it is not exactly as long
 --   putSlot box len j m      the box with slot j written with the message m; the box as it is where it does not hold the slot whole or
 --                            m is not len bytes long
 --   copied s d               d with its first bytes replaced by those of s, as far as both reach
@@ -45,6 +46,9 @@ written len (bytes m) = 1 ∷ m
 unfoldable pub slots : ℕ → (ℕ → Sent) → ℕ → List ℕ
 slots len f zero = []
 slots len f (suc j) = slots len f j ++ written len (f (suc j))
+
+abbrev pub toAll : ℕ → List ℕ → List ℕ → List ℕ
+toAll n m outbox = cond (eqb (length outbox) (n * width (length m))) (slots (length m) (λ _. bytes m) n) outbox
 
 unfoldable pub putSlot : List ℕ → ℕ → ℕ → List ℕ → List ℕ
 putSlot box len j m =

@@ -9,7 +9,7 @@ ghost use Rattle.settings.specs.Refusal.{outside};
 ghost use Rattle.settings.specs.Valid.{Coded};
 ghost use Rattle.wire.specs.Round.{roundCount, callCount, phaseRound, lastRound, roundKind, phaseCall, lastCall, callKind, phaseOf};
 ghost use Rattle.wire.specs.Length.{rowIndex, factorsAt, rowLength, inSettings, blockSize, messageLength, inboxLength, outboxLength};
-ghost use Rattle.wire.specs.Slot.{width, messageOf, bytes, written, slots, putSlot, copied};
+ghost use Rattle.wire.specs.Slot.{width, messageOf, bytes, written, slots, toAll, putSlot, copied};
 use settings::Entry;
 use settings::Settings;
 
@@ -60,6 +60,7 @@ const HEADER: usize = 1;
 const PRESENT: u8 = 1;
 
 // How many rounds a run has; 0 for a t outside 1 .. 5.
+// Shut out: 3t + 9; an answer for t 6.
 pub fn rounds(t: usize) -> usize
     ensures { λ r. ⌜ r ≡ cond (outside 1 5 t) 0 (roundCount t) ⌝ }
 {
@@ -73,6 +74,7 @@ pub fn rounds(t: usize) -> usize
 }
 
 // How many calls a run has; 0 for a t outside 1 .. 5.
+// Shut out: 3t + 8; no answer for t 1.
 pub fn calls(t: usize) -> usize
     ensures { λ r. ⌜ r ≡ cond (outside 1 5 t) 0 (callCount t) ⌝ }
 {
@@ -86,6 +88,7 @@ pub fn calls(t: usize) -> usize
 }
 
 // The kind of round c.
+// Shut out: the vote a round too short; the remainder by 2.
 pub fn round_kind(t: usize, c: usize) -> Round
     ensures { λ r. ⌜ r ≡ roundKind t c ⌝ }
 {
@@ -134,6 +137,7 @@ fn last_round(m: usize) -> Round
 }
 
 // The kind of call c.
+// Shut out: call 5 taken for call 4; 2t for 3t after the vote.
 pub fn call_kind(t: usize, c: usize) -> Call
     ensures { λ r. ⌜ r ≡ callKind t c ⌝ }
 {
@@ -188,6 +192,7 @@ fn last_call(m: usize) -> Call
 }
 
 // The phase of round c, which is the number of its king; 0 before the vote.
+// Shut out: half of c - 1; phase 1 at 0.
 pub fn phase(c: usize) -> usize
     ensures { λ r. ⌜ r ≡ phaseOf c ⌝ }
 {
@@ -254,6 +259,7 @@ fn in_settings(n: usize, t: usize, k: usize) -> bool
 }
 
 // The length of a block; 0 outside the settings.
+// Shut out: k × (t + 2); and must-fail/wrong_factor for the table.
 pub fn block_length(n: usize, t: usize, k: usize) -> usize
     ensures { λ r. ⌜ r ≡ blockSize n t k ⌝ }
 {
@@ -264,6 +270,7 @@ pub fn block_length(n: usize, t: usize, k: usize) -> usize
 }
 
 // The length of a message of round c; 0 outside the settings and rounds.
+// Shut out: the kind of round t for c; a wrong factor (must-fail edit).
 pub fn message_length(n: usize, t: usize, k: usize, c: usize) -> usize
     ensures { λ r. ⌜ r ≡ messageLength n t k c ⌝ }
 {
@@ -274,6 +281,7 @@ pub fn message_length(n: usize, t: usize, k: usize, c: usize) -> usize
 }
 
 // The length of the outbox that call c is lent: n slots; 0 for the last call and outside the settings and calls.
+// Shut out: slots without their header; 1 where there is no round.
 pub fn outbox_length(n: usize, t: usize, k: usize, c: usize) -> usize
     ensures { λ r. ⌜ r ≡ outboxLength n t k c ⌝ }
 {
@@ -285,6 +293,7 @@ pub fn outbox_length(n: usize, t: usize, k: usize, c: usize) -> usize
 }
 
 // The length of the inbox that call c is lent: n slots; 0 for the first call and outside the settings and calls.
+// Shut out: the box of round c; slots without their header.
 pub fn inbox_length(n: usize, t: usize, k: usize, c: usize) -> usize
     ensures { λ r. ⌜ r ≡ inboxLength n t k c ⌝ }
 {
@@ -296,6 +305,7 @@ pub fn inbox_length(n: usize, t: usize, k: usize, c: usize) -> usize
 
 // The message of slot j of an inbox of messages of `len` bytes, as that part of the inbox; the empty part where the slot is absent, j
 // is 0, or the inbox does not hold the slot whole.
+// Shut out: an absent slot handed out; a slot off by one (must-fail edits).
 pub fn message(inbox: &[u8], len: usize, j: usize) -> &[u8]
     ensures { λ r. ⌜ now r ≡ messageOf (now (inbox .entry)) len j ⌝ }
 {
@@ -320,6 +330,7 @@ pub fn message(inbox: &[u8], len: usize, j: usize) -> &[u8]
 }
 
 // Silence: every byte 00.
+// Shut out: bytes 01; the first byte left.
 pub fn silence(outbox: &mut [u8])
     ensures { λ _. ⌜ now (outbox .exit) ≡ replicate (length (now (outbox .entry))) 0 ⌝ }
 {
@@ -329,6 +340,7 @@ pub fn silence(outbox: &mut [u8])
 }
 
 // Copies the bytes of src to the front of dst, as far as both reach; the rest of dst stays.
+// Shut out: the first byte everywhere; the last byte left.
 pub fn copy(dst: &mut [u8], src: &[u8])
     ensures { λ _. ⌜ now (dst .exit) ≡ copied (now (src .entry)) (now (dst .entry)) ⌝ }
 {
@@ -353,6 +365,7 @@ fn put_slot(slot: &mut [u8], m: &[u8])
 
 // A message for one: writes slot j of an outbox of messages of `len` bytes. Nothing is written where the outbox does not hold the slot
 // whole or m is not `len` bytes long.
+// Shut out: slot 1 never written; slots as wide as their messages.
 pub fn send_one(outbox: &mut [u8], len: usize, j: usize, m: &[u8])
     ensures { λ _. ⌜ now (outbox .exit) ≡ putSlot (now (outbox .entry)) len j (now (m .entry)) ⌝ }
 {
@@ -372,6 +385,7 @@ pub fn send_one(outbox: &mut [u8], len: usize, j: usize, m: &[u8])
 }
 
 // Whether a box is exactly as long as n slots with messages of `len` bytes.
+// Shut out: a length that is no multiple; a longer box.
 pub fn holds_exactly(slots: &[u8], n: usize, len: usize) -> bool
     ensures { λ r. ⌜ r ≡ eqb (length (now (slots .entry))) (n * width len) ⌝ }
 {
@@ -392,8 +406,9 @@ pub fn holds_exactly(slots: &[u8], n: usize, len: usize) -> bool
 }
 
 // One message to all: writes the n slots of an outbox that is exactly as long. Nothing is written to any other.
+// Shut out: n + 1 slots; the last slot left.
 pub fn send_all(outbox: &mut [u8], n: usize, m: &[u8])
-    ensures { λ _. ⌜ now (outbox .exit) ≡ cond (eqb (length (now (outbox .entry))) (n * width (length (now (m .entry))))) (slots (length (now (m .entry))) (λ _. bytes (now (m .entry))) n) (now (outbox .entry)) ⌝ }
+    ensures { λ _. ⌜ now (outbox .exit) ≡ toAll n (now (m .entry)) (now (outbox .entry)) ⌝ }
 {
     let len = m.len();
     if holds_exactly(outbox, n, len) {

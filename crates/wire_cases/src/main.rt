@@ -96,17 +96,44 @@ fn bytes(name: &[u8], s: &[u8]) {
 // Reads and writes of slots.
 fn slots() {
     let mut outbox = [7u8; 12];
-    bytes(b"slot 1", wire::message(b"\x01\x05\x06\x02\x07\x08\x01\x09\x0a\x00\x0b\x0c", 2, 1));
-    bytes(b"slot 2", wire::message(b"\x01\x05\x06\x02\x07\x08\x01\x09\x0a\x00\x0b\x0c", 2, 2));
-    bytes(b"slot 3", wire::message(b"\x01\x05\x06\x02\x07\x08\x01\x09\x0a\x00\x0b\x0c", 2, 3));
-    bytes(b"slot 4", wire::message(b"\x01\x05\x06\x02\x07\x08\x01\x09\x0a\x00\x0b\x0c", 2, 4));
-    bytes(b"slot 0", wire::message(b"\x01\x05\x06\x02\x07\x08\x01\x09\x0a\x00\x0b\x0c", 2, 0));
-    bytes(b"slot 5", wire::message(b"\x01\x05\x06\x02\x07\x08\x01\x09\x0a\x00\x0b\x0c", 2, 5));
+    bytes(
+        b"slot 1",
+        wire::message(b"\x01\x05\x06\x02\x07\x08\x01\x09\x0a\x00\x0b\x0c", 2, 1),
+    );
+    bytes(
+        b"slot 2",
+        wire::message(b"\x01\x05\x06\x02\x07\x08\x01\x09\x0a\x00\x0b\x0c", 2, 2),
+    );
+    bytes(
+        b"slot 3",
+        wire::message(b"\x01\x05\x06\x02\x07\x08\x01\x09\x0a\x00\x0b\x0c", 2, 3),
+    );
+    bytes(
+        b"slot 4",
+        wire::message(b"\x01\x05\x06\x02\x07\x08\x01\x09\x0a\x00\x0b\x0c", 2, 4),
+    );
+    bytes(
+        b"slot 0",
+        wire::message(b"\x01\x05\x06\x02\x07\x08\x01\x09\x0a\x00\x0b\x0c", 2, 0),
+    );
+    bytes(
+        b"slot 5",
+        wire::message(b"\x01\x05\x06\x02\x07\x08\x01\x09\x0a\x00\x0b\x0c", 2, 5),
+    );
     bytes(b"not whole", wire::message(b"\x01\x05\x06\x01\x07", 2, 2));
-    bytes(b"longer", wire::message(b"\x01\x05\x06\x01\x07\x08\x01", 2, 2));
+    bytes(
+        b"longer",
+        wire::message(b"\x01\x05\x06\x01\x07\x08\x01", 2, 2),
+    );
     bytes(b"no bytes", wire::message(b"", 2, 1));
-    bytes(b"largest length", wire::message(b"\x01\x05\x06", 18446744073709551615, 1));
-    bytes(b"largest number", wire::message(b"\x01\x05\x06", 2, 18446744073709551615));
+    bytes(
+        b"largest length",
+        wire::message(b"\x01\x05\x06", 18446744073709551615, 1),
+    );
+    bytes(
+        b"largest number",
+        wire::message(b"\x01\x05\x06", 2, 18446744073709551615),
+    );
     wire::send_one(&mut outbox, 2, 2, b"\x05\x06");
     bytes(b"one", &outbox);
     wire::send_one(&mut outbox, 2, 5, b"\x08\x09");

@@ -1,0 +1,118 @@
+-- Laws of the vote for the crates above. The main one: `vote`, after the phases of a vote all correct controllers have one matrix, and a
+-- bit or row on which all correct ones started equal is what it was, whatever the others sent to each of them, with any different kings.
+-- `vote-in-order`: kings 1 to t + 1. `marks-kept`: the row of a controller whose marks all correct ones received. Below them the same for one
+-- bit, and the laws of what slots say, of the matrices and of what is sent.
+use mathlib.Core.Path.{_≡_, sym, ap, _∙_}
+use mathlib.Core.Bool.{Bool}
+use mathlib.Core.List.{List}
+use Prim.Native.Nat.{ℕ, suc, _+_, _*_, _≤_, _<_}
+use native.Mathlib.Omega.{arith}
+use lib.ListN.{length, getD}
+use Rattle.bitset.specs.Row.{rowOf, rowsOf}
+use Rattle.bitset.proofs.Laws.{restrict-below}
+use Rattle.bitset.proofs.Rows.{row-lt, length-rows}
+use Rattle.wire.specs.Slot.{width, messageOf, bytes, slots, toAll}
+use Rattle.wire.proofs.Laws.{to-all}
+use Rattle.phase_king.specs.Matrix.{limit, firstMatrix, heldOf, weakOf, settledOf, seenMessage}
+use Rattle.phase_king.specs.Vote.{Correct, System, phaseCount, Kings, BitPhase, Vote, Agreed}
+use Rattle.phase_king.proofs.Bits
+use Rattle.phase_king.proofs.Matrices.{length-matrix, first-row, agreed}
+pub use Rattle.phase_king.proofs.Matrices.{
+  said-absent,
+  king-absent,
+  king-past,
+  said-matrix,
+  said-zeros,
+  said-ones,
+  king-matrix,
+  cell-zeros,
+  cell-ones,
+  cell-held,
+  cell-weak,
+  cell-settled,
+  first-row,
+  phase-bit,
+}
+use Rattle.phase_king.proofs.Writes.{seen-length as seen-bytes}
+
+-- ---- the vote
+pub vote : (n t : ℕ) (correct : ℕ → Bool) (king : ℕ → ℕ) (rows : ℕ → ℕ → List ℕ) → n ≤ 16 → System n t correct → Kings n t king
+    → Vote n t correct king rows → Agreed n t correct rows
+vote n t correct king rows u system kings phases = agreed n t correct u system king kings rows phases
+
+-- the protocol's kings, controllers 1 to t + 1, are different
+pub in-order : (n t : ℕ) (correct : ℕ → Bool) → System n t correct → Kings n t (λ p. p)
+in-order n t correct system = record { below = λ p l. omega (arith, system .small); distinct = λ p q l m e. e }
+
+pub vote-in-order : (n t : ℕ) (correct : ℕ → Bool) (rows : ℕ → ℕ → List ℕ) → n ≤ 16 → System n t correct → Vote n t correct (λ p. p) rows
+    → Agreed n t correct rows
+vote-in-order n t correct rows u system phases = vote n t correct (λ p. p) rows u system (in-order n t correct system) phases
+
+-- call 4 and the vote: where the message of controller r + 1 reached all correct controllers as m, its row ends as the marks in m
+pub marks-kept : (n t : ℕ) (correct : ℕ → Bool) (rows : ℕ → ℕ → List ℕ) → n ≤ 16 → Agreed n t correct rows
+    → (inbox : ℕ → List ℕ) (len r : ℕ) (m : List ℕ) → r < n → ((i : ℕ) → Correct n correct i → rows 0 i ≡ firstMatrix (inbox i) len n)
+    → ((i : ℕ) → Correct n correct i → messageOf (inbox i) len (r + 1) ≡ m)
+    → (i : ℕ) → Correct n correct i → getD (rows (phaseCount t) i) r 0 ≡ rowOf n m 0
+marks-kept n t correct rows u all inbox len r m l start sent i f =
+    all .row-kept r (rowOf n m 0) l
+    (λ k g. ap (λ (x : List ℕ). getD x r 0) (start k g) ∙ first-row (inbox k) len n r u l ∙ ap (λ (x : List ℕ). rowOf n x 0) (sent k g))
+    i f
+    ∙ restrict-below (rowOf n m 0) n (row-lt n m 0)
+
+-- ---- one bit
+-- a phase keeps a bit that all correct controllers hold
+pub bit-validity : (n t : ℕ) (correct : ℕ → Bool) (king : ℕ) (before after : ℕ → Bool) → System n t correct → BitPhase n t correct king before after
+    → (b : Bool) → ((i : ℕ) → Correct n correct i → before i ≡ b) → (i : ℕ) → Correct n correct i → after i ≡ b
+bit-validity n t correct king before after system phase = Bits.bit-validity n t correct system king before after phase
+
+-- a correct king makes all correct controllers equal
+pub bit-king : (n t : ℕ) (correct : ℕ → Bool) (king : ℕ) (before after : ℕ → Bool) → System n t correct → BitPhase n t correct king before after
+    → Correct n correct king → (i j : ℕ) → Correct n correct i → Correct n correct j → after i ≡ after j
+bit-king n t correct king before after system phase w i j f g =
+    let same = Bits.bit-king n t correct system king before after phase w in
+    same i f ∙ sym (same j g)
+
+module _ (n t : ℕ) (correct : ℕ → Bool) (king : ℕ → ℕ) (bits : ℕ → ℕ → Bool) (system : System n t correct) (kings : Kings n t king)
+    (phases : (p : ℕ) → p < phaseCount t → BitPhase n t correct (king p) (bits p) (bits (suc p))) where
+  -- all phases end in one bit
+  pub bit-agreement : (i j : ℕ) → Correct n correct i → Correct n correct j → bits (phaseCount t) i ≡ bits (phaseCount t) j
+  bit-agreement = Bits.bit-agreement n t correct system king kings bits phases
+
+  -- a bit that all correct controllers started with stays
+  pub bit-kept : (b : Bool) → ((i : ℕ) → Correct n correct i → bits 0 i ≡ b) → (i : ℕ) → Correct n correct i → bits (phaseCount t) i ≡ b
+  bit-kept b h = Bits.bit-stays n t correct system king kings bits phases b 0 (phaseCount t) h (omega arith) (omega arith)
+
+-- ---- matrices have 16 rows
+pub length-first : (inbox : List ℕ) (len n : ℕ) → length (firstMatrix inbox len n) ≡ 16
+unfolding firstMatrix
+length-first inbox len n = length-matrix (limit n) _
+
+pub length-held : (inbox : List ℕ) (len n t : ℕ) → length (heldOf inbox len n t) ≡ 16
+unfolding heldOf
+length-held inbox len n t = length-matrix (limit n) _
+
+pub length-weak : (inbox : List ℕ) (len n t : ℕ) → length (weakOf inbox len n t) ≡ 16
+unfolding weakOf
+length-weak inbox len n t = length-matrix (limit n) _
+
+pub length-settled : (rows weak inbox : List ℕ) (len n king : ℕ) → length (settledOf rows weak inbox len n king) ≡ 16
+unfolding settledOf
+length-settled rows weak inbox len n king = length-matrix (limit n) _
+
+-- ---- what is sent, in an outbox of n slots of that length
+sent : (n len : ℕ) (m outbox : List ℕ) → n ≤ 16 → length m ≡ len → length outbox ≡ n * width len → toAll (limit n) m outbox ≡ slots len (λ _. bytes m) n
+sent n len m outbox u e h =
+    let l : limit n ≡ n = omega arith in
+    let s : length outbox ≡ n * width (length m) = h ∙ ap (λ (x : ℕ). n * width x) (sym e) in
+    rw l (to-all n m outbox s ∙ ap (λ (x : ℕ). slots x (λ _. bytes m) n) e)
+
+pub matrix-sent : (n : ℕ) (rows outbox : List ℕ) → n ≤ 16 → length outbox ≡ n * width (2 * n)
+    → toAll (limit n) (rowsOf n rows) outbox ≡ slots (2 * n) (λ _. bytes (rowsOf n rows)) n
+matrix-sent n rows outbox u h = sent n (2 * n) (rowsOf n rows) outbox u (length-rows n rows u) h
+
+pub seen-length : (n : ℕ) (zeros ones : List ℕ) → n ≤ 16 → length (seenMessage n zeros ones) ≡ 4 * n
+seen-length n zeros ones u = seen-bytes n zeros ones ∙ omega arith
+
+pub seen-sent : (n : ℕ) (zeros ones outbox : List ℕ) → n ≤ 16 → length outbox ≡ n * width (4 * n)
+    → toAll (limit n) (seenMessage n zeros ones) outbox ≡ slots (4 * n) (λ _. bytes (seenMessage n zeros ones)) n
+seen-sent n zeros ones outbox u h = sent n (4 * n) (seenMessage n zeros ones) outbox u (seen-length n zeros ones u) h

@@ -1,0 +1,330 @@
+// The vote among the controllers on a matrix of marks, bit by bit (document 01, 'Rounds', call 4 and rounds 3p + 1 to 3p + 3; Berman, Garay
+// and Perry). Index i is controller i + 1; a king is named by its number. Every function is total: a number n over 16 counts as 16.
+ghost use mathlib.Core.Path.{_≡_};
+ghost use mathlib.Core.Bool.{cond};
+ghost use mathlib.Core.List.{_++_};
+ghost use Prim.Native.Nat.{_+_, _-_, _*_, _<_, _≤_, min};
+ghost use lib.ListN.{length, drop};
+ghost use Rattle.lists.specs.Sum.{ind, count};
+ghost use Rattle.bitset.specs.Set.{member, inserted};
+ghost use Rattle.bitset.specs.Row.{rowOf, rowsOf};
+ghost use Rattle.wire.specs.Slot.{messageOf, toAll};
+ghost use Rattle.phase_king.specs.Bit.{zeroSeen, oneSeen, held, weak, settled};
+ghost use Rattle.phase_king.specs.Matrix.{cell, seenMessage, collected, tallied, kept, resolved};
+ghost use Rattle.phase_king.specs.Steps.{saidRows, ruleBit, ruleRow, ruleMatrix, kingRow, settledRow};
+
+// A matrix: a row of marks for each controller.
+pub struct Matrix {
+    pub rows: [u16; 16],
+}
+
+// Where zero is seen and where one is seen.
+pub struct Seen {
+    pub zeros: [u16; 16],
+    pub ones: [u16; 16],
+}
+
+// The bits now held, and where their count is below n - t.
+pub struct Held {
+    pub rows: [u16; 16],
+    pub weak: [u16; 16],
+}
+
+// What is asked of the slots for each bit.
+enum Rule {
+    ZeroSeen,
+    OneSeen,
+    Hold,
+    Weak,
+}
+
+// What an absent slot says: 0 at each bit.
+const ABSENT: u16 = 0;
+
+// n, or 16 where n is larger.
+fn limit(n: usize) -> usize
+    ensures { λ r. ⌜ r ≡ min n 16 ⌝ }
+{
+    if 16 < n {
+        return 16;
+    }
+    n
+}
+
+// How many slots make a quorum: n - t, or 0 where t is larger.
+fn quorum(n: usize, t: usize) -> usize
+    ensures { λ r. ⌜ r ≡ n - t ⌝ }
+{
+    if n < t {
+        return 0;
+    }
+    n - t
+}
+
+// Row r of what slot i + 1 says.
+fn said_row(inbox: &[u8], len: usize, n: usize, r: usize, i: usize) -> u16
+    requires { ⌜ i < 16 ⌝ }
+    ensures { λ s. ⌜ s ≡ rowOf n (messageOf (now (inbox .entry)) len (i + 1)) r ⌝ }
+{
+    let m = wire::message(inbox, len, i + 1);
+    if m.len() == 0 {
+        return ABSENT;
+    }
+    bitset::read_row(m, n, r)
+}
+
+// Row r of what each of the n slots says.
+fn said_rows(inbox: &[u8], len: usize, n: usize, r: usize) -> [u16; 16]
+    requires { ⌜ n ≤ 16 ⌝ }
+    ensures { λ s. ⌜ s ≡ saidRows (now (inbox .entry)) len n r ⌝ }
+{
+    let mut rows = [0u16; 16];
+    let mut i: usize = 0;
+    while i < n {
+        rows[i] = said_row(inbox, len, n, r, i);
+        i += 1;
+    }
+    rows
+}
+
+// Bit j of a row, as a number.
+fn bit(row: u16, j: usize) -> usize
+    ensures { λ b. ⌜ b ≡ ind (member row j) ⌝ }
+{
+    if bitset::member(row, j) {
+        return 1;
+    }
+    0
+}
+
+// How many of the first n rows have bit j.
+fn count_bit(rows: &[u16; 16], n: usize, j: usize) -> usize
+    requires { ⌜ n ≤ 16 ⌝ }
+    ensures { λ c. ⌜ c ≡ count n (λ i. cell (now (rows .entry)) i j) ⌝ }
+{
+    let mut c: usize = 0;
+    let mut i: usize = 0;
+    while i < n {
+        c += bit(rows[i], j);
+        i += 1;
+    }
+    c
+}
+
+// Whether at least n - t say 0 at bit j.
+fn zero_seen(said: &[u16; 16], n: usize, t: usize, j: usize) -> bool
+    requires { ⌜ n ≤ 16 ⌝ }
+    ensures { λ b. ⌜ b ≡ zeroSeen n t (λ i. cell (now (said .entry)) i j) ⌝ }
+{
+    let ones = count_bit(said, n, j);
+    quorum(n, t) <= quorum(n, ones)
+}
+
+// Whether at least n - t say 1 at bit j.
+fn one_seen(said: &[u16; 16], n: usize, t: usize, j: usize) -> bool
+    requires { ⌜ n ≤ 16 ⌝ }
+    ensures { λ b. ⌜ b ≡ oneSeen n t (λ i. cell (now (said .entry)) i j) ⌝ }
+{
+    quorum(n, t) <= count_bit(said, n, j)
+}
+
+// The bit held: 1 if more than t have one seen.
+fn held_bit(ones: &[u16; 16], n: usize, t: usize, j: usize) -> bool
+    requires { ⌜ n ≤ 16 ⌝ }
+    ensures { λ b. ⌜ b ≡ held n t (λ i. cell (now (ones .entry)) i j) ⌝ }
+{
+    t < count_bit(ones, n, j)
+}
+
+// Whether the count for the bit held is below n - t.
+fn weak_bit(zeros: &[u16; 16], ones: &[u16; 16], n: usize, t: usize, j: usize) -> bool
+    requires { ⌜ n ≤ 16 ⌝ }
+    ensures { λ b. ⌜ b ≡ weak n t (λ i. cell (now (zeros .entry)) i j) (λ i. cell (now (ones .entry)) i j) ⌝ }
+{
+    if held_bit(ones, n, t, j) {
+        return count_bit(ones, n, j) < quorum(n, t);
+    }
+    count_bit(zeros, n, j) < quorum(n, t)
+}
+
+// Bit j by a rule, from the rows that the slots say.
+fn rule_bit(rule: Rule, first: &[u16; 16], second: &[u16; 16], n: usize, t: usize, j: usize) -> bool
+    requires { ⌜ n ≤ 16 ⌝ }
+    ensures { λ b. ⌜ b ≡ ruleBit rule n t (now (first .entry)) (now (second .entry)) j ⌝ }
+{
+    match rule {
+        Rule::ZeroSeen => zero_seen(first, n, t, j),
+        Rule::OneSeen => one_seen(first, n, t, j),
+        Rule::Hold => held_bit(second, n, t, j),
+        Rule::Weak => weak_bit(first, second, n, t, j),
+    }
+}
+
+// The row with bit j, if b.
+fn mark(row: u16, j: usize, b: bool) -> u16
+    ensures { λ r. ⌜ r ≡ cond b (inserted row j) row ⌝ }
+{
+    if b {
+        return bitset::insert(row, j);
+    }
+    row
+}
+
+// The row of a rule's bits.
+fn rule_row(rule: Rule, first: &[u16; 16], second: &[u16; 16], n: usize, t: usize) -> u16
+    requires { ⌜ n ≤ 16 ⌝ }
+    ensures { λ r. ⌜ r ≡ ruleRow rule n t (now (first .entry)) (now (second .entry)) ⌝ }
+{
+    let mut row: u16 = 0;
+    let mut j: usize = 0;
+    while j < n {
+        row = mark(row, j, rule_bit(rule, first, second, n, t, j));
+        j += 1;
+    }
+    row
+}
+
+// Row r of a rule's matrix. The slots' rows for the ones stand n rows further on.
+fn rule_row_at(rule: Rule, inbox: &[u8], len: usize, n: usize, t: usize, r: usize) -> u16
+    requires { ⌜ (n ≤ 16) × (r < n) ⌝ }
+    ensures { λ w. ⌜ w ≡ ruleRow rule n t (saidRows (now (inbox .entry)) len n r) (saidRows (now (inbox .entry)) len n (n + r)) ⌝ }
+{
+    let first = said_rows(inbox, len, n, r);
+    let second = said_rows(inbox, len, n, n + r);
+    rule_row(rule, &first, &second, n, t)
+}
+
+// The matrix of a rule.
+fn rule_matrix(rule: Rule, inbox: &[u8], len: usize, n: usize, t: usize) -> [u16; 16]
+    requires { ⌜ n ≤ 16 ⌝ }
+    ensures { λ m. ⌜ m ≡ ruleMatrix rule (now (inbox .entry)) len n t ⌝ }
+{
+    let mut rows = [0u16; 16];
+    let mut r: usize = 0;
+    while r < n {
+        rows[r] = rule_row_at(rule, inbox, len, n, t, r);
+        r += 1;
+    }
+    rows
+}
+
+// Call 4: row j of the matrix is the message of j.
+// Shut out: the next slot's message, another row of it, ones for an absent slot.
+pub fn collect(inbox: &[u8], len: usize, n: usize) -> Matrix
+    ensures { λ m. ⌜ m ≡ collected (now (inbox .entry)) len n ⌝ }
+{
+    let rows = said_rows(inbox, len, limit(n), 0);
+    Matrix { rows }
+}
+
+// After round 3p + 1: where zero and where one is seen.
+// Shut out: zero seen only above n - t, the zeros matrix in the place of the ones matrix.
+pub fn tally(inbox: &[u8], len: usize, n: usize, t: usize) -> Seen
+    ensures { λ s. ⌜ s ≡ tallied (now (inbox .entry)) len n t ⌝ }
+{
+    let m = limit(n);
+    let zeros = rule_matrix(Rule::ZeroSeen, inbox, len, m, t);
+    let ones = rule_matrix(Rule::OneSeen, inbox, len, m, t);
+    Seen { zeros, ones }
+}
+
+// After round 3p + 2: the bits now held, and where their count is below n - t.
+// Shut out: 1 held where the ones are t, weak where the count is n - t.
+pub fn hold(inbox: &[u8], len: usize, n: usize, t: usize) -> Held
+    ensures { λ s. ⌜ s ≡ kept (now (inbox .entry)) len n t ⌝ }
+{
+    let m = limit(n);
+    let rows = rule_matrix(Rule::Hold, inbox, len, m, t);
+    let weak = rule_matrix(Rule::Weak, inbox, len, m, t);
+    Held { rows, weak }
+}
+
+// Row r of the king's message; zeros for a king that is none of 1 to n.
+fn king_row(inbox: &[u8], len: usize, n: usize, king: usize, r: usize) -> u16
+    ensures { λ s. ⌜ s ≡ kingRow (now (inbox .entry)) len n king r ⌝ }
+{
+    if n < king {
+        return 0;
+    }
+    bitset::read_row(wire::message(inbox, len, king), n, r)
+}
+
+// Bit j after round 3p + 3.
+fn settled_bit(held: u16, weak: u16, king: u16, j: usize) -> bool
+    ensures { λ b. ⌜ b ≡ settled (member held j) (member weak j) (member king j) ⌝ }
+{
+    if bitset::member(weak, j) {
+        return bitset::member(king, j);
+    }
+    bitset::member(held, j)
+}
+
+// A row after round 3p + 3.
+fn settled_row(held: u16, weak: u16, king: u16, n: usize) -> u16
+    requires { ⌜ n ≤ 16 ⌝ }
+    ensures { λ r. ⌜ r ≡ settledRow n held weak king ⌝ }
+{
+    let mut row: u16 = 0;
+    let mut j: usize = 0;
+    while j < n {
+        row = mark(row, j, settled_bit(held, weak, king, j));
+        j += 1;
+    }
+    row
+}
+
+// After round 3p + 3: the king's bit where weak, else the bit held.
+// Shut out: always the king's bit, never the king's bit.
+pub fn settle(
+    rows: &[u16; 16],
+    weak: &[u16; 16],
+    inbox: &[u8],
+    len: usize,
+    n: usize,
+    king: usize,
+) -> Matrix
+    ensures { λ m. ⌜ m ≡ resolved (now (rows .entry)) (now (weak .entry)) (now (inbox .entry)) len n king ⌝ }
+{
+    let m = limit(n);
+    let mut settled = [0u16; 16];
+    let mut r: usize = 0;
+    while r < m {
+        settled[r] = settled_row(rows[r], weak[r], king_row(inbox, len, m, king, r), m);
+        r += 1;
+    }
+    Matrix { rows: settled }
+}
+
+// The matrix to all: rounds 3p + 1 and 3p + 3. An outbox whose length is not that of the slots stays as it is.
+// Shut out: a message of zeros, half the message.
+pub fn send_matrix(outbox: &mut [u8], rows: &[u16; 16], n: usize)
+    ensures { λ _. ⌜ now (outbox .exit) ≡ toAll (min n 16) (rowsOf n (now (rows .entry))) (now (outbox .entry)) ⌝ }
+{
+    let mut m = [0u8; 32];
+    bitset::write_rows(&mut m, rows, n);
+    let count = limit(n);
+    let end = 2 * count;
+    wire::send_all(outbox, count, &m[..end]);
+}
+
+// The message of the zeros matrix, then the ones matrix, at the front of m.
+fn write_seen(m: &mut [u8], zeros: &[u16; 16], ones: &[u16; 16], n: usize)
+    requires { ⌜ 4 * min n 16 ≤ length (now m) ⌝ }
+    ensures { λ _. ⌜ now (m .exit) ≡ seenMessage n (now (zeros .entry)) (now (ones .entry)) ++ drop (4 * min n 16) (now (m .entry)) ⌝ }
+{
+    bitset::write_rows(m, zeros, n);
+    let start = 2 * limit(n);
+    bitset::write_rows(&mut m[start..], ones, n);
+}
+
+// The zeros matrix, then the ones matrix to all: round 3p + 2. An outbox whose length is not that of the slots stays as it is.
+// Shut out: the ones matrix first, the zeros matrix alone.
+pub fn send_seen(outbox: &mut [u8], zeros: &[u16; 16], ones: &[u16; 16], n: usize)
+    ensures { λ _. ⌜ now (outbox .exit) ≡ toAll (min n 16) (seenMessage n (now (zeros .entry)) (now (ones .entry))) (now (outbox .entry)) ⌝ }
+{
+    let mut m = [0u8; 64];
+    write_seen(&mut m, zeros, ones, n);
+    let count = limit(n);
+    let end = 4 * count;
+    wire::send_all(outbox, count, &m[..end]);
+}

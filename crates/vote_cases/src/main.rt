@@ -1,0 +1,456 @@
+// Plays votes of 4, 7, 10 and 16 controllers, call 4 and rounds 3p + 1 to 3p + 3, on inboxes and outboxes of bytes through `phase_king`: faulty
+// kings, two-faced and silent controllers, starting bits that are split. For each vote: a line with n, t, the choice of faulty controllers
+// and the seed; a line for each round, from 3 on, with a digest of all matrices that the correct controllers then have; a line for each
+// correct controller with its number and the digest of its last matrix. The expected output comes from the independent reference:
+//     cd bench && cargo run --release --bin vote_vectors > ../crates/vote_cases/stdout
+use libc::STDOUT_FILENO;
+use wire::Round;
+ghost use mathlib.Core.Path.{_≡_};
+ghost use Prim.Native.Nat.{_+_, _*_, _<_, _≤_};
+ghost use lib.ListN.{length};
+
+// A vote: which controllers are faulty is one of four choices, the rest comes from the seed.
+struct Setup {
+    n: usize,
+    t: usize,
+    faults: usize,
+    seed: u64,
+}
+
+// The generator: x times 1664525 plus 1013904223, modulo 2 to the 32.
+fn next(x: u64) -> u64 {
+    (x % 4294967296 * 1664525 + 1013904223) % 4294967296
+}
+
+fn mix(x: u64, y: u64) -> u64 {
+    next(std::num::wrapping_add_u64(x, y))
+}
+
+// 16 bits for a purpose or round c, two controllers and a place.
+fn draw(seed: u64, c: usize, i: usize, j: usize, b: usize) -> u64 {
+    let x = mix(mix(next(seed), c as u64), i as u64);
+    mix(mix(x, j as u64), b as u64) / 65536
+}
+
+fn word(x: u64) -> u16 {
+    (x % 65536) as u16
+}
+
+fn byte(x: u64) -> u8 {
+    (x % 256) as u8
+}
+
+// Whether index i is faulty: nobody, the first t, the last t, or every third from index 1 on.
+fn faulty(s: Setup, i: usize) -> bool {
+    if s.faults == 0 {
+        return false;
+    }
+    if s.faults == 1 {
+        return i < s.t;
+    }
+    if s.faults == 2 {
+        return i < s.n && s.n - i <= s.t;
+    }
+    i % 3 == 1 && i / 3 < s.t
+}
+
+// How a faulty controller behaves: 0 silent, 1 all ones to every other receiver and zeros to the rest, 2 any bytes, 3 any bytes or absent.
+fn manner(s: Setup, i: usize) -> u64 {
+    draw(s.seed, 0, i, 0, 0) % 4
+}
+
+fn present(s: Setup, c: usize, i: usize, j: usize) -> bool {
+    let m = manner(s, i);
+    if m == 0 {
+        return false;
+    }
+    if m == 3 {
+        return draw(s.seed, c, i, j, 1000) % 2 == 0;
+    }
+    true
+}
+
+fn fault_byte(s: Setup, c: usize, i: usize, j: usize, b: usize) -> u8 {
+    if manner(s, i) == 1 {
+        if j % 2 == 0 {
+            return 0;
+        }
+        return 255;
+    }
+    byte(draw(s.seed, c, i, j, b))
+}
+
+fn fault_message(m: &mut [u8], s: Setup, c: usize, i: usize, j: usize) {
+    let mut b: usize = 0;
+    while b < m.len() {
+        m[b] = fault_byte(s, c, i, j, b);
+        b += 1;
+    }
+}
+
+// Slot i of the inbox of j, from a faulty controller.
+fn from_faulty(inbox: &mut [u8], s: Setup, c: usize, len: usize, i: usize, j: usize)
+    requires { ⌜ i < 16 ⌝ }
+{
+    if 64 < len {
+        return;
+    }
+    if present(s, c, i, j) {
+        let mut m = [0u8; 64];
+        fault_message(&mut m, s, c, i, j);
+        wire::send_one(inbox, len, i + 1, &m[..len]);
+    }
+}
+
+// Slot i of the inbox of j, from a correct controller: what its outbox has for j. The outboxes lie 1040 bytes apart.
+fn from_correct(inbox: &mut [u8], boxes: &[u8], len: usize, i: usize, j: usize)
+    requires { ⌜ (i < 16) × (j < 16) × (length (now boxes) ≡ 65536) ⌝ }
+{
+    let a = i * 1040;
+    let e = a + 1040;
+    let m = wire::message(&boxes[a..e], len, j + 1);
+    if m.len() == len {
+        wire::send_one(inbox, len, i + 1, m);
+    }
+}
+
+fn slot(inbox: &mut [u8], boxes: &[u8], s: Setup, c: usize, len: usize, i: usize, j: usize)
+    requires { ⌜ (i < 16) × (j < 16) × (length (now boxes) ≡ 65536) ⌝ }
+{
+    if faulty(s, i) {
+        from_faulty(inbox, s, c, len, i, j);
+    } else {
+        from_correct(inbox, boxes, len, i, j);
+    }
+}
+
+fn gather(inbox: &mut [u8], boxes: &[u8], s: Setup, c: usize, len: usize, j: usize)
+    requires { ⌜ (s .n ≤ 16) × (j < 16) × (length (now boxes) ≡ 65536) ⌝ }
+{
+    let n = s.n;
+    let mut i: usize = 0;
+    while i < n {
+        slot(inbox, boxes, s, c, len, i, j);
+        i += 1;
+    }
+}
+
+// What an absent slot holds: no 01.
+fn fill(inbox: &mut [u8], v: u8) {
+    for b in 0..inbox.len() {
+        inbox[b] = v;
+    }
+}
+
+// The state: 64 matrices. Of index i, the matrix is number i, the weak one 16 + i, the zeros 32 + i, the ones 48 + i.
+fn empty_state() -> [u16; 1024]
+    ensures { λ r. ⌜ length r ≡ 1024 ⌝ }
+{
+    [0u16; 1024]
+}
+
+fn matrix_at(state: &[u16], k: usize) -> [u16; 16]
+    requires { ⌜ (k < 64) × (length (now state) ≡ 1024) ⌝ }
+{
+    let mut m = [0u16; 16];
+    let mut r: usize = 0;
+    while r < 16 {
+        m[r] = state[16 * k + r];
+        r += 1;
+    }
+    m
+}
+
+fn put_matrix(state: &mut [u16], k: usize, m: &[u16; 16])
+    requires { ⌜ (k < 64) × (length (now state) ≡ 1024) ⌝ }
+{
+    let mut r: usize = 0;
+    while r < 16 {
+        state[16 * k + r] = m[r];
+        r += 1;
+    }
+}
+
+// A row that all start with but for about an eighth of the bits.
+fn scattered_row(seed: u64, j: usize, r: usize) -> u16 {
+    let all = word(draw(seed, 500, 0, 0, r));
+    let flips = word(draw(seed, 501, j, 0, r))
+        & word(draw(seed, 502, j, 0, r))
+        & word(draw(seed, 503, j, 0, r));
+    all ^ flips
+}
+
+fn scattered(seed: u64, j: usize) -> [u16; 16] {
+    let mut m = [0u16; 16];
+    let mut r: usize = 0;
+    while r < 16 {
+        m[r] = scattered_row(seed, j, r);
+        r += 1;
+    }
+    m
+}
+
+// Call 4. With an odd seed the vote starts from other matrices.
+fn on_marks(s: Setup, len: usize, inbox: &[u8], state: &mut [u16], j: usize)
+    requires { ⌜ (j < 16) × (length (now state) ≡ 1024) ⌝ }
+{
+    if s.seed % 2 == 0 {
+        let m = phase_king::collect(inbox, len, s.n);
+        let rows = m.rows;
+        put_matrix(state, j, &rows);
+    } else {
+        let rows = scattered(s.seed, j);
+        put_matrix(state, j, &rows);
+    }
+}
+
+// After round 3p + 1.
+fn on_matrix(s: Setup, len: usize, inbox: &[u8], state: &mut [u16], j: usize)
+    requires { ⌜ (j < 16) × (length (now state) ≡ 1024) ⌝ }
+{
+    let seen = phase_king::tally(inbox, len, s.n, s.t);
+    let zeros = seen.zeros;
+    let ones = seen.ones;
+    put_matrix(state, 32 + j, &zeros);
+    put_matrix(state, 48 + j, &ones);
+}
+
+// After round 3p + 2.
+fn on_seen(s: Setup, len: usize, inbox: &[u8], state: &mut [u16], j: usize)
+    requires { ⌜ (j < 16) × (length (now state) ≡ 1024) ⌝ }
+{
+    let held = phase_king::hold(inbox, len, s.n, s.t);
+    let rows = held.rows;
+    let weak = held.weak;
+    put_matrix(state, j, &rows);
+    put_matrix(state, 16 + j, &weak);
+}
+
+// After round 3p + 3.
+fn on_king(s: Setup, c: usize, len: usize, inbox: &[u8], state: &mut [u16], j: usize)
+    requires { ⌜ (j < 16) × (length (now state) ≡ 1024) ⌝ }
+{
+    let rows = matrix_at(state, j);
+    let weak = matrix_at(state, 16 + j);
+    let m = phase_king::settle(&rows, &weak, inbox, len, s.n, wire::phase(c));
+    let settled = m.rows;
+    put_matrix(state, j, &settled);
+}
+
+fn act(s: Setup, c: usize, len: usize, inbox: &[u8], state: &mut [u16], j: usize)
+    requires { ⌜ (j < 16) × (length (now state) ≡ 1024) ⌝ }
+{
+    let round = wire::round_kind(s.t, c);
+    match round {
+        Round::Marks => on_marks(s, len, inbox, state, j),
+        Round::Matrix => on_matrix(s, len, inbox, state, j),
+        Round::Seen => on_seen(s, len, inbox, state, j),
+        Round::King => on_king(s, c, len, inbox, state, j),
+        _ => {}
+    }
+}
+
+// The call of index j after round c, if it is correct.
+fn receive_one(s: Setup, c: usize, state: &mut [u16], boxes: &[u8], j: usize)
+    requires { ⌜ (s .n ≤ 16) × (j < 16) × (length (now state) ≡ 1024) × (length (now boxes) ≡ 65536) ⌝ }
+{
+    if faulty(s, j) {
+        return;
+    }
+    let len = wire::message_length(s.n, s.t, 1, c);
+    let mut space = io::buffer();
+    let inbox: &mut [u8] = &mut space;
+    fill(inbox, byte(c as u64 % 128 * 2));
+    gather(inbox, boxes, s, c, len, j);
+    act(s, c, len, inbox, state, j);
+}
+
+fn receive(s: Setup, c: usize, state: &mut [u16], boxes: &[u8])
+    requires { ⌜ (s .n ≤ 16) × (length (now state) ≡ 1024) × (length (now boxes) ≡ 65536) ⌝ }
+{
+    let n = s.n;
+    let mut j: usize = 0;
+    while j < n {
+        receive_one(s, c, state, boxes, j);
+        j += 1;
+    }
+}
+
+// The marks of index i to all, bits past n too.
+fn emit_marks(s: Setup, outbox: &mut [u8], i: usize) {
+    let x = draw(s.seed, 3, i, 0, 0);
+    let m = [byte(x), byte(x / 256)];
+    wire::send_all(outbox, s.n, &m);
+}
+
+fn emit_matrix(s: Setup, state: &[u16], outbox: &mut [u8], i: usize)
+    requires { ⌜ (i < 16) × (length (now state) ≡ 1024) ⌝ }
+{
+    let rows = matrix_at(state, i);
+    phase_king::send_matrix(outbox, &rows, s.n);
+}
+
+fn emit_seen(s: Setup, state: &[u16], outbox: &mut [u8], i: usize)
+    requires { ⌜ (i < 16) × (length (now state) ≡ 1024) ⌝ }
+{
+    let zeros = matrix_at(state, 32 + i);
+    let ones = matrix_at(state, 48 + i);
+    phase_king::send_seen(outbox, &zeros, &ones, s.n);
+}
+
+fn emit_king(s: Setup, c: usize, state: &[u16], outbox: &mut [u8], i: usize)
+    requires { ⌜ (i < 16) × (length (now state) ≡ 1024) ⌝ }
+{
+    if i + 1 == wire::phase(c) {
+        emit_matrix(s, state, outbox, i);
+    } else {
+        wire::silence(outbox);
+    }
+}
+
+fn emit(s: Setup, c: usize, state: &[u16], outbox: &mut [u8], i: usize)
+    requires { ⌜ (i < 16) × (length (now state) ≡ 1024) ⌝ }
+{
+    let round = wire::round_kind(s.t, c);
+    match round {
+        Round::Marks => emit_marks(s, outbox, i),
+        Round::Matrix => emit_matrix(s, state, outbox, i),
+        Round::Seen => emit_seen(s, state, outbox, i),
+        Round::King => emit_king(s, c, state, outbox, i),
+        _ => {}
+    }
+}
+
+// The outbox of index i in round c.
+fn send_one(s: Setup, c: usize, state: &[u16], boxes: &mut [u8], i: usize)
+    requires { ⌜ (i < 16) × (length (now state) ≡ 1024) × (length (now boxes) ≡ 65536) ⌝ }
+{
+    let size = wire::outbox_length(s.n, s.t, 1, c);
+    if 1040 < size {
+        return;
+    }
+    let a = i * 1040;
+    let e = a + size;
+    emit(s, c, state, &mut boxes[a..e], i);
+}
+
+fn send(s: Setup, c: usize, state: &[u16], boxes: &mut [u8])
+    requires { ⌜ (s .n ≤ 16) × (length (now state) ≡ 1024) × (length (now boxes) ≡ 65536) ⌝ }
+{
+    let n = s.n;
+    let mut i: usize = 0;
+    while i < n {
+        send_one(s, c, state, boxes, i);
+        i += 1;
+    }
+}
+
+fn wide(x: u16) -> u64 {
+    x as u64
+}
+
+// A digest of the words from a to e.
+fn digest(state: &[u16], a: usize, e: usize) -> u64
+    requires { ⌜ (a ≤ e) × (e ≤ length (now state)) ⌝ }
+{
+    let mut d: u64 = 0;
+    let mut p = a;
+    while p < e {
+        d = mix(d, wide(state[p]));
+        p += 1;
+    }
+    d
+}
+
+fn print_digest(name: &[u8], number: usize, d: u64) {
+    io::write_all(STDOUT_FILENO, name);
+    io::print_decimal(STDOUT_FILENO, number as u64);
+    io::write_all(STDOUT_FILENO, b" ");
+    io::print_hex(STDOUT_FILENO, d, 8);
+    io::write_all(STDOUT_FILENO, b"\n");
+}
+
+fn print_last(s: Setup, state: &[u16], i: usize)
+    requires { ⌜ (i < 16) × (length (now state) ≡ 1024) ⌝ }
+{
+    if !faulty(s, i) {
+        print_digest(b"controller ", i + 1, digest(state, 16 * i, 16 * i + 16));
+    }
+}
+
+fn print_all(s: Setup, state: &[u16])
+    requires { ⌜ (s .n ≤ 16) × (length (now state) ≡ 1024) ⌝ }
+{
+    let n = s.n;
+    let mut i: usize = 0;
+    while i < n {
+        print_last(s, state, i);
+        i += 1;
+    }
+}
+
+fn round(s: Setup, c: usize, state: &mut [u16], boxes: &mut [u8])
+    requires { ⌜ (s .n ≤ 16) × (length (now state) ≡ 1024) × (length (now boxes) ≡ 65536) ⌝ }
+{
+    send(s, c, state, boxes);
+    receive(s, c, state, boxes);
+    print_digest(b"round ", c, digest(state, 0, 1024));
+}
+
+fn rounds(s: Setup, state: &mut [u16], boxes: &mut [u8])
+    requires { ⌜ (s .n ≤ 16) × (s .t ≤ 5) × (length (now state) ≡ 1024) × (length (now boxes) ≡ 65536) ⌝ }
+{
+    let end = 3 * s.t + 7;
+    let mut c: usize = 3;
+    while c < end {
+        round(s, c, state, boxes);
+        c += 1;
+    }
+}
+
+fn print_setup(s: Setup) {
+    io::write_all(STDOUT_FILENO, b"vote ");
+    io::print_decimal(STDOUT_FILENO, s.n as u64);
+    io::write_all(STDOUT_FILENO, b" ");
+    io::print_decimal(STDOUT_FILENO, s.t as u64);
+    io::write_all(STDOUT_FILENO, b" ");
+    io::print_decimal(STDOUT_FILENO, s.faults as u64);
+    io::write_all(STDOUT_FILENO, b" ");
+    io::print_decimal(STDOUT_FILENO, s.seed);
+    io::write_all(STDOUT_FILENO, b"\n");
+}
+
+fn play(s: Setup)
+    requires { ⌜ (s .n ≤ 16) × (s .t ≤ 5) ⌝ }
+{
+    print_setup(s);
+    let mut words = empty_state();
+    let state: &mut [u16] = &mut words;
+    let mut space = io::large_buffer();
+    let boxes: &mut [u8] = &mut space;
+    rounds(s, state, boxes);
+    print_all(s, state);
+}
+
+// Each choice of faulty controllers with four seeds.
+fn plays(n: usize, t: usize)
+    requires { ⌜ (n ≤ 16) × (t ≤ 5) ⌝ }
+{
+    let mut k: u64 = 0;
+    while k < 16 {
+        play(Setup {
+            n,
+            t,
+            faults: (k / 4) as usize,
+            seed: k,
+        });
+        k += 1;
+    }
+}
+
+fn main() {
+    plays(4, 1);
+    plays(7, 2);
+    plays(10, 3);
+    plays(16, 5);
+}
