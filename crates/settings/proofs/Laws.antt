@@ -1,14 +1,14 @@
 -- What a refusal number says. The main laws: for each entry point, the number is 0 exactly where the settings are valid for it
 -- (`star-0` and `0-star`, and so on).
-use mathlib.Core.Path.{_≡_, refl, ap, _∙_}
-use mathlib.Core.Logic.{_⊎_, inl, inr}
-use mathlib.Core.Bool.{Bool, true, false, not}
+use mathlib.Core.Path.{_≡_, refl, sym, ap, _∙_}
+use mathlib.Core.Logic.{_⊎_, inl, inr, ⊎-elim}
+use mathlib.Core.Bool.{Bool, true, false, cond, not}
 use mathlib.Core.List.{List, [], _∷_}
 use Prim.Native.Nat.{ℕ, zero, suc, _+_, _*_, _≤_, _<_}
 use native.Mathlib.Omega.{arith}
 use borrow.Author.Tests.{lt-ltb, le-ltb, ltb-false, ne-eqb, eqb-false, not-false}
 use lib.Dec.{ltb, eqb}
-use Rattle.lists.proofs.Tests.{or-neither, or-right, cond-zero, cond-no}
+use Rattle.lists.proofs.Tests.{or-neither, or-right, cond-zero, cond-no, either, cond-yes}
 use Rattle.settings.specs.declared.Settings.{Settings}
 use Rattle.settings.specs.declared.Entry.{Entry}
 use Rattle.settings.specs.declared.Entry.the-variants.{Start, State, Encode, Decode, Lengths, Star}
@@ -180,3 +180,21 @@ module _ (s : Settings) (fits : Bool) where
   0-start v e =
       let q = v .coded in
       passes-all Start (one (q .quorum), (two (q .quorum), (three q, (four (v .number), (five (v .sender), (six e, tt))))))
+
+-- start tries the lent length last, so that the length counts only within rows 1 to 3
+pub start-fits : (s : Settings) (a b : Bool) → (Coded (s .n) (s .t) (s .k) → a ≡ b) → refusalOf Start s a ≡ refusalOf Start s b
+unfolding refusalOf broken
+start-fits s a b h =
+    ⊎-elim
+    (λ (y : outside 4 16 (s .n) ≡ true). cond-yes (outside 4 16 (s .n)) 1 _ y ∙ sym (cond-yes (outside 4 16 (s .n)) 1 _ y))
+    (λ (x : outside 4 16 (s .n) ≡ false).
+    ⊎-elim
+    (λ (y : tooMany (s .n) (s .t) ≡ true). ap (cond (outside 4 16 (s .n)) 1) (cond-yes (tooMany (s .n) (s .t)) 2 _ y ∙ sym (cond-yes (tooMany (s .n) (s .t)) 2 _ y)))
+    (λ (y : tooMany (s .n) (s .t) ≡ false).
+    ⊎-elim
+    (λ (z : outside 1 128 (s .k) ≡ true).
+    ap (λ (r : ℕ). cond (outside 4 16 (s .n)) 1 (cond (tooMany (s .n) (s .t)) 2 r)) (cond-yes (outside 1 128 (s .k)) 3 _ z ∙ sym (cond-yes (outside 1 128 (s .k)) 3 _ z)))
+    (λ (z : outside 1 128 (s .k) ≡ false). ap (refusalOf Start s) (h (coded s a x y z)))
+    (either (outside 1 128 (s .k))))
+    (either (tooMany (s .n) (s .t))))
+    (either (outside 4 16 (s .n)))

@@ -1,0 +1,2 @@
+-- Polynomials over the field.
+pub mod Polynomial

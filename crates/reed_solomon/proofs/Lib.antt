@@ -1,0 +1,5 @@
+-- `Laws` is for the crates above; the others are what it and the functions' proofs rest on.
+mod Sizes
+mod Stripes
+mod Rule
+pub mod Laws

@@ -1,0 +1,32 @@
+-- `decode_stripe` meets its contract.
+use Rattle.interpolation.proofs.Zeros.{length-zeros}
+use lib.ListN.{length}
+use mathlib.Core.Path.{sym}
+use borrow.Author.Needs.{needs}
+use Rattle.reed_solomon.proofs.decode_stripe.Statement.{statement}
+use Rattle.reed_solomon.proofs.decode_stripe.Tie as tie
+
+array-borrow-prefix-ys : tie.Need-array-borrow-prefix-ys
+array-borrow-prefix-ys c = search needs
+
+slice-aggregate-decode-column : tie.Need-slice-aggregate-decode-column
+slice-aggregate-decode-column c = sym (length-zeros 16 (length (c .before .before .before .before .args .xs .now)) (c .before .before .before .before .pre .0))
+
+decode-column-requires : tie.Need-decode-column-requires
+decode-column-requires c κs = (length-zeros 16 (length (c .before .before .before .before .before .args .xs .now)) (c .before .before .before .before .before .pre .0), c .before .before .before .before .before .pre .0, c .before .before .before .before .before .pre .1, c .before .before .before .before .before .pre .2)
+
+same-length : tie.Need-same-length
+same-length c = search needs
+
+returns : tie.Need-returns
+returns c = c .before .before .before .decode-column .ensures
+
+pub decode-stripe-spec : {M : Type 1} → statement M
+decode-stripe-spec =
+    tie.close
+    (tie.spec
+    array-borrow-prefix-ys
+    slice-aggregate-decode-column
+    decode-column-requires
+    same-length
+    returns)

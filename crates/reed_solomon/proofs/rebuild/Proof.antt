@@ -1,0 +1,89 @@
+use Rattle.wire.specs.Length.{blockLength}
+use lib.Seq.{take-length, drop-length}
+use mathlib.Core.List.{_++_, append-nil}
+use mathlib.Core.Path.{ap₂}
+-- `rebuild` meets its contract.
+use Rattle.reed_solomon.proofs.Rule.{rebuilt-yes, rebuilt-no}
+use Rattle.interpolation.proofs.Zeros.{length-zeros}
+use Rattle.reed_solomon.specs.Steps.{Rebuilt}
+use Rattle.reed_solomon.specs.Decode.{answer, beyond}
+use Rattle.wire.proofs.Laws.{block-length}
+use lib.ListN.{length, replicate}
+use native.Mathlib.Omega.{arith}
+use Prim.Native.Nat.{_≤_}
+use mathlib.Core.Path.{_≡_, refl, sym, ap, subst, _∙_}
+use borrow.Author.Needs.{needs}
+use Rattle.reed_solomon.proofs.rebuild.Statement.{statement}
+use Rattle.reed_solomon.proofs.rebuild.Tie as tie
+use Rattle.reed_solomon.proofs.rebuild.Reads as reads
+use Rattle.reed_solomon.proofs.rebuild.Lts as lts
+use Rattle.reed_solomon.proofs.decode_points.Reads as decode-points-reads
+use Rattle.wire.proofs.silence.Reads as silence-reads
+
+array-borrow-prefix-xs : tie.Need-array-borrow-prefix-xs
+array-borrow-prefix-xs c = omega (arith, c .before .before .pre .0 .quorum .n-most)
+
+slice-aggregate-decode-points : tie.Need-slice-aggregate-decode-points
+slice-aggregate-decode-points c = sym (length-zeros 16 (c .before .before .before .args .n) (c .before .before .before .pre .0 .quorum .n-most))
+
+decode-points-requires : tie.Need-decode-points-requires
+decode-points-requires c κs =
+    let a = c .before .before .before .before .args in
+    let v = c .before .before .before .before .pre .0 in (
+      subst (λ n. n ≤ 16) (sym (length-zeros 16 (a .n) (v .quorum .n-most))) (v .quorum .n-most),
+      omega (arith, v .quorum .n-most, v .quorum .t-most),
+      v .k-most,
+      c .before .before .before .before .pre .1 ∙ block-length (a .k) (a .t),
+    )
+
+same-length : tie.Need-same-length
+same-length c = search needs
+
+returns : tie.Need-returns
+returns c =
+    let a = c .before .before .before .before .before .before .before .before .before .args in
+    let d = c .before .before .before .before .decode-points in
+    sym
+    (rebuilt-yes (a .n) (a .t) (a .k) (a .slots .now) (d .last .1 .1 .1 .1 .0)
+    (subst (λ r. Rebuilt (a .n) (a .t) (a .k) (a .slots .now) r (d .last .1 .1 .1 .1 .0)) (c .if1 .taken)
+    (subst (λ n. Rebuilt n (a .t) (a .k) (a .slots .now) (d .result) (d .last .1 .1 .1 .1 .0)) (length-zeros 16 (a .n) (c .before .before .before .before .before .before .before .before .before .pre .0 .quorum .n-most)) (d .ensures))))
+
+slice-relend-prefix-silence : tie.Need-slice-relend-prefix-silence
+slice-relend-prefix-silence c = search needs
+
+slice-aggregate-silence : tie.Need-slice-aggregate-silence
+slice-aggregate-silence c = let b = c .before .before .before .before .before .decode-points .last .1 .1 .1 .1 .0 in omega (arith, ap length (take-length b))
+
+silence-requires : tie.Need-silence-requires
+silence-requires c κs = search needs
+
+same-length-2 : tie.Need-same-length-2
+same-length-2 c = search needs
+
+returns-2 : tie.Need-returns-2
+returns-2 c =
+    let a = c .before .before .before .before .before .before .before .before .before .before .before .before .before .args in
+    let d = c .before .before .before .before .before .before .before .before .decode-points in
+    let b = d .last .1 .1 .1 .1 .0 in
+    ap (answer beyond 0)
+    (ap₂ _++_ (c .before .before .silence .ensures ∙ ap (λ m. replicate m 0) (ap length (take-length b) ∙ d .kept .1 .1 .1 .1 .0 ∙ c .before .before .before .before .before .before .before .before .before .before .before .before .before .pre .1)) (drop-length b)
+    ∙ append-nil (replicate (blockLength (a .k) (a .t)) 0))
+    ∙ sym
+    (rebuilt-no (a .n) (a .t) (a .k) (a .slots .now) b
+    (subst (λ r. Rebuilt (a .n) (a .t) (a .k) (a .slots .now) r b) (c .before .before .before .before .if1 .left)
+    (subst (λ n. Rebuilt n (a .t) (a .k) (a .slots .now) (d .result) b) (length-zeros 16 (a .n) (c .before .before .before .before .before .before .before .before .before .before .before .before .before .pre .0 .quorum .n-most)) (d .ensures))))
+
+pub rebuild-spec : {M : Type 1} → statement M
+rebuild-spec =
+    tie.close
+    (tie.spec
+    array-borrow-prefix-xs
+    slice-aggregate-decode-points
+    decode-points-requires
+    same-length
+    returns
+    slice-relend-prefix-silence
+    slice-aggregate-silence
+    silence-requires
+    same-length-2
+    returns-2)

@@ -1,0 +1,245 @@
+// The Reed-Solomon code (document 01, 'Field and code'): one piece of a block's coding, and a block from n slots of pieces. It knows of the
+// field only its contracts and laws.
+ghost use mathlib.Core.Path.{_≡_};
+ghost use Prim.Native.Nat.{_+_, _-_, _*_, _≤_, _<_};
+ghost use lib.Dec.{eqb, leb};
+ghost use lib.ListN.{length};
+ghost use Rattle.settings.specs.Valid.{Coded};
+ghost use Rattle.wire.specs.Length.{blockLength};
+ghost use Rattle.interpolation.specs.Interpolation.{agreements};
+ghost use Rattle.reed_solomon.specs.Encode.{pieceOf, encodeFits, encoded, encodeOf};
+ghost use Rattle.reed_solomon.specs.Decode.{received, points, column, decodeFits, answerOf, rebuiltOf, decodeOf};
+ghost use Rattle.reed_solomon.specs.Steps.{Tried, Rebuilt};
+use settings::Entry;
+use settings::Settings;
+
+// What decoding answers; the block itself is in the lent bytes.
+pub enum Decoded {
+    Block,
+    Beyond,
+    Refused(u8),
+}
+
+// At how many of the points xs the message m takes the value that ys has.
+fn agreements(xs: &[u8], ys: &[u8], m: &[u8]) -> usize
+    requires { ⌜ length (now ys) ≡ length (now xs) ⌝ }
+    ensures { λ r. ⌜ r ≡ agreements (now (xs .entry)) (now (ys .entry)) (now (m .entry)) ⌝ }
+{
+    let mut count: usize = 0;
+    let mut i: usize = 0;
+    while i < xs.len() {
+        let y = ys[i];
+        let x = xs[i];
+        i += 1;
+        if interpolation::evaluate(m, x) == y {
+            count += 1;
+        }
+    }
+    count
+}
+
+// The value of stripe s in slot j; 0 where the slot is absent.
+fn received(slots: &[u8], k: usize, s: usize, j: usize) -> u8
+    ensures { λ r. ⌜ r ≡ received k (now (slots .entry)) s j ⌝ }
+{
+    let m = wire::message(slots, k, j);
+    if s < m.len() {
+        return m[s];
+    }
+    0
+}
+
+// The values of stripe s at the points xs, into ys.
+fn gather(slots: &[u8], k: usize, s: usize, xs: &[u8], ys: &mut [u8])
+    requires { ⌜ length (now ys) ≡ length (now xs) ⌝ }
+    ensures { λ _. ⌜ now (ys .exit) ≡ column k (now (slots .entry)) s (now (xs .entry)) ⌝ }
+{
+    let mut i: usize = 0;
+    while i < xs.len() {
+        ys[i] = received(slots, k, s, xs[i] as usize);
+        i += 1;
+    }
+}
+
+// The points 1, 2, ..
+fn number_points(xs: &mut [u8])
+    requires { ⌜ length (now xs) ≤ 16 ⌝ }
+    ensures { λ _. ⌜ now (xs .exit) ≡ points (length (now (xs .entry))) ⌝ }
+{
+    let mut i: usize = 0;
+    while i < xs.len() {
+        xs[i] = (i + 1) as u8;
+        i += 1;
+    }
+}
+
+// The bytes of stripe s from the values at the points xs, into m, by way of ys; whether their code agrees with all but t of the values.
+fn decode_column(
+    slots: &[u8],
+    t: usize,
+    k: usize,
+    s: usize,
+    xs: &[u8],
+    ys: &mut [u8],
+    m: &mut [u8],
+) -> bool
+    requires { ⌜ (length (now ys) ≡ length (now xs)) × (length (now xs) ≤ 16) × (t ≤ 5) × (length (now m) ≡ t + 1) ⌝ }
+    ensures { λ r. ⌜ Tried t (now (xs .entry)) (column k (now (slots .entry)) s (now (xs .entry))) r (now (m .exit)) ⌝ }
+{
+    gather(slots, k, s, xs, ys);
+    interpolation::candidate(xs, ys, m);
+    enough(xs.len(), t, agreements(xs, ys, m))
+}
+
+// The same, with bytes of its own for the values.
+fn decode_stripe(slots: &[u8], t: usize, k: usize, s: usize, xs: &[u8], m: &mut [u8]) -> bool
+    requires { ⌜ (length (now xs) ≤ 16) × (t ≤ 5) × (length (now m) ≡ t + 1) ⌝ }
+    ensures { λ r. ⌜ Tried t (now (xs .entry)) (column k (now (slots .entry)) s (now (xs .entry))) r (now (m .exit)) ⌝ }
+{
+    let n = xs.len();
+    let mut ys = [0u8; 16];
+    decode_column(slots, t, k, s, xs, &mut ys[..n], m)
+}
+
+// Whether `count` is at least n - t.
+fn enough(n: usize, t: usize, count: usize) -> bool
+    ensures { λ r. ⌜ r ≡ leb (n - t) count ⌝ }
+{
+    if n < t {
+        return true;
+    }
+    n - t <= count
+}
+
+// The stripes of a block, one after the other, from the values at the points xs; whether each was found. The rest of the block stays.
+fn decode_stripes(slots: &[u8], t: usize, k: usize, xs: &[u8], block: &mut [u8]) -> bool
+    requires { ⌜ (now xs ≡ points (length (now xs))) × (length (now xs) ≤ 16) × (t ≤ 5) × (k ≤ 128) × (length (now block) ≡ k * (t + 1)) ⌝ }
+    ensures { λ r. ⌜ Rebuilt (length (now (xs .entry))) t k (now (slots .entry)) r (now (block .exit)) ⌝ }
+{
+    let mut s: usize = 0;
+    while s < k {
+        let a = s * (t + 1);
+        let e = a + (t + 1);
+        if !decode_stripe(slots, t, k, s, xs, &mut block[a..e]) {
+            return false;
+        }
+        s += 1;
+    }
+    true
+}
+
+// The same at the points 1, 2, .., which are written to xs.
+fn decode_points(slots: &[u8], t: usize, k: usize, xs: &mut [u8], block: &mut [u8]) -> bool
+    requires { ⌜ (length (now xs) ≤ 16) × (t ≤ 5) × (k ≤ 128) × (length (now block) ≡ k * (t + 1)) ⌝ }
+    ensures { λ r. ⌜ Rebuilt (length (now (xs .entry))) t k (now (slots .entry)) r (now (block .exit)) ⌝ }
+{
+    number_points(xs);
+    decode_stripes(slots, t, k, xs, block)
+}
+
+// Whether a list is exactly as long as a block of k stripes.
+fn is_block(block: &[u8], t: usize, k: usize) -> bool
+    ensures { λ r. ⌜ r ≡ eqb (length (now (block .entry))) (blockLength k t) ⌝ }
+{
+    if k == 0 {
+        return block.len() == 0;
+    }
+    if block.len() < k {
+        return false;
+    }
+    if block.len() % k != 0 {
+        return false;
+    }
+    block.len() / k - 1 == t
+}
+
+fn decode_fits(n: usize, t: usize, k: usize, slots: &[u8], block: &[u8]) -> bool
+    ensures { λ r. ⌜ r ≡ decodeFits n t k (now (slots .entry)) (now (block .entry)) ⌝ }
+{
+    if !wire::holds_exactly(slots, n, k) {
+        return false;
+    }
+    is_block(block, t, k)
+}
+
+fn encode_fits(k: usize, t: usize, block: &[u8], piece: &[u8]) -> bool
+    ensures { λ r. ⌜ r ≡ encodeFits k t (now (block .entry)) (now (piece .entry)) ⌝ }
+{
+    if !is_block(block, t, k) {
+        return false;
+    }
+    piece.len() == k
+}
+
+// The block, or zeros.
+fn rebuild(n: usize, t: usize, k: usize, slots: &[u8], block: &mut [u8]) -> Decoded
+    requires { ⌜ Coded n t k × (length (now block) ≡ blockLength k t) ⌝ }
+    ensures { λ r. ⌜ answerOf r (now (block .exit)) ≡ rebuiltOf n t k (now (slots .entry)) ⌝ }
+{
+    let mut xs = [0u8; 16];
+    if decode_points(slots, t, k, &mut xs[..n], block) {
+        return Decoded::Block;
+    }
+    let end = block.len();
+    wire::silence(&mut block[..end]);
+    Decoded::Beyond
+}
+
+// Decoding: the block whose code agrees, in each stripe, with the pieces in the n slots in at least n - t places, into the lent block; beyond
+// and zeros where some stripe has no such bytes. Shut out: must-fail/one_agreement_less, points_off_by_one, beyond_keeps_the_block,
+// refused_and_rebuilt.
+pub fn decode(n: usize, t: usize, k: usize, slots: &[u8], block: &mut [u8]) -> Decoded
+    ensures { λ r. ⌜ answerOf r (now (block .exit)) ≡ decodeOf n t k (now (slots .entry)) (now (block .entry)) ⌝ }
+{
+    let refused = settings::refusal(
+        Entry::Decode,
+        Settings {
+            n,
+            t,
+            k,
+            number: 0,
+            sender: 0,
+        },
+        decode_fits(n, t, k, slots, block),
+    );
+    if refused != 0 {
+        return Decoded::Refused(refused);
+    }
+    rebuild(n, t, k, slots, block)
+}
+
+// The values at x of the stripes of a block, into `piece`.
+fn encode_piece(t: usize, block: &[u8], x: u8, piece: &mut [u8])
+    requires { ⌜ (t ≤ 5) × (length (now piece) ≤ 128) × (length (now block) ≡ length (now piece) * (t + 1)) ⌝ }
+    ensures { λ _. ⌜ now (piece .exit) ≡ pieceOf (length (now (piece .entry))) t (now (block .entry)) x ⌝ }
+{
+    let mut s: usize = 0;
+    while s < piece.len() {
+        let a = s * (t + 1);
+        let e = a + (t + 1);
+        piece[s] = interpolation::evaluate(&block[a..e], x);
+        s += 1;
+    }
+}
+
+// Coding: piece `number` of a block's coding, into the lent piece. Shut out: must-fail/piece_of_another.
+pub fn encode(n: usize, t: usize, k: usize, number: usize, block: &[u8], piece: &mut [u8]) -> u8
+    ensures { λ r. ⌜ encoded r (now (piece .exit)) ≡ encodeOf n t k number (now (block .entry)) (now (piece .entry)) ⌝ }
+{
+    let refusal = settings::refusal(
+        Entry::Encode,
+        Settings {
+            n,
+            t,
+            k,
+            number,
+            sender: 0,
+        },
+        encode_fits(k, t, block, piece),
+    );
+    if refusal != 0 {
+        return refusal;
+    }
+    encode_piece(t, block, number as u8, piece);
+    0
+}
