@@ -1,0 +1,31 @@
+-- What a crate above may know of the neighbour graph and its matchings besides the contracts.
+--   Sets
+--     member-intersection, member-difference, size-difference   who is a member, and how many
+--     in-lt, in-set, set-in, some-in                            members of a number of 16 digits, of the set of a test, of any set
+--   Graph
+--     neighbour-self     everyone is its own neighbour
+--     neighbour-sym      neighbours are so both ways
+--     neighbour-other    others are neighbours if they mark each other
+--     neighbour-same     only the marks of the two count
+--     complement-member  row i of the complement lacks exactly the neighbours of i below n
+--   The first largest matching, M = matchingOf n adj
+--     matching-first     M meets the relation
+--     one-matching       nothing else does
+--     same-matching      only who are neighbours below n counts
+--     matching-half      2 × its length is at most n
+--     pairs-stored       the pairs of what is answered are M; stored-at: what stands at an index is one of them; count-stored: how many
+--   Of its pairs, where adj goes both ways
+--     pair-at            a pair of M is a pair below n that are not neighbours
+--     matched-in, matched-of, matched-lt, ends-of, end-small, end-large   the matched are the ends of the pairs
+--     no-free-pair       two unmatched are neighbours
+--     no-augmenting      the ends of a pair do not have two different unmatched non-neighbours
+--   Counting by pairs
+--     any-in, any-of     a test that some pair passes
+--     pigeonhole         members that have a pair each, no two the same, are no more than the pairs
+--     one-each           pairs that have a member each are no more than the members
+pub use Rattle.matching.proofs.Sets.{member-intersection, member-difference, size-difference, intersection-lt, difference-lt, in-lt, in-set, set-in, some-in}
+pub use Rattle.matching.proofs.Graph.{neighbour-self, neighbour-sym, neighbour-other, neighbour-same, complement-member}
+pub use Rattle.matching.proofs.First.{matching-first, one-matching, same-matching, matching-half}
+pub use Rattle.matching.proofs.Stored.{pairs-stored, stored-at, count-stored, pairs-none, pairs-suc}
+pub use Rattle.matching.proofs.Augment.{Among, each-among, any-in, any-of, pair-at, matched-none, matched-cons, matched-in, matched-of, matched-lt, ends-of, end-small, end-large, no-free-pair, no-augmenting, pigeonhole}
+pub use Rattle.matching.proofs.Pairs.{one-each, each-map}

@@ -1,0 +1,34 @@
+-- `matching::largest` meets its contract: the relation that the search meets has one answer.
+use Rattle.matching.proofs.Graph.{neighbour-sym, complement-sym, matching-is}
+use Rattle.matching.specs.Graph.{neighbour}
+use Rattle.matching.specs.Steps.{Symmetric}
+use Rattle.matching.specs.First.{stored}
+use native.Mathlib.Omega.{arith}
+use mathlib.Core.Path.{sym, ap, subst, _∙_}
+use Prim.Native.Nat.{min}
+use borrow.Author.Needs.{needs}
+use Rattle.matching.proofs.largest.Statement.{statement}
+use Rattle.matching.proofs.largest.Tie as tie
+
+complement-requires : tie.Need-complement-requires
+complement-requires c κs = search needs
+
+below-requires : tie.Need-below-requires
+below-requires c κs = search needs
+
+first-largest-requires : tie.Need-first-largest-requires
+first-largest-requires c κs =
+    let C = c .before .before in
+    let A = C .before .args in
+    subst Symmetric (sym (C .complement .ensures)) (complement-sym (min (A .n) 16) (neighbour (A .rows .now)) (omega arith) (neighbour-sym (A .rows .now)))
+
+returns : tie.Need-returns
+returns c =
+    let C = c .before .before .before in
+    let A = C .before .args in
+    let r = c .first-largest .ensures in
+    r .2 ∙ ap stored (matching-is (min (A .n) 16) (neighbour (A .rows .now)) (omega arith) _ _ (r .0) (C .complement .ensures) (c .before .below .ensures) (r .1))
+
+pub largest-spec : {M : Type 1} → statement M
+largest-spec =
+    tie.close (tie.spec complement-requires below-requires first-largest-requires returns)

@@ -1,0 +1,68 @@
+-- The first largest matching as a function: `matchingOf n adj` meets `FirstLargest (Missing n adj)`, and nothing else does
+-- (proofs/First: `matching-first`, `one-matching`). Then the form in which it is answered.
+--   orElse r q            r, or q where r is none
+--   front p r             p before the pairs of r
+--   firstFound f u w      the first of f w, f (w + 1), .., u of them, that is not none
+--   ofSize adj u v free k the first matching of k pairs among those of v .. v + u - 1 that are free; none where there is none
+--   orList r M            the list of r, or M where r is none
+--   upTo adj n k          the first largest of the matchings of at most k pairs among 0 .. n - 1
+--   matchingOf n adj      the first largest matching among 0 .. n - 1
+--   ends f M              of each pair the end f, the first pair last, then zeros: 8 in all
+--   stored M              the matching as it is answered
+--   pairs a b k           the pairs of the first k elements of a and of b, the last one first
+--   pairsOf m             the pairs of an answer
+use mathlib.Core.List.{List, [], _∷_}
+use mathlib.Core.Bool.{Bool, true, cond, not, _&&_}
+use mathlib.Core.Option.{Option, none, some}
+use Prim.Native.Nat.{ℕ, zero, suc}
+use lib.Dec.{eqb}
+use lib.ListN.{length, getD, set, replicate}
+use Rattle.matching.specs.Matching.{Pair}
+use Rattle.matching.specs.declared.Matching.{Matching}
+
+abbrev pub orElse : Option (List Pair) → Option (List Pair) → Option (List Pair)
+orElse none q = q
+orElse (some M) q = some M
+
+abbrev pub front : Pair → Option (List Pair) → Option (List Pair)
+front p none = none
+front p (some M) = some (p ∷ M)
+
+unfoldable pub firstFound : (ℕ → Option (List Pair)) → ℕ → ℕ → Option (List Pair)
+firstFound f zero w = none
+firstFound f (suc u) w = orElse (f w) (firstFound f u (suc w))
+
+-- v takes its first partner with which the others have k pairs, or is left out
+unfoldable pub ofSize : (ℕ → ℕ → Bool) → ℕ → ℕ → (ℕ → Bool) → ℕ → Option (List Pair)
+ofSize adj zero v free zero = some []
+ofSize adj zero v free (suc k) = none
+ofSize adj (suc u) v free zero = some []
+ofSize adj (suc u) v free (suc k) =
+    orElse
+    (firstFound (λ w. cond (free v && (free w && not (adj v w))) (front (v, w) (ofSize adj u (suc v) (λ x. free x && not (eqb x w)) k)) none) u (suc v))
+    (ofSize adj u (suc v) free (suc k))
+
+abbrev pub orList : Option (List Pair) → List Pair → List Pair
+orList none M = M
+orList (some M) _ = M
+
+unfoldable pub upTo : (ℕ → ℕ → Bool) → ℕ → ℕ → List Pair
+upTo adj n zero = []
+upTo adj n (suc k) = orList (ofSize adj n 0 (λ _. true) (suc k)) (upTo adj n k)
+
+unfoldable pub matchingOf : ℕ → (ℕ → ℕ → Bool) → List Pair
+matchingOf n adj = upTo adj n n
+
+unfoldable pub ends : (Pair → ℕ) → List Pair → List ℕ
+ends f [] = replicate 8 0
+ends f (p ∷ M) = set (ends f M) (length M) (f p)
+
+unfoldable pub stored : List Pair → Matching
+stored M = record { count = length M; small = ends (λ p. p .0) M; large = ends (λ p. p .1) M }
+
+unfoldable pub pairs : List ℕ → List ℕ → ℕ → List Pair
+pairs a b zero = []
+pairs a b (suc k) = (getD a k 0, getD b k 0) ∷ pairs a b k
+
+abbrev pub pairsOf : Matching → List Pair
+pairsOf m = pairs (m .small) (m .large) (m .count)
