@@ -1,0 +1,34 @@
+-- Demand 3: `agreement`. From the laws of the code and of the star (`concluded`), and with them. Its corollary for readers: `one-plan`.
+use mathlib.Core.Path.{sym, _∙_}
+use Prim.Native.Nat.{ℕ}
+use mathlib.Core.List.{List}
+use Rattle.settings.specs.Valid.{Quorum, Coded}
+use Rattle.agreement.specs.Agreement.{Correct, Agreement, OnePlan}
+use Rattle.agreement.proofs.System.{coded, later}
+use Rattle.agreement.proofs.Coding.{Code, code-laws}
+use Rattle.agreement.proofs.Graph.{Graph, graph-laws}
+use Rattle.agreement.proofs.Cores.{matrixOf}
+use Rattle.agreement.proofs.Ends.{set-by-last}
+use Rattle.agreement.proofs.Verdict.{verdict, sender-verdict}
+
+module _ (code : (n t k : ℕ) → Coded n t k → Code n t k) (graph : (n t : ℕ) → Quorum n t → (rows : List ℕ) → Graph rows n t) where
+  pub concluded : Agreement
+  concluded S H =
+      let C : (i : ℕ) (f : Correct S i) → Code (S .n) (S .t) (S .k) = λ i f. code (S .n) (S .t) (S .k) (coded S H i f) in
+      let G : (i : ℕ) (f : Correct S i) → Graph (matrixOf S i) (S .n) (S .t) = λ i f. graph (S .n) (S .t) (coded S H i f .quorum) (matrixOf S i) in
+      record {
+        set = λ i f. set-by-last S H i f (C i f);
+        later = later S H;
+        same-outcome = λ i j f g. let v = verdict S H i f (C i f) (G i f) .2 in v .all i f .0 ∙ sym (v .all j g .0);
+        same-block = λ i j f g. let v = verdict S H i f (C i f) (G i f) .2 in v .all i f .1 ∙ sym (v .all j g .1);
+        sender-outcome = λ i g f. sender-verdict S H i f (C i f) (G i f) g .all i f .0;
+        sender-block = λ i g f. sender-verdict S H i f (C i f) (G i f) g .all i f .1;
+      }
+
+-- demand 3
+pub agreement : Agreement
+agreement = concluded code-laws graph-laws
+
+-- no two correct controllers hold different blocks
+pub one-plan : OnePlan
+one-plan S H i j f g A B a b = sym (a .1) ∙ agreement S H .same-block i j f g ∙ b .1

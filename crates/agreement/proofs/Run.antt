@@ -1,0 +1,163 @@
+-- Step 1. A run is its calls in order: refused steps change nothing (`chain`), call c is made on a state whose next call is c (`nth`), each
+-- call goes on from what the one before left, and after the last call every step is refused with 8 (`finished-step`).
+use mathlib.Core.Path.{_≡_, refl, sym, ap, subst, _∙_}
+use mathlib.Core.Bool.{Bool, true, false, cond}
+use mathlib.Core.List.{List, [], _∷_}
+use Prim.Native.Nat.{ℕ, zero, suc, _+_, _*_, _<_}
+use native.Mathlib.Nat.{add-zero, not-suc-le-zero, le-of-suc-le-suc}
+use native.Mathlib.Omega.{arith}
+use borrow.Author.Tests.{eqb-true, eqb-false}
+use lib.ListN.{length, getD}
+use Rattle.settings.specs.Valid.{Valid}
+use Rattle.wire.specs.Round.{callKind}
+use Rattle.protocol.specs.declared.State.{State}
+use Rattle.protocol.specs.State.{settingsOf}
+use Rattle.protocol.specs.Calls.{Carried, callOf}
+use Rattle.protocol.specs.Step.{stepRefusal, After, after, done, Ready}
+use Rattle.protocol.proofs.Laws.{refused, performed, step-number, ready-of, step-8, call-keeps, call-inside}
+use Rattle.agreement.specs.Run.{Lent, Held, Made, stepped, left, carriedOut, ends, made, calls}
+
+-- the refusal number of a step on what is held, with what is lent
+abbrev pub numberOf : Held → Lent → ℕ
+numberOf h l = stepRefusal (h .state) (length (h .block)) (length (l .inbox)) (length (l .outbox))
+
+-- the call that a step performs where it is not refused
+abbrev pub performs : Held → Lent → Carried
+performs h l = callOf (callKind (h .state .t) (h .state .next)) (h .state) (h .block) (l .inbox) (l .outbox)
+
+rest : After → Held
+rest a = record { state = a .answer .state; block = a .block }
+
+module _ (h : Held) (l : Lent) where
+  carried-out : numberOf h l ≡ 0 → stepped h l ≡ done (performs h l)
+  carried-out = performed (h .state) (h .block) (l .inbox) (l .outbox)
+
+  -- a refused step leaves what it was given
+  pub refused-left : (numberOf h l ≡ 0 → ⊥) → left h l ≡ h
+  unfolding rest
+  refused-left z = ap rest (refused (h .state) (h .block) (l .inbox) (l .outbox) z)
+
+  pub yes-number : carriedOut h l ≡ true → numberOf h l ≡ 0
+  yes-number e = sym (step-number (h .state) (h .block) (l .inbox) (l .outbox)) ∙ eqb-true (stepped h l .answer .number) 0 e
+
+  pub no-number : carriedOut h l ≡ false → numberOf h l ≡ 0 → ⊥
+  no-number e z = eqb-false (stepped h l .answer .number) 0 e (step-number (h .state) (h .block) (l .inbox) (l .outbox) ∙ z)
+
+-- the calls go on from one another: each on what the one before left, the first on h, and the last leaves e
+abbrev pub Chain : Held → List Made → Held → Type 0
+Chain h [] e = h ≡ e
+Chain h (m ∷ ms) e = (m ≡ made h (m .lent)) × (numberOf h (m .lent) ≡ 0) × Chain (left h (m .lent)) ms e
+
+-- whatever steps are refused, a run is the chain of its calls
+pub chain : (h : Held) (ls : List Lent) → Chain h (calls h ls) (ends h ls)
+chain h [] = refl
+chain h (l ∷ ls) = go (carriedOut h l) refl (chain (left h l) ls)
+  where
+    go : (b : Bool) → carriedOut h l ≡ b → Chain (left h l) (calls (left h l) ls) (ends (left h l) ls)
+        → Chain h (cond b (made h l ∷ calls (left h l) ls) (calls (left h l) ls)) (ends (left h l) ls)
+    go true e r = (refl, yes-number h l e, r)
+    go false e r = subst (λ (x : Held). Chain x (calls (left h l) ls) (ends (left h l) ls)) (refused-left h l (no-number h l e)) r
+
+-- a run refused in between is the run without the refused steps
+pub refused-away : (h : Held) (l : Lent) (ls : List Lent) → carriedOut h l ≡ false
+    → (calls h (l ∷ ls) ≡ calls h ls) × (ends h (l ∷ ls) ≡ ends h ls)
+refused-away h l ls e =
+    let same = refused-left h l (no-number h l e) in
+    (ap (λ (b : Bool). cond b (made h l ∷ calls (left h l) ls) (calls (left h l) ls)) e ∙ ap (λ (x : Held). calls x ls) same, ap (λ (x : Held). ends x ls) same)
+
+-- what is held before call c of a run with these settings
+pub record At (n t k own sender c : ℕ) (h : Held) : Type 0 where
+  pub n-is : h .state .n ≡ n
+  pub t-is : h .state .t ≡ t
+  pub k-is : h .state .k ≡ k
+  pub own-is : h .state .own ≡ own
+  pub sender-is : h .state .sender ≡ sender
+  pub next-is : h .state .next ≡ c
+
+module _ (n t k own sender c : ℕ) (h : Held) (l : Lent) (a : At n t k own sender c h) where
+  -- a call leaves what the next call is made on
+  pub step-at : numberOf h l ≡ 0 → At n t k own sender (c + 1) (left h l)
+  step-at z =
+      let r = ready-of (h .state) (length (h .block)) (length (l .inbox)) (length (l .outbox)) z in
+      let keeps = call-keeps (callKind (h .state .t) (h .state .next)) (h .state) (h .block) (l .inbox) (l .outbox)
+      (call-inside (h .state .t) (h .state .next) (r .next-least) (r .next-most)) in
+      let s : left h l .state ≡ performs h l .state = ap (λ (x : After). x .answer .state) (carried-out h l z) in
+      record {
+        n-is = ap (λ (x : State). x .n) s ∙ keeps .n ∙ a .n-is;
+        t-is = ap (λ (x : State). x .t) s ∙ keeps .t ∙ a .t-is;
+        k-is = ap (λ (x : State). x .k) s ∙ keeps .k ∙ a .k-is;
+        own-is = ap (λ (x : State). x .own) s ∙ keeps .own ∙ a .own-is;
+        sender-is = ap (λ (x : State). x .sender) s ∙ keeps .sender ∙ a .sender-is;
+        next-is = ap (λ (x : State). x .next) s ∙ keeps .next ∙ ap (λ (x : ℕ). x + 1) (a .next-is);
+      }
+
+-- the settings of what is held
+pub settings-at : {n t k own sender c : ℕ} (h : Held) → At n t k own sender c h
+    → settingsOf (h .state) ≡ record { n = n; t = t; k = k; number = own; sender = sender }
+settings-at h a = λ x. record { n = a .n-is x; t = a .t-is x; k = a .k-is x; number = a .own-is x; sender = a .sender-is x }
+
+-- a run that is finished stays so: every step is refused with 8 and leaves what it was given
+module _ (n t k own sender : ℕ) (valid : Valid (record { n = n; t = t; k = k; number = own; sender = sender })) (h : Held)
+    (a : At n t k own sender (3 * t + 10) h) (l : Lent) where
+  eight : numberOf h l ≡ 8
+  eight =
+      step-8 (h .state) (length (h .block)) (length (l .inbox)) (length (l .outbox))
+      (subst Valid (sym (settings-at h a)) valid)
+      (a .next-is ∙ ap (λ (x : ℕ). 3 * x + 10) (sym (a .t-is)))
+
+  pub finished-step : (stepped h l .answer .number ≡ 8) × (left h l ≡ h)
+  finished-step = (
+    step-number (h .state) (h .block) (l .inbox) (l .outbox) ∙ eight,
+    refused-left h l (λ z. let e : numberOf h l ≡ 8 = eight in omega arith),
+  )
+
+-- what is known of call c
+pub record CallAt (n t k own sender c : ℕ) (m : Made) : Type 0 where
+  pub before-at : At n t k own sender c (m .before)
+  pub after-at : At n t k own sender (c + 1) (m .after)
+  pub ready : Ready (m .before .state) (length (m .before .block)) (length (m .lent .inbox)) (length (m .lent .outbox))
+  pub state-is : m .after .state ≡ performs (m .before) (m .lent) .state
+  pub block-is : m .after .block ≡ performs (m .before) (m .lent) .block
+  pub sends-is : m .sends ≡ performs (m .before) (m .lent) .outbox
+
+module _ (n t k own sender : ℕ) where
+  first-at : (c : ℕ) (h : Held) (m : Made) → At n t k own sender c h → m ≡ made h (m .lent) → numberOf h (m .lent) ≡ 0 → CallAt n t k own sender c m
+  first-at c h m a e z =
+      subst (λ (x : Made). CallAt n t k own sender c x) (sym e)
+      (record {
+        before-at = a;
+        after-at = step-at n t k own sender c h (m .lent) a z;
+        ready = ready-of (h .state) (length (h .block)) (length (m .lent .inbox)) (length (m .lent .outbox)) z;
+        state-is = ap (λ (x : After). x .answer .state) (carried-out h (m .lent) z);
+        block-is = ap (λ (x : After). x .block) (carried-out h (m .lent) z);
+        sends-is = ap (λ (x : After). x .outbox) (carried-out h (m .lent) z);
+      })
+
+  -- the calls of a chain are numbered from that of its first
+  pub nth : (d : Made) (h : Held) (ms : List Made) (e : Held) (c : ℕ) → Chain h ms e → At n t k own sender c h → (i : ℕ) → i < length ms
+      → CallAt n t k own sender (c + i) (getD ms i d)
+  nth d h [] e c ch a i lt = absurd (not-suc-le-zero lt)
+  nth d h (m ∷ ms) e c ch a zero lt = rw add-zero (first-at c h m a (ch .0) (ch .1))
+  nth d h (m ∷ ms) e c ch a (suc i) lt =
+      let step : c + 1 + i ≡ c + suc i = omega arith in
+      subst (λ (x : ℕ). CallAt n t k own sender x (getD ms i d)) step
+      (nth d (left h (m .lent)) ms e (c + 1) (ch .2) (step-at n t k own sender c h (m .lent) a (ch .1)) i (le-of-suc-le-suc lt))
+
+-- the first call is made on what the chain begins with, each other on what the one before left, and the last leaves its end
+pub first-before : (d : Made) (h : Held) (ms : List Made) (e : Held) → Chain h ms e → 0 < length ms → getD ms 0 d .before ≡ h
+first-before d h [] e ch lt = absurd (not-suc-le-zero lt)
+first-before d h (m ∷ ms) e ch lt = ap (λ (x : Made). x .before) (ch .0)
+
+pub next-before : (d : Made) (h : Held) (ms : List Made) (e : Held) → Chain h ms e → (i : ℕ) → suc i < length ms
+    → getD ms (suc i) d .before ≡ getD ms i d .after
+next-before d h [] e ch i lt = absurd (not-suc-le-zero lt)
+next-before d h (m ∷ ms) e ch zero lt =
+    first-before d (left h (m .lent)) ms e (ch .2) (le-of-suc-le-suc lt) ∙ sym (ap (λ (x : Made). x .after) (ch .0))
+next-before d h (m ∷ ms) e ch (suc i) lt = next-before d (left h (m .lent)) ms e (ch .2) i (le-of-suc-le-suc lt)
+
+pub last-after : (d : Made) (h : Held) (ms : List Made) (e : Held) → Chain h ms e → (i : ℕ) → length ms ≡ suc i → getD ms i d .after ≡ e
+last-after d h [] e ch i eq = absurd (omega arith)
+last-after d h (m ∷ []) e ch zero eq = ap (λ (x : Made). x .after) (ch .0) ∙ ch .2
+last-after d h (m ∷ []) e ch (suc i) eq = absurd (omega arith)
+last-after d h (m ∷ (m′ ∷ ms)) e ch zero eq = absurd (omega arith)
+last-after d h (m ∷ (m′ ∷ ms)) e ch (suc i) eq = last-after d (left h (m .lent)) (m′ ∷ ms) e (ch .2) i (omega arith)

@@ -1,0 +1,157 @@
+-- The calls of a correct controller in a system, one by one: `call-at` (call c, with the system's settings), `call-first`, `call-next` and
+-- `call-last` (how they go on from one another), `block-from` (the block between call 2 and the last), and `delivered` (what i sent to j in
+-- round c is what j's call c + 1 reads).
+use mathlib.Core.Path.{_≡_, refl, sym, ap, subst, _∙_}
+use Prim.Native.Nat.{ℕ, zero, suc, _+_, _-_, _*_, _≤_, _<_}
+use native.Mathlib.Nat.{mul-le-mul-right}
+use native.Mathlib.Omega.{arith}
+use lib.ListN.{length, getD}
+use Rattle.settings.specs.Valid.{Coded, Numbered, Valid}
+use Rattle.wire.specs.declared.Call.{Call}
+use Rattle.wire.specs.Round.{callKind}
+use Rattle.wire.specs.Length.{blockLength, messageLength, inboxLength, outboxLength}
+use Rattle.wire.specs.Slot.{width, messageOf, Sent, slots}
+use Rattle.wire.proofs.Laws.{length-pos, inbox-of, outbox-of, Sized, content, arrived}
+use Rattle.protocol.specs.declared.State.{State}
+use Rattle.protocol.specs.Calls.{Carried, callOf}
+use Rattle.protocol.proofs.Laws.{start-0, start-state, call-block, block-call}
+use Rattle.agreement.specs.Run.{Held}
+use Rattle.agreement.specs.Agreement.{System, Correct, Supposed, atStart, callsOf, atEnd, last, noCall, call, Finished}
+use Rattle.agreement.proofs.Run.{Chain, chain, performs, At, CallAt, nth, first-before, next-before, last-after, finished-step}
+
+-- the length of a message of round c
+abbrev pub lenOf : System → ℕ → ℕ
+lenOf S c = messageLength (S .n) (S .t) (S .k) c
+
+module _ (S : System) (H : Supposed S) (i : ℕ) (f : Correct S i) where
+  start : Valid (record { n = S .n; t = S .t; k = S .k; number = i; sender = S .sender }) × (length (S .block i) ≡ blockLength (S .k) (S .t))
+  start = start-0 (S .n) (S .t) (S .k) i (S .sender) (length (S .block i)) (H .started i f)
+
+  pub valid : Valid (record { n = S .n; t = S .t; k = S .k; number = i; sender = S .sender })
+  valid = start .0
+
+  pub coded : Coded (S .n) (S .t) (S .k)
+  coded = valid .coded
+
+  pub numbered : Numbered (S .n) i
+  numbered = valid .number
+
+  pub block-size : length (S .block i) ≡ blockLength (S .k) (S .t)
+  block-size = start .1
+
+  begun-at : At (S .n) (S .t) (S .k) i (S .sender) 1 (atStart S i)
+  begun-at =
+      let e = start-state (S .n) (S .t) (S .k) i (S .sender) (length (S .block i)) (H .started i f) in
+      record {
+        n-is = ap (λ (s : State). s .n) e;
+        t-is = ap (λ (s : State). s .t) e;
+        k-is = ap (λ (s : State). s .k) e;
+        own-is = ap (λ (s : State). s .own) e;
+        sender-is = ap (λ (s : State). s .sender) e;
+        next-is = ap (λ (s : State). s .next) e;
+      }
+
+  links : Chain (atStart S i) (callsOf S i) (atEnd S i)
+  links = chain (atStart S i) (S .steps i)
+
+  -- call c is made on a state whose next call is c, with the system's settings
+  pub call-at : (c : ℕ) → 1 ≤ c → c ≤ last S → CallAt (S .n) (S .t) (S .k) i (S .sender) c (call S i c)
+  call-at c least most =
+      let all : length (callsOf S i) ≡ last S = H .finished i f in
+      let number : 1 + (c - 1) ≡ c = omega arith in
+      subst (λ (x : ℕ). CallAt (S .n) (S .t) (S .k) i (S .sender) x (call S i c)) number
+      (nth (S .n) (S .t) (S .k) i (S .sender) noCall (atStart S i) (callsOf S i) (atEnd S i) 1 links begun-at (c - 1) (omega arith))
+
+  -- call 1 is made on what start left, each other on what the call before left
+  pub call-first : call S i 1 .before ≡ atStart S i
+  call-first =
+      let all : length (callsOf S i) ≡ last S = H .finished i f in
+      first-before noCall (atStart S i) (callsOf S i) (atEnd S i) links (omega arith)
+
+  pub call-next : (c : ℕ) → 1 ≤ c → c < last S → call S i (c + 1) .before ≡ call S i c .after
+  call-next c least most =
+      let all : length (callsOf S i) ≡ last S = H .finished i f in
+      let number : suc (c - 1) ≡ c + 1 - 1 = omega arith in
+      subst (λ (x : ℕ). getD (callsOf S i) x noCall .before ≡ call S i c .after) number
+      (next-before noCall (atStart S i) (callsOf S i) (atEnd S i) links (c - 1) (omega arith))
+
+  -- what is held at the end is what the last call left
+  pub call-last : call S i (last S) .after ≡ atEnd S i
+  call-last =
+      let all : length (callsOf S i) ≡ last S = H .finished i f in
+      last-after noCall (atStart S i) (callsOf S i) (atEnd S i) links (last S - 1) (omega arith)
+
+  -- and every later step is refused with 8
+  pub later : Finished S i
+  later l =
+      let number : last S + 1 ≡ 3 * S .t + 10 = omega arith in
+      let a = subst (λ (x : ℕ). At (S .n) (S .t) (S .k) i (S .sender) x (call S i (last S) .after)) number (call-at (last S) (omega arith) (omega arith) .after-at) in
+      finished-step (S .n) (S .t) (S .k) i (S .sender) valid (atEnd S i) (subst (At (S .n) (S .t) (S .k) i (S .sender) (3 * S .t + 10)) call-last a) l
+
+  -- ---- lengths
+  pub some-length : (c : ℕ) → 1 ≤ c → c < last S → 1 ≤ lenOf S c
+  some-length c least most = length-pos coded c least (omega arith)
+
+  pub outbox-long : (c : ℕ) → 1 ≤ c → c < last S → length (call S i c .lent .outbox) ≡ S .n * width (lenOf S c)
+  outbox-long c least most =
+      let r = call-at c least (omega arith) in
+      let a = r .before-at in
+      r .ready .outbox-length
+      ∙ (λ x. outboxLength (a .n-is x) (a .t-is x) (a .k-is x) (a .next-is x))
+      ∙ outbox-of (S .n) (S .t) (S .k) c (some-length c least most)
+
+  pub inbox-long : (c : ℕ) → 1 ≤ c → c < last S → length (call S i (c + 1) .lent .inbox) ≡ S .n * width (lenOf S c)
+  inbox-long c least most =
+      let r = call-at (c + 1) (omega arith) (omega arith) in
+      let a = r .before-at in
+      r .ready .inbox-length
+      ∙ (λ x. inboxLength (a .n-is x) (a .t-is x) (a .k-is x) (a .next-is x))
+      ∙ inbox-of (S .n) (S .t) (S .k) c (some-length c least most)
+
+  pub block-long : (c : ℕ) → 1 ≤ c → c ≤ last S → length (call S i c .before .block) ≡ blockLength (S .k) (S .t)
+  block-long c least most =
+      let r = call-at c least most in
+      let a = r .before-at in
+      r .ready .block-length ∙ (λ x. blockLength (a .k-is x) (a .t-is x))
+
+  -- the call that is performed, by its kind
+  pub performs-kind : (c : ℕ) → 1 ≤ c → c ≤ last S → (kind : Call) → callKind (S .t) c ≡ kind
+      → performs (call S i c .before) (call S i c .lent)
+      ≡ callOf kind (call S i c .before .state) (call S i c .before .block) (call S i c .lent .inbox) (call S i c .lent .outbox)
+  performs-kind c least most kind e =
+      let m = call S i c in
+      let a = call-at c least most .before-at in
+      ap (λ (x : Call). callOf x (m .before .state) (m .before .block) (m .lent .inbox) (m .lent .outbox)) ((λ x. callKind (a .t-is x) (a .next-is x)) ∙ e)
+
+  -- ---- the block from call 3 on is what call 2 left
+  block-kept : (c : ℕ) → 3 ≤ c → c < last S → call S i c .after .block ≡ call S i c .before .block
+  block-kept c least most =
+      let m = call S i c in
+      let r = call-at c (omega arith) (omega arith) in
+      let kinds = block-call (S .t) c least (omega arith) in
+      r .block-is
+      ∙ ap (λ (x : Carried). x .block) (performs-kind c (omega arith) (omega arith) (callKind (S .t) c) refl)
+      ∙ call-block (callKind (S .t) c) (m .before .state) (m .before .block) (m .lent .inbox) (m .lent .outbox) (kinds .0) (kinds .1)
+
+  block-add : (d : ℕ) → d + 3 ≤ last S → call S i (d + 3) .before .block ≡ call S i 2 .after .block
+  block-add zero l = ap (λ (h : Held). h .block) (call-next 2 (omega arith) (omega arith))
+  block-add (suc d) l =
+      let e : suc d + 3 ≡ d + 3 + 1 = omega arith in
+      ap (λ (c : ℕ). call S i c .before .block) e
+      ∙ ap (λ (h : Held). h .block) (call-next (d + 3) (omega arith) (omega arith))
+      ∙ block-kept (d + 3) (omega arith) (omega arith)
+      ∙ block-add d (omega arith)
+
+  pub block-from : (c : ℕ) → 3 ≤ c → c ≤ last S → call S i c .before .block ≡ call S i 2 .after .block
+  block-from c least most =
+      let e : c - 3 + 3 ≡ c = omega arith in
+      subst (λ (x : ℕ). call S i x .before .block ≡ call S i 2 .after .block) e (block-add (c - 3) (omega arith))
+
+-- what i sent to j in round c is what j's next call reads of it
+pub delivered : (S : System) (H : Supposed S) (i j c : ℕ) → Correct S i → Correct S j → 1 ≤ c → c < last S → (g : ℕ → Sent)
+    → ((m : ℕ) → Sized (lenOf S c) (g m)) → call S i c .sends ≡ slots (lenOf S c) g (S .n)
+    → messageOf (call S j (c + 1) .lent .inbox) (lenOf S c) i ≡ content (g j)
+delivered S H i j c fi fj least most g sized e =
+    arrived (lenOf S c) g sized (call S j (c + 1) .lent .inbox) (call S i c .sends) (S .n) i j e (fj .least) (fj .most) (fi .least)
+    (subst (λ (x : ℕ). i * width (lenOf S c) ≤ x) (sym (inbox-long S H j fj c least most)) (mul-le-mul-right (width (lenOf S c)) (fi .most)))
+    (H .arrives i j c fi fj least most)

@@ -1,0 +1,261 @@
+// Calls 1 to 3 of a controller (document 01, 'Rounds'): the sender's block to all, the pieces that are traded, the marks.
+ghost use mathlib.Core.Path.{_≡_};
+ghost use mathlib.Core.Bool.{_&&_};
+ghost use mathlib.Core.List.{_++_};
+ghost use Prim.Native.Nat.{_+_, _*_, _/_, _%_, _≤_};
+ghost use lib.Dec.{eqb};
+ghost use lib.ListN.{length, take, drop};
+ghost use Rattle.lists.specs.Same.{same};
+ghost use Rattle.bitset.specs.Set.{setOf};
+ghost use Rattle.wire.specs.Length.{blockSize};
+ghost use Rattle.wire.specs.Slot.{width, slots};
+ghost use Rattle.reed_solomon.specs.Encode.{pieceOf};
+ghost use Rattle.dispersal.specs.Dispersal.{isReady, sentBlock, receivedBlock, traded, sentPieces, isMarked, marksOf, sentMarks};
+ghost use Rattle.dispersal.specs.Steps.{Coding};
+use settings::Entry;
+use settings::Settings;
+
+// Call 1: the sender's block to all; silence from everyone else.
+// Shut out: everyone but the sender sends; as many slots as the own number.
+pub fn send_block(n: usize, own: usize, sender: usize, block: &[u8], outbox: &mut [u8])
+    ensures { λ _. ⌜ now (outbox .exit) ≡ sentBlock n own sender (now (block .entry)) (now (outbox .entry)) ⌝ }
+{
+    if own == sender {
+        wire::send_all(outbox, n, block);
+        return;
+    }
+    wire::silence(outbox);
+}
+
+// Call 2: the block becomes the sender's message, or zeros if absent.
+// Shut out: the message of slot 1, whoever the sender is; the block kept where the message is absent.
+pub fn receive_block(inbox: &[u8], len: usize, sender: usize, block: &mut [u8])
+    ensures { λ _. ⌜ now (block .exit) ≡ receivedBlock (now (inbox .entry)) len sender (now (block .entry)) ⌝ }
+{
+    let m = wire::message(inbox, len, sender);
+    if m.len() == 0 {
+        wire::silence(block);
+        return;
+    }
+    wire::copy(block, m);
+}
+
+// Whether the block has the stated length, and `fits`.
+fn lengths_fit(n: usize, t: usize, k: usize, block: &[u8], fits: bool) -> bool
+    ensures { λ r. ⌜ r ≡ (eqb (length (now (block .entry))) (blockSize n t k) && fits) ⌝ }
+{
+    if !fits {
+        return false;
+    }
+    block.len() == wire::block_length(n, t, k)
+}
+
+// Whether coding's rows of the refusal table let the settings, the own number and the lengths pass.
+fn is_ready(n: usize, t: usize, k: usize, own: usize, block: &[u8], fits: bool) -> bool
+    ensures { λ r. ⌜ r ≡ isReady n t k own (now (block .entry)) fits ⌝ }
+{
+    settings::refusal(
+        Entry::Encode,
+        Settings {
+            n,
+            t,
+            k,
+            number: own,
+            sender: 0,
+        },
+        lengths_fit(n, t, k, block, fits),
+    )
+        == 0
+}
+
+// Piece j of the block's coding, into the k bytes of m from `at` on.
+fn write_piece(n: usize, t: usize, k: usize, j: usize, block: &[u8], m: &mut [u8], at: usize)
+    requires { ⌜ Coding n t k j (now block) × (at + k ≤ length (now m)) ⌝ }
+    ensures { λ _. ⌜ now (m .exit) ≡ take at (now (m .entry)) ++ (pieceOf k t (now (block .entry)) j ++ drop (at + k) (now (m .entry))) ⌝ }
+{
+    let end = at + k;
+    reed_solomon::encode(n, t, k, j, block, &mut m[at..end]);
+}
+
+// To each j the own piece, then piece j, by way of m.
+fn fill_pieces(
+    n: usize,
+    t: usize,
+    k: usize,
+    own: usize,
+    block: &[u8],
+    m: &mut [u8],
+    outbox: &mut [u8],
+)
+    requires { ⌜ Coding n t k own (now block) × (length (now m) ≡ 2 * k) × (length (now outbox) ≡ n * width (2 * k)) ⌝ }
+    ensures { λ _. ⌜ now (outbox .exit) ≡ slots (2 * k) (traded k t own (now (block .entry))) n ⌝ }
+{
+    write_piece(n, t, k, own, block, m, 0);
+    let mut j: usize = 0;
+    while j < n {
+        j += 1;
+        write_piece(n, t, k, j, block, m, k);
+        wire::send_one(outbox, 2 * k, j, m);
+    }
+}
+
+// The same, with bytes of its own for the message.
+fn trade(n: usize, t: usize, k: usize, own: usize, block: &[u8], outbox: &mut [u8])
+    requires { ⌜ Coding n t k own (now block) × (length (now outbox) ≡ n * width (2 * k)) ⌝ }
+    ensures { λ _. ⌜ now (outbox .exit) ≡ slots (2 * k) (traded k t own (now (block .entry))) n ⌝ }
+{
+    let mut m = [0u8; 256];
+    let len = 2 * k;
+    fill_pieces(n, t, k, own, block, &mut m[..len], outbox);
+}
+
+// Call 2: to each controller the own piece, then its piece of the own coding. Refused settings or lengths: nothing is written.
+// Shut out: the outbox untouched, the first slot left, silence in this round (must-fail edits); the own piece twice.
+pub fn send_pieces(n: usize, t: usize, k: usize, own: usize, block: &[u8], outbox: &mut [u8])
+    ensures { λ _. ⌜ now (outbox .exit) ≡ sentPieces n t k own (now (block .entry)) (now (outbox .entry)) ⌝ }
+{
+    if 128 < k {
+        return;
+    }
+    let fits = wire::holds_exactly(outbox, n, 2 * k);
+    if is_ready(n, t, k, own, block, fits) {
+        trade(n, t, k, own, block, outbox);
+    }
+}
+
+// Whether two lists of bytes are equal.
+fn is_equal(a: &[u8], b: &[u8]) -> bool
+    ensures { λ r. ⌜ r ≡ same (now (a .entry)) (now (b .entry)) ⌝ }
+{
+    if a.len() != b.len() {
+        return false;
+    }
+    let mut i: usize = 0;
+    while i < a.len() {
+        if a[i] != b[i] {
+            return false;
+        }
+        i += 1;
+    }
+    true
+}
+
+// Whether the first piece of a message is the second of m, and its second the first of m.
+fn is_swapped(message: &[u8], m: &[u8], k: usize) -> bool
+    requires { ⌜ length (now m) ≡ 2 * k ⌝ }
+    ensures { λ r. ⌜ r ≡ (same (take k (now (message .entry))) (drop k (now (m .entry))) && same (drop k (now (message .entry))) (take k (now (m .entry)))) ⌝ }
+{
+    if message.len() < k {
+        return false;
+    }
+    if !is_equal(&message[..k], &m[k..]) {
+        return false;
+    }
+    is_equal(&message[k..], &m[..k])
+}
+
+// Whether j is marked. The own piece is the first of m; piece j is written behind it.
+fn is_marked(
+    n: usize,
+    t: usize,
+    k: usize,
+    own: usize,
+    inbox: &[u8],
+    len: usize,
+    block: &[u8],
+    m: &mut [u8],
+    j: usize,
+) -> bool
+    requires { ⌜ Coding n t k j (now block) × (length (now m) ≡ 2 * k) × (take k (now m) ≡ pieceOf k t (now block) own) ⌝ }
+    ensures { λ r. ⌜ (r ≡ isMarked k t own (now (inbox .entry)) len (now (block .entry)) j) × (take k (now (m .exit)) ≡ pieceOf k t (now (block .entry)) own) ⌝ }
+{
+    if j == own {
+        return true;
+    }
+    let message = wire::message(inbox, len, j);
+    if message.len() == 0 {
+        return false;
+    }
+    write_piece(n, t, k, j, block, m, k);
+    is_swapped(message, m, k)
+}
+
+// The set of those marked, by way of m.
+fn mark_each(
+    n: usize,
+    t: usize,
+    k: usize,
+    own: usize,
+    inbox: &[u8],
+    len: usize,
+    block: &[u8],
+    m: &mut [u8],
+) -> u16
+    requires { ⌜ Coding n t k own (now block) × (length (now m) ≡ 2 * k) ⌝ }
+    ensures { λ r. ⌜ r ≡ setOf n (λ i. isMarked k t own (now (inbox .entry)) len (now (block .entry)) (i + 1)) ⌝ }
+{
+    write_piece(n, t, k, own, block, m, 0);
+    let mut set: u16 = 0;
+    let mut i: usize = 0;
+    while i < n {
+        let index = i;
+        i += 1;
+        if is_marked(n, t, k, own, inbox, len, block, m, i) {
+            set = bitset::insert(set, index);
+        }
+    }
+    set
+}
+
+// The same, with bytes of its own for the pieces.
+fn mark(n: usize, t: usize, k: usize, own: usize, inbox: &[u8], len: usize, block: &[u8]) -> u16
+    requires { ⌜ Coding n t k own (now block) ⌝ }
+    ensures { λ r. ⌜ r ≡ setOf n (λ i. isMarked k t own (now (inbox .entry)) len (now (block .entry)) (i + 1)) ⌝ }
+{
+    let mut m = [0u8; 256];
+    let end = 2 * k;
+    mark_each(n, t, k, own, inbox, len, block, &mut m[..end])
+}
+
+// Call 3: the set of those marked; empty where the settings or the block's length are refused.
+// Shut out: marks without oneself (must-fail edit); the indices one too high; the first t controllers alone.
+pub fn marks(
+    n: usize,
+    t: usize,
+    k: usize,
+    own: usize,
+    inbox: &[u8],
+    len: usize,
+    block: &[u8],
+) -> u16
+    ensures { λ r. ⌜ r ≡ marksOf n t k own (now (inbox .entry)) len (now (block .entry)) ⌝ }
+{
+    if is_ready(n, t, k, own, block, true) {
+        return mark(n, t, k, own, inbox, len, block);
+    }
+    0
+}
+
+// The low byte.
+fn low(x: u16) -> u8
+    ensures { λ r. ⌜ r ≡ x % 256 ⌝ }
+{
+    (x % 256) as u8
+}
+
+// The high byte.
+fn high(x: u16) -> u8
+    ensures { λ r. ⌜ r ≡ x / 256 ⌝ }
+{
+    (x / 256) as u8
+}
+
+// Call 3: the marks to all. An outbox whose length is not that of the slots stays as it is.
+// Shut out: bits past n sent; four slots, whatever n is.
+pub fn send_marks(n: usize, s: u16, outbox: &mut [u8])
+    ensures { λ _. ⌜ now (outbox .exit) ≡ sentMarks n s (now (outbox .entry)) ⌝ }
+{
+    let set = bitset::restrict(s, n);
+    let m = [low(set), high(set)];
+    wire::send_all(outbox, n, &m);
+}

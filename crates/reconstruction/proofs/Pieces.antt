@@ -1,0 +1,28 @@
+-- Laws of pieces on their way to an outbox. The main one: `coded-piece`, what coding leaves in the bytes lent to it.
+use mathlib.Core.Path.{_≡_, ap, _∙_}
+use mathlib.Core.List.{List}
+use Prim.Native.Nat.{ℕ, _≤_}
+use native.Mathlib.Omega.{arith}
+use lib.ListN.{length, take, replicate, length-replicate}
+use lib.Seq.{length-take-le}
+use Rattle.settings.specs.Valid.{Coded, Numbered}
+use Rattle.wire.specs.Length.{blockLength}
+use Rattle.wire.specs.Slot.{Sent, bytes}
+use Rattle.wire.proofs.Laws.{Sized, sized-bytes}
+use Rattle.reed_solomon.specs.Encode.{pieceOf, Encoded, encoded, encodeOf}
+use Rattle.reed_solomon.proofs.Laws.{0-encoded, piece-length}
+
+-- the front of an array of zeros
+pub front : (k : ℕ) → k ≤ 128 → length {A = ℕ} (take k (replicate 128 0)) ≡ k
+front k h = length-take-le k (replicate 128 0) (omega (arith, length-replicate {A = ℕ} 128 0))
+
+pub coded-piece : (n t k i : ℕ) (b p : List ℕ) {q : List ℕ} {r : ℕ} → Coded n t k → Numbered n i → length b ≡ blockLength k t → length p ≡ k
+    → encoded r q ≡ encodeOf n t k i b p → q ≡ pieceOf k t b i
+coded-piece n t k i b p v m a l e = ap (λ (x : Encoded). x .piece) (e ∙ 0-encoded n t k i b p v m a l)
+
+-- to j, piece j
+abbrev pub pieces : (k t : ℕ) → List ℕ → ℕ → Sent
+pieces k t b j = bytes (pieceOf k t b j)
+
+pub sized-pieces : (k t : ℕ) (b : List ℕ) (j : ℕ) → Sized k (pieces k t b j)
+sized-pieces k t b j = sized-bytes k (pieceOf k t b j) (piece-length k t b j)

@@ -1,0 +1,56 @@
+-- `finish` meets its contract.
+use Rattle.reconstruction.proofs.Calls.{finished-decoded}
+use Rattle.reconstruction.proofs.Laws.{finished-none}
+use Rattle.reconstruction.specs.Reconstruction.{finish}
+use Rattle.reconstruction.specs.declared.Outcome.the-variants.{None}
+use mathlib.Core.Path.{sym, ap, _∙_}
+use borrow.Author.Needs.{needs}
+use Rattle.reconstruction.proofs.finish.Statement.{statement}
+use Rattle.reconstruction.proofs.finish.Tie as tie
+
+restrict-requires : tie.Need-restrict-requires
+restrict-requires c κs = search needs
+
+silence-requires : tie.Need-silence-requires
+silence-requires c κs = search needs
+
+same-length : tie.Need-same-length
+same-length c = search needs
+
+returns : tie.Need-returns
+returns c =
+    let I = c .before .before .before .before in
+    let a = I .before .before .before .before .args in
+    ap (finish None) (c .before .before .silence .ensures)
+    ∙ sym (finished-none (a .n) (a .t) (a .k) (a .core) (a .inbox .now) (a .block .now) (sym (I .before .restrict .ensures) ∙ I .if1 .taken))
+
+decode-requires : tie.Need-decode-requires
+decode-requires c κs = search needs
+
+outcome-of-requires : tie.Need-outcome-of-requires
+outcome-of-requires c κs = search needs
+
+same-length-2 : tie.Need-same-length-2
+same-length-2 c = search needs
+
+returns-2 : tie.Need-returns-2
+returns-2 c =
+    let D = c .before .before .before in
+    let I = D .before .before in
+    let a = I .before .before .before .before .args in
+    let after = D .decode .last .1 .1 .1 .1 .0 in
+    finished-decoded (a .n) (a .t) (a .k) (a .core) (a .inbox .now) (a .block .now) after (D .decode .result) (c .outcome-of .result)
+    (λ z. I .if1 .left (I .before .restrict .ensures ∙ z)) (D .decode .ensures) (c .outcome-of .ensures after)
+
+pub finish-spec : {M : Type 1} → statement M
+finish-spec =
+    tie.close
+    (tie.spec
+    restrict-requires
+    silence-requires
+    same-length
+    returns
+    decode-requires
+    outcome-of-requires
+    same-length-2
+    returns-2)

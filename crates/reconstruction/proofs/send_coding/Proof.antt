@@ -1,0 +1,31 @@
+-- `send_coding` meets its contract.
+use Rattle.reconstruction.proofs.Pieces.{front}
+use mathlib.Core.Path.{sym}
+use borrow.Author.Needs.{needs}
+use Rattle.reconstruction.proofs.send_coding.Statement.{statement}
+use Rattle.reconstruction.proofs.send_coding.Tie as tie
+
+array-borrow-prefix-piece : tie.Need-array-borrow-prefix-piece
+array-borrow-prefix-piece c = search needs
+
+slice-aggregate-send-pieces : tie.Need-slice-aggregate-send-pieces
+slice-aggregate-send-pieces c = let S = c .before .before .before in sym (front (S .args .k) (S .pre .0 .k-most))
+
+send-pieces-requires : tie.Need-send-pieces-requires
+send-pieces-requires c κs = let S = c .before .before .before .before in (S .pre .0, S .pre .1, front (S .args .k) (S .pre .0 .k-most), S .pre .2)
+
+same-length : tie.Need-same-length
+same-length c = search needs
+
+returns : tie.Need-returns
+returns c = search needs
+
+pub send-coding-spec : {M : Type 1} → statement M
+send-coding-spec =
+    tie.close
+    (tie.spec
+    array-borrow-prefix-piece
+    slice-aggregate-send-pieces
+    send-pieces-requires
+    same-length
+    returns)

@@ -1,0 +1,182 @@
+-- Four controllers, t 1, k 1, and the sender 1 with the block 0a14. Controller 4 is faulty: in every round it sends different bytes to
+-- different controllers. The steps of 1, 2 and 3 contain refused ones before, between and after the calls. `two-faced-supposed`: what
+-- demand 3 supposes holds, computed; `two-faced-agreed`: by demand 3, agreed and 0a14.
+--   from4-1, from4-2, from4-3   the slots that 4 sends to 1, 2 and 3, round after round
+--   stepsOf piece from4         the steps of the controller with that piece
+use mathlib.Core.Path.{refl}
+use mathlib.Core.Bool.{Bool, true, false, cond, not}
+use mathlib.Core.List.{List, [], _∷_, _++_}
+use Prim.Native.Nat.{ℕ, _-_}
+use lib.Dec.{T, eqb, lit≤}
+use lib.ListN.{getD}
+use Rattle.lists.specs.Fill.{tabulate, filled}
+use Rattle.lists.specs.Sum.{sum, count}
+use Rattle.lists.specs.Same.{same}
+use Rattle.gf256.specs.Field.{gadd, gmul, gpow, polyMul, reduce}
+use Rattle.bitset.specs.Set.{member, setOf, sizeOf, restricted, first}
+use Rattle.bitset.specs.Row.{wordAt, rowOf, rowByte, rowsOf}
+use Rattle.settings.specs.Refusal.{outside, tooMany, broken, refusalOf}
+use Rattle.wire.specs.Length.{blockLength, rowLength, inSettings, messageLength, boxLength, inboxLength, outboxLength}
+use Rattle.wire.specs.Round.{roundKind, callKind, phaseOf}
+use Rattle.wire.specs.Slot.{width, slotOf, holds, isPresent, messageOf, written, slots, copied}
+use Rattle.polynomial.specs.Polynomial.{Bytes, gsum, evaluate}
+use Rattle.reed_solomon.specs.Encode.{stripe, pieceOf}
+use Rattle.dispersal.specs.Dispersal.{isReady, sentBlock, receivedBlock, traded, sentPieces, isMarked, marksOf, marksMessage, sentMarks}
+use Rattle.phase_king.specs.Bit.{zeroSeen, oneSeen, held, support, weak, settled}
+use Rattle.phase_king.specs.Matrix.{matrixOf, said, kingSays, firstMatrix, zerosOf, onesOf, heldOf, weakOf, settledOf, seenMessage}
+use Rattle.matching.specs.Graph.{neighbour}
+use Rattle.matching.specs.Matching.{matched}
+use Rattle.matching.specs.First.{firstFound, ofSize, upTo, matchingOf}
+use Rattle.star.specs.Star.{struck, setC, lacks, setD, atLeast, setF, setE, setsFrom, noSets, isLarge, starFrom, refusalFor, starOf}
+use Rattle.reconstruction.specs.Reconstruction.{isReady as isReadyToShare, inCore, forwarded, votes, isChosen, chosenPiece, ownPiece, sentPiece, shared}
+use Rattle.protocol.specs.Calls.{callOf}
+use Rattle.protocol.specs.Step.{startRefusal, startOf, lengthsFit, stepRefusal, stepOf}
+use Rattle.agreement.specs.Agreement.{System, Correct, Supposed, Concluded, Holds, atStart}
+use Rattle.agreement.proofs.Agreement.{agreement}
+use Rattle.witnesses.proofs.Test.{each, Meets, meets-supposed, answers, Step, small, small-bytes, smalls, lents, present, absent, rows, box}
+
+abbrev zeros : List ℕ
+zeros = rows 0 0 0 0
+
+abbrev ones : List ℕ
+ones = rows 0x0f 0x0f 0x0f 0x0f
+
+from4-1 : List (List ℕ)
+from4-1 =
+    present (0x01 ∷ 0x02 ∷ [])
+    ∷ (0x00 ∷ 0x5a ∷ 0x1e ∷ [])  -- the true pieces, but absent
+    ∷ present (0x0f ∷ 0xff ∷ [])
+    ∷ present ones
+    ∷ present (ones ++ ones)
+    ∷ present ones
+    ∷ present zeros
+    ∷ absent 16
+    ∷ present ones
+    ∷ present (0x09 ∷ [])
+    ∷ present (0x5b ∷ [])
+    ∷ []
+
+from4-2 : List (List ℕ)
+from4-2 =
+    present (0x07 ∷ 0x08 ∷ [])
+    ∷ present (0x5a ∷ 0x22 ∷ [])  -- the true pieces
+    ∷ present (0x00 ∷ 0x00 ∷ [])
+    ∷ present zeros
+    ∷ present (ones ++ zeros)
+    ∷ present zeros
+    ∷ present ones
+    ∷ present (zeros ++ ones)
+    ∷ present zeros
+    ∷ absent 1
+    ∷ present (0x5a ∷ [])
+    ∷ []
+
+from4-3 : List (List ℕ)
+from4-3 =
+    absent 2
+    ∷ present (0x5a ∷ 0x37 ∷ [])  -- a false piece
+    ∷ (0x02 ∷ 0x0f ∷ 0x00 ∷ [])  -- neither 01 nor 00, so absent
+    ∷ present (rows 0x07 0x0f 0x07 0x09)
+    ∷ present (zeros ++ ones)
+    ∷ absent 8
+    ∷ absent 8
+    ∷ present (ones ++ zeros)
+    ∷ present (rows 0x08 0x08 0x08 0x08)
+    ∷ present (0x0a ∷ [])
+    ∷ present (0x00 ∷ [])
+    ∷ []
+
+stepsOf : ℕ → List (List ℕ) → List Step
+stepsOf piece from4 =
+    let x : ℕ → List ℕ = λ c. getD from4 (c - 1) [] in
+    let p : List ℕ = present (piece ∷ []) in
+    let m : List ℕ = present (rows 0x07 0x0f 0x07 0x00) in
+    let s : List ℕ = present (rows 0x08 0x00 0x08 0x0f ++ rows 0x07 0x0f 0x07 0x00) in
+    (0x07 ∷ [], 12)  -- refused with 6: call 1 has an inbox of length 0
+    ∷ ([], 12)
+    ∷ (box (present (0x0a ∷ 0x14 ∷ [])) (absent 2) (absent 2) (x 1), 12)
+    ∷ (box (present (0x1e ∷ piece ∷ [])) (present (0x22 ∷ piece ∷ [])) (present (0x36 ∷ piece ∷ [])) (x 2), 12)
+    ∷ (box (present (0x07 ∷ 0x00 ∷ [])) (present (0x0f ∷ 0x00 ∷ [])) (present (0x07 ∷ 0x00 ∷ [])) (x 3), 36)
+    ∷ (box (present (rows 0x07 0x0f 0x07 0x0f)) m m (x 4), 67)  -- refused with 6: the outbox is too short
+    ∷ (box (present (rows 0x07 0x0f 0x07 0x0f)) m m (x 4), 68)
+    ∷ (absent 8, 36)  -- refused with 6: the inbox is one slot only
+    ∷ (box (present (rows 0x08 0x00 0x08 0x00 ++ rows 0x07 0x0f 0x07 0x00)) s (present (rows 0x08 0x00 0x08 0x06 ++ rows 0x07 0x0f 0x07 0x00)) (x 5), 36)
+    ∷ (box m (absent 8) (absent 8) (x 6), 36)
+    ∷ (box m m m (x 7), 68)
+    ∷ (box s s s (x 8), 36)
+    ∷ (box (absent 8) m (absent 8) (x 9), 8)
+    ∷ (box p p p (x 10), 8)
+    ∷ (box (present (0x1e ∷ [])) (present (0x22 ∷ [])) (present (0x36 ∷ [])) (x 11), 0)
+    ∷ ([], 12)  -- refused with 8: the run is finished
+    ∷ []
+
+small-1 : T (smalls (stepsOf 0x1e from4-1))
+unfolding smalls small stepsOf from4-1
+small-1 = tt
+
+small-2 : T (smalls (stepsOf 0x22 from4-2))
+unfolding smalls small stepsOf from4-2
+small-2 = tt
+
+small-3 : T (smalls (stepsOf 0x36 from4-3))
+unfolding smalls small stepsOf from4-3
+small-3 = tt
+
+abbrev blockFor : Bool → List ℕ
+blockFor true = 0x0a ∷ 0x14 ∷ []
+blockFor false = 0x00 ∷ 0x00 ∷ []
+
+blocks-bytes : (b : Bool) → Bytes (blockFor b)
+unfolding small
+blocks-bytes true = small-bytes (0x0a ∷ 0x14 ∷ []) tt
+blocks-bytes false = small-bytes (0x00 ∷ 0x00 ∷ []) tt
+
+pub two-faced : System
+two-faced = record {
+  n = 4;
+  t = 1;
+  k = 1;
+  sender = 1;
+  correct = λ i. not (eqb i 4);
+  block = λ i. blockFor (eqb i 1);
+  block-bytes = λ i. blocks-bytes (eqb i 1);
+  steps = λ i.
+      cond (eqb i 1) (lents (stepsOf 0x1e from4-1) small-1)
+      (cond (eqb i 2) (lents (stepsOf 0x22 from4-2) small-2)
+      (lents (stepsOf 0x36 from4-3) small-3));
+}
+
+two-faced-meets : Meets two-faced
+unfolding two-faced stepsOf from4-1 from4-2 from4-3 lents tabulate filled sum count same gadd gmul gpow polyMul reduce member setOf
+    sizeOf restricted first wordAt rowOf rowByte rowsOf outside tooMany broken refusalOf blockLength rowLength inSettings messageLength
+    boxLength inboxLength outboxLength roundKind callKind phaseOf width slotOf holds isPresent messageOf written slots copied gsum evaluate
+    stripe pieceOf isReady sentBlock receivedBlock traded sentPieces isMarked marksOf marksMessage sentMarks zeroSeen oneSeen held support
+    weak settled matrixOf said kingSays firstMatrix zerosOf onesOf heldOf weakOf settledOf seenMessage neighbour matched firstFound ofSize
+    upTo matchingOf struck setC lacks setD atLeast setF setE setsFrom noSets isLarge starFrom refusalFor starOf isReadyToShare inCore
+    forwarded votes isChosen chosenPiece ownPiece sentPiece shared callOf startRefusal startOf lengthsFit stepRefusal stepOf
+two-faced-meets = record { tolerance = tt; few = tt; started = tt; finished = tt; arrives = tt }
+
+-- what the steps of a correct controller return
+two-faced-answers :
+    T (each 3 (λ i. same (answers (atStart two-faced i) (two-faced .steps i)) (6 ∷ 0 ∷ 0 ∷ 0 ∷ 0 ∷ 6 ∷ 0 ∷ 6 ∷ 0 ∷ 0 ∷ 0 ∷ 0 ∷ 0 ∷ 0 ∷ 0 ∷ 8 ∷ [])))
+unfolding two-faced stepsOf from4-1 from4-2 from4-3 lents answers same outside tooMany broken refusalOf blockLength rowLength inSettings
+    messageLength boxLength inboxLength outboxLength roundKind callKind width slotOf holds isPresent messageOf receivedBlock copied callOf
+    startRefusal startOf lengthsFit stepRefusal stepOf
+two-faced-answers = tt
+
+-- in each round, what 4 sends to 2 differs from what it sends to 3
+two-faced-differs : T (each 11 (λ c. not (same (getD from4-2 (c - 1) []) (getD from4-3 (c - 1) []))))
+unfolding from4-2 from4-3 same
+two-faced-differs = tt
+
+pub two-faced-supposed : Supposed two-faced
+two-faced-supposed = meets-supposed two-faced two-faced-meets
+
+pub two-faced-agreed : Holds two-faced 2 (0x0a ∷ 0x14 ∷ []) × Holds two-faced 3 (0x0a ∷ 0x14 ∷ [])
+unfolding two-faced
+two-faced-agreed =
+    let C : Concluded two-faced = agreement two-faced two-faced-supposed in
+    let c1 : Correct two-faced 1 = record { least = lit≤ tt; most = lit≤ tt; is = refl } in
+    let c2 : Correct two-faced 2 = record { least = lit≤ tt; most = lit≤ tt; is = refl } in
+    let c3 : Correct two-faced 3 = record { least = lit≤ tt; most = lit≤ tt; is = refl } in
+    ((C .sender-outcome 2 c1 c2, C .sender-block 2 c1 c2), (C .sender-outcome 3 c1 c3, C .sender-block 3 c1 c3))
