@@ -1,0 +1,51 @@
+-- `controller_cases::is_filled` is safe and ends.
+use borrow.Author.Needs.{needs}
+use lib.ListN.{length}
+use Prim.Native.Nat.{_-_, _≤_}
+use Rattle.controller_cases.proofs.is_filled.Statement.{statement}
+use Rattle.controller_cases.proofs.is_filled.Tie as tie
+
+abbrev Inv-loop : tie.InvT-loop
+Inv-loop s p₀ p = p ≤ length s
+
+abbrev μ-loop : tie.MeasureT-loop
+μ-loop s p₀ p = length s - p
+
+loop-holds : tie.Need-loop-holds Inv-loop μ-loop
+loop-holds c = search needs
+
+shared-slice-read-if1 : tie.Need-shared-slice-read-if1 Inv-loop μ-loop
+shared-slice-read-if1 c = search needs
+
+pattern-requires : tie.Need-pattern-requires Inv-loop μ-loop
+pattern-requires c κs = search needs
+
+returns : tie.Need-returns Inv-loop μ-loop
+returns c = search needs
+
+add-p : tie.Need-add-p Inv-loop μ-loop
+add-p c = search needs
+
+loop-less : tie.Need-loop-less Inv-loop μ-loop
+loop-less c = search needs
+
+loop-again : tie.Need-loop-again Inv-loop μ-loop
+loop-again c = search needs
+
+returns-2 : tie.Need-returns-2 Inv-loop μ-loop
+returns-2 c = search needs
+
+pub is-filled-spec : {M : Type 1} → statement M
+is-filled-spec =
+    tie.close
+    (tie.spec
+    Inv-loop
+    μ-loop
+    loop-holds
+    shared-slice-read-if1
+    pattern-requires
+    returns
+    add-p
+    loop-less
+    loop-again
+    returns-2)

@@ -1,0 +1,579 @@
+// Drives `controller::start` and `controller::step` through every refusal of document 01 ('Turned down'), and one controller alone, with silent
+// inboxes, through whole runs.
+// A line `start n t k own sender length: number state block`: the lent length, the number answered, whether the state answered is the zero
+// state or the one of a run that begins, and whether the lent block is the same.
+// A line `step n t k own sender next block inbox outbox: number state block outbox`: the settings and the next call of the state given, the lent
+// lengths, the number answered, and whether state, block and outbox are the same after it. But for the zero state, the first one given,
+// outcome, both matrices and core of the state given are set to other than zero.
+// A line `call c: number next outcome block outbox`: a step on a state whose next call is c, the number answered, the next call and outcome
+// of the state answered, and all bytes of block and outbox after it.
+// The expected output comes from the independent reference:
+//     cd bench && cargo run --release --bin controller_vectors > ../crates/controller_cases/stdout
+use libc::STDOUT_FILENO;
+use protocol::State;
+use reconstruction::Outcome;
+ghost use Prim.Native.Nat.{_<_};
+ghost use Rattle.io.specs.Counts.{Counts};
+
+// n, t, k, own number, sender and lent length of each start: each row of the refusal table by itself; two rows that apply, of which the first
+// counts; and starts that are taken.
+const STARTS: [[usize; 6]; 45] = [
+    [3, 1, 1, 1, 1, 2],
+    [17, 1, 1, 1, 1, 2],
+    [0, 1, 1, 1, 1, 2],
+    [18446744073709551615, 1, 1, 1, 1, 2],
+    [4, 0, 1, 1, 1, 1],
+    [4, 2, 1, 1, 1, 3],
+    [6, 2, 1, 1, 1, 3],
+    [16, 6, 1, 1, 1, 7],
+    [16, 18446744073709551615, 1, 1, 1, 0],
+    [4, 1, 0, 1, 1, 0],
+    [4, 1, 129, 1, 1, 258],
+    [7, 2, 129, 1, 1, 387],
+    [4, 1, 18446744073709551615, 1, 1, 0],
+    [4, 1, 1, 0, 1, 2],
+    [4, 1, 1, 5, 1, 2],
+    [4, 1, 1, 18446744073709551615, 1, 2],
+    [4, 1, 1, 1, 0, 2],
+    [4, 1, 1, 1, 5, 2],
+    [4, 1, 1, 1, 18446744073709551615, 2],
+    [4, 1, 1, 1, 1, 0],
+    [4, 1, 1, 1, 1, 1],
+    [4, 1, 1, 1, 1, 3],
+    [7, 2, 128, 7, 7, 383],
+    [7, 2, 128, 7, 7, 385],
+    [3, 0, 1, 1, 1, 1],
+    [3, 1, 0, 1, 1, 0],
+    [3, 1, 1, 0, 1, 2],
+    [3, 1, 1, 1, 0, 2],
+    [3, 1, 1, 1, 1, 3],
+    [4, 0, 129, 1, 1, 129],
+    [4, 0, 1, 0, 1, 1],
+    [4, 0, 1, 1, 0, 1],
+    [4, 0, 1, 1, 1, 2],
+    [4, 1, 0, 0, 1, 0],
+    [4, 1, 0, 1, 0, 0],
+    [4, 1, 0, 1, 1, 1],
+    [4, 1, 1, 0, 0, 2],
+    [4, 1, 1, 0, 1, 3],
+    [4, 1, 1, 1, 0, 3],
+    [3, 0, 0, 0, 0, 9],
+    [4, 1, 1, 1, 1, 2],
+    [4, 1, 1, 4, 4, 2],
+    [7, 2, 128, 7, 1, 384],
+    [16, 1, 128, 16, 16, 256],
+    [16, 5, 128, 1, 16, 768],
+];
+
+// n, t, k, own number, sender and next call of the state given, and the lent lengths of block, inbox and outbox: settings out of range; the
+// next call out of range, and the run finished; two rows that apply, 7 before 8 before 6.
+const STEPS: [[usize; 9]; 40] = [
+    [3, 1, 1, 1, 1, 1, 2, 0, 12],
+    [17, 1, 1, 1, 1, 1, 2, 0, 12],
+    [18446744073709551615, 1, 1, 1, 1, 1, 2, 0, 12],
+    [4, 0, 1, 1, 1, 1, 2, 0, 12],
+    [4, 2, 1, 1, 1, 1, 2, 0, 12],
+    [4, 18446744073709551615, 1, 1, 1, 1, 2, 0, 12],
+    [4, 1, 0, 1, 1, 1, 2, 0, 12],
+    [4, 1, 129, 1, 1, 1, 2, 0, 12],
+    [4, 1, 18446744073709551615, 1, 1, 1, 2, 0, 12],
+    [4, 1, 1, 0, 1, 1, 2, 0, 12],
+    [4, 1, 1, 5, 1, 1, 2, 0, 12],
+    [4, 1, 1, 18446744073709551615, 1, 1, 2, 0, 12],
+    [4, 1, 1, 1, 0, 1, 2, 0, 12],
+    [4, 1, 1, 1, 5, 1, 2, 0, 12],
+    [4, 1, 1, 1, 18446744073709551615, 1, 2, 0, 12],
+    [4, 1, 1, 1, 1, 0, 2, 0, 0],
+    [4, 1, 1, 1, 1, 14, 2, 0, 0],
+    [4, 1, 1, 1, 1, 18446744073709551615, 2, 0, 0],
+    [4, 1, 1, 1, 1, 13, 2, 0, 0],
+    [16, 1, 1, 1, 1, 14, 2, 0, 0],
+    [16, 1, 1, 1, 1, 13, 2, 0, 0],
+    [7, 2, 2, 7, 1, 0, 6, 0, 0],
+    [7, 2, 2, 7, 1, 17, 6, 0, 0],
+    [7, 2, 2, 7, 1, 16, 6, 0, 0],
+    [16, 5, 3, 1, 16, 26, 18, 0, 0],
+    [16, 5, 3, 1, 16, 25, 18, 0, 0],
+    [3, 1, 1, 1, 1, 13, 2, 0, 0],
+    [4, 1, 0, 1, 1, 13, 0, 0, 0],
+    [4, 1, 1, 5, 1, 13, 2, 0, 0],
+    [4, 1, 1, 1, 0, 13, 2, 0, 0],
+    [4, 0, 1, 1, 1, 10, 1, 0, 0],
+    [3, 1, 1, 1, 1, 0, 2, 0, 0],
+    [3, 1, 1, 1, 1, 1, 3, 1, 13],
+    [4, 1, 1, 1, 1, 0, 3, 0, 0],
+    [4, 1, 1, 1, 1, 14, 2, 1, 1],
+    [4, 1, 1, 1, 1, 13, 3, 0, 0],
+    [4, 1, 1, 1, 1, 13, 2, 1, 0],
+    [4, 1, 1, 1, 1, 13, 2, 8, 0],
+    [4, 1, 1, 1, 1, 13, 2, 0, 1],
+    [4, 1, 1, 1, 1, 13, 9, 9, 9],
+];
+
+fn text(s: &[u8]) {
+    io::write_all(STDOUT_FILENO, s);
+}
+
+// A space and a number.
+fn number(x: usize) {
+    text(b" ");
+    io::print_decimal(STDOUT_FILENO, x as u64);
+}
+
+fn same(yes: bool) {
+    if yes {
+        text(b" same");
+        return;
+    }
+    text(b" changed");
+}
+
+// The byte that a lent slice has at index p before a call; no byte is 00 or 01.
+fn pattern(p: usize) -> u8 {
+    (p % 251 + 3) as u8
+}
+
+fn fill(s: &mut [u8]) {
+    for p in 0..s.len() {
+        s[p] = pattern(p);
+    }
+}
+
+fn is_filled(s: &[u8]) -> bool {
+    let mut p: usize = 0;
+    while p < s.len() {
+        if s[p] != pattern(p) {
+            return false;
+        }
+        p += 1;
+    }
+    true
+}
+
+fn same_rows(a: &[u16; 16], b: &[u16; 16]) -> bool {
+    let mut r: usize = 0;
+    while r < 16 {
+        if a[r] != b[r] {
+            return false;
+        }
+        r += 1;
+    }
+    true
+}
+
+fn outcome_number(o: Outcome) -> u8 {
+    match o {
+        Outcome::Open => 0,
+        Outcome::Agreed => 1,
+        Outcome::None => 2,
+        Outcome::Beyond => 3,
+    }
+}
+
+fn same_settings(a: State, b: State) -> bool {
+    if a.n != b.n {
+        return false;
+    }
+    if a.t != b.t {
+        return false;
+    }
+    if a.k != b.k {
+        return false;
+    }
+    if a.own != b.own {
+        return false;
+    }
+    a.sender == b.sender
+}
+
+fn same_progress(a: State, b: State) -> bool {
+    let x = a.outcome;
+    let y = b.outcome;
+    if a.next != b.next {
+        return false;
+    }
+    if outcome_number(x) != outcome_number(y) {
+        return false;
+    }
+    a.core == b.core
+}
+
+fn same_matrix(a: State, b: State) -> bool {
+    let x = a.matrix;
+    let y = b.matrix;
+    same_rows(&x, &y)
+}
+
+fn same_weak(a: State, b: State) -> bool {
+    let x = a.weak;
+    let y = b.weak;
+    same_rows(&x, &y)
+}
+
+// Whether all fields are the same.
+fn same_state(a: State, b: State) -> bool {
+    if !same_settings(a, b) {
+        return false;
+    }
+    if !same_progress(a, b) {
+        return false;
+    }
+    if !same_matrix(a, b) {
+        return false;
+    }
+    same_weak(a, b)
+}
+
+// The state of a run that begins with call `next`; the zero state for zeros.
+fn plain(n: usize, t: usize, k: usize, own: usize, sender: usize, next: usize) -> State {
+    State {
+        n,
+        t,
+        k,
+        own,
+        sender,
+        next,
+        outcome: Outcome::Open,
+        matrix: [0u16; 16],
+        weak: [0u16; 16],
+        core: 0,
+    }
+}
+
+// A state with every other field set.
+fn given(n: usize, t: usize, k: usize, own: usize, sender: usize, next: usize) -> State {
+    State {
+        n,
+        t,
+        k,
+        own,
+        sender,
+        next,
+        outcome: Outcome::Beyond,
+        matrix: [
+            1,
+            2,
+            4,
+            8,
+            16,
+            32,
+            64,
+            128,
+            256,
+            512,
+            1024,
+            2048,
+            4096,
+            8192,
+            16384,
+            32768,
+        ],
+        weak: [65535, 2, 3, 4, 5, 6, 7, 8, 9, 10, 11, 12, 13, 14, 15, 65534],
+        core: 43981,
+    }
+}
+
+fn print_settings(s: State) {
+    number(s.n);
+    number(s.t);
+    number(s.k);
+    number(s.own);
+    number(s.sender);
+}
+
+// The length x for a part of s; 0 where s is shorter.
+fn fitting(x: usize, s: &[u8]) -> usize
+    ensures { λ r. ⌜ Counts r (now (s .entry)) ⌝ }
+{
+    if s.len() < x {
+        return 0;
+    }
+    x
+}
+
+// Which state a start with these settings answered.
+fn print_started(s: State, r: State) {
+    if same_state(r, plain(0, 0, 0, 0, 0, 0)) {
+        text(b" zero");
+        return;
+    }
+    if same_state(r, s) {
+        text(b" begun");
+        return;
+    }
+    text(b" other");
+}
+
+// A start with the settings of s.
+fn start_with(s: State, block: &mut [u8]) {
+    fill(block);
+    let r = controller::start(s.n, s.t, s.k, s.own, s.sender, block);
+    let state = r.state;
+    text(b"start");
+    print_settings(s);
+    number(block.len());
+    text(b":");
+    number(r.number as usize);
+    print_started(s, state);
+    same(is_filled(block));
+    text(b"\n");
+}
+
+fn start_cut(s: State, length: usize, block: &mut [u8]) {
+    let b = fitting(length, block);
+    start_with(s, &mut block[..b]);
+}
+
+fn start(n: usize, t: usize, k: usize, own: usize, sender: usize, length: usize) {
+    let mut space = io::buffer();
+    let block: &mut [u8] = &mut space;
+    start_cut(plain(n, t, k, own, sender, 1), length, block);
+}
+
+fn print_step(s: State, b: usize, i: usize, o: usize) {
+    text(b"step");
+    print_settings(s);
+    number(s.next);
+    number(b);
+    number(i);
+    number(o);
+    text(b":");
+}
+
+// Steps, on lent bytes that are filled.
+fn step_on(s: State, block: &mut [u8], inbox: &[u8], outbox: &mut [u8]) {
+    let r = controller::step(s, block, inbox, outbox);
+    let state = r.state;
+    number(r.number as usize);
+    same(same_state(s, state));
+    same(is_filled(block));
+    same(is_filled(outbox));
+    text(b"\n");
+}
+
+fn step_with(s: State, block: &mut [u8], inbox: &mut [u8], outbox: &mut [u8]) {
+    fill(block);
+    fill(inbox);
+    fill(outbox);
+    step_on(s, block, inbox, outbox);
+}
+
+fn step_cut(
+    s: State,
+    b: usize,
+    i: usize,
+    o: usize,
+    block: &mut [u8],
+    inbox: &mut [u8],
+    outbox: &mut [u8],
+) {
+    let x = fitting(b, block);
+    let y = fitting(i, inbox);
+    let z = fitting(o, outbox);
+    print_step(s, x, y, z);
+    step_with(s, &mut block[..x], &mut inbox[..y], &mut outbox[..z]);
+}
+
+// A step on s with lent lengths b, i and o.
+fn step(s: State, b: usize, i: usize, o: usize) {
+    let mut block_space = io::buffer();
+    let mut inbox_space = io::buffer();
+    let mut outbox_space = io::buffer();
+    let block: &mut [u8] = &mut block_space;
+    let inbox: &mut [u8] = &mut inbox_space;
+    let outbox: &mut [u8] = &mut outbox_space;
+    step_cut(s, b, i, o, block, inbox, outbox);
+}
+
+// One byte more.
+fn longer(x: usize) -> usize {
+    std::num::wrapping_add_usize(x, 1)
+}
+
+// One byte less; of no byte, two more.
+fn shorter(x: usize) -> usize {
+    if x == 0 {
+        return 2;
+    }
+    x - 1
+}
+
+// Each lent length of a call too long and too short by one byte, and all three.
+fn lengths_at(n: usize, t: usize, k: usize, c: usize) {
+    let s = given(n, t, k, n, 1, c);
+    let b = wire::block_length(n, t, k);
+    let i = wire::inbox_length(n, t, k, c);
+    let o = wire::outbox_length(n, t, k, c);
+    step(s, longer(b), i, o);
+    step(s, shorter(b), i, o);
+    step(s, b, longer(i), o);
+    step(s, b, shorter(i), o);
+    step(s, b, i, longer(o));
+    step(s, b, i, shorter(o));
+    step(s, longer(b), shorter(i), longer(o));
+}
+
+fn lengths(n: usize, t: usize, k: usize) {
+    let last = wire::calls(t);
+    let mut c: usize = 0;
+    while c < last {
+        c += 1;
+        lengths_at(n, t, k, c);
+    }
+}
+
+fn start_at(i: usize) -> [usize; 6]
+    requires { ⌜ i < 45 ⌝ }
+{
+    STARTS[i]
+}
+
+// A start of the table.
+fn start_row(r: [usize; 6]) {
+    start(r[0], r[1], r[2], r[3], r[4], r[5]);
+}
+
+fn starts() {
+    let mut i: usize = 0;
+    while i < 45 {
+        start_row(start_at(i));
+        i += 1;
+    }
+}
+
+fn step_at(i: usize) -> [usize; 9]
+    requires { ⌜ i < 40 ⌝ }
+{
+    STEPS[i]
+}
+
+// A step of the table.
+fn step_row(r: [usize; 9]) {
+    let s = given(r[0], r[1], r[2], r[3], r[4], r[5]);
+    step(s, r[6], r[7], r[8]);
+}
+
+fn steps() {
+    let mut i: usize = 0;
+    while i < 40 {
+        step_row(step_at(i));
+        i += 1;
+    }
+}
+
+fn print_outcome(o: Outcome) {
+    match o {
+        Outcome::Open => text(b" open"),
+        Outcome::Agreed => text(b" agreed"),
+        Outcome::None => text(b" none"),
+        Outcome::Beyond => text(b" beyond"),
+    }
+}
+
+fn print_byte(x: u8) {
+    io::print_hex(STDOUT_FILENO, x as u64, 2);
+}
+
+fn print_bytes(s: &[u8]) {
+    let mut p: usize = 0;
+    while p < s.len() {
+        print_byte(s[p]);
+        p += 1;
+    }
+}
+
+// A space and the bytes; a dash for none.
+fn print_slice(s: &[u8]) {
+    if s.len() == 0 {
+        text(b" -");
+        return;
+    }
+    text(b" ");
+    print_bytes(s);
+}
+
+fn print_call(c: usize, n: u8, s: State) {
+    let outcome = s.outcome;
+    text(b"call");
+    number(c);
+    text(b":");
+    number(n as usize);
+    number(s.next);
+    print_outcome(outcome);
+}
+
+// A step of a run; the outbox is lent with other bytes.
+fn call_with(s: State, block: &mut [u8], inbox: &mut [u8], outbox: &mut [u8]) -> State {
+    wire::silence(inbox);
+    fill(outbox);
+    let r = controller::step(s, block, inbox, outbox);
+    let state = r.state;
+    print_call(s.next, r.number, state);
+    print_slice(block);
+    print_slice(outbox);
+    text(b"\n");
+    state
+}
+
+fn call_cut(s: State, block: &mut [u8], inbox: &mut [u8], outbox: &mut [u8]) -> State {
+    let i = fitting(wire::inbox_length(s.n, s.t, s.k, s.next), inbox);
+    let o = fitting(wire::outbox_length(s.n, s.t, s.k, s.next), outbox);
+    call_with(s, block, &mut inbox[..i], &mut outbox[..o])
+}
+
+// A step with a silent inbox, the lengths being those of the next call.
+fn call(s: State, block: &mut [u8]) -> State {
+    let mut inbox_space = io::buffer();
+    let mut outbox_space = io::buffer();
+    let inbox: &mut [u8] = &mut inbox_space;
+    let outbox: &mut [u8] = &mut outbox_space;
+    call_cut(s, block, inbox, outbox)
+}
+
+// So many steps.
+fn calls(s: State, count: usize, block: &mut [u8]) {
+    let mut state = s;
+    let mut c: usize = 0;
+    while c < count {
+        state = call(state, block);
+        c += 1;
+    }
+}
+
+// All calls with silent inboxes, and two more steps.
+fn run(n: usize, t: usize, k: usize, own: usize, sender: usize, block: &mut [u8]) {
+    let r = controller::start(n, t, k, own, sender, block);
+    let s = r.state;
+    text(b"run");
+    print_settings(s);
+    print_slice(block);
+    text(b"\n");
+    calls(s, longer(longer(wire::calls(t))), block);
+}
+
+fn run_small() {
+    let mut block = [10u8, 20];
+    run(4, 1, 1, 1, 1, &mut block);
+}
+
+fn run_sender() {
+    let mut block = [10u8, 20, 30, 40, 50, 60];
+    run(7, 2, 2, 2, 2, &mut block);
+}
+
+fn run_other() {
+    let mut block = [10u8, 20, 30, 40, 50, 60];
+    run(7, 2, 2, 4, 2, &mut block);
+}
+
+fn main() {
+    starts();
+    step(plain(0, 0, 0, 0, 0, 0), 0, 0, 0);
+    steps();
+    lengths(4, 1, 1);
+    lengths(7, 2, 2);
+    lengths(16, 5, 3);
+    run_small();
+    run_sender();
+    run_other();
+}
