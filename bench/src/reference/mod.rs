@@ -4,3 +4,4 @@ pub mod field;
 pub mod wire;
 pub mod vote;
 pub mod star;
+pub mod code;
