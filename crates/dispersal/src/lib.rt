@@ -123,23 +123,6 @@ pub fn send_pieces(n: usize, t: usize, k: usize, own: usize, block: &[u8], outbo
     }
 }
 
-// Whether two lists of bytes are equal.
-fn is_equal(a: &[u8], b: &[u8]) -> bool
-    ensures { λ r. ⌜ r ≡ same (now (a .entry)) (now (b .entry)) ⌝ }
-{
-    if a.len() != b.len() {
-        return false;
-    }
-    let mut i: usize = 0;
-    while i < a.len() {
-        if a[i] != b[i] {
-            return false;
-        }
-        i += 1;
-    }
-    true
-}
-
 // Whether the first piece of a message is the second of m, and its second the first of m.
 fn is_swapped(message: &[u8], m: &[u8], k: usize) -> bool
     requires { ⌜ length (now m) ≡ 2 * k ⌝ }
@@ -148,10 +131,10 @@ fn is_swapped(message: &[u8], m: &[u8], k: usize) -> bool
     if message.len() < k {
         return false;
     }
-    if !is_equal(&message[..k], &m[k..]) {
+    if !wire::is_equal(&message[..k], &m[k..]) {
         return false;
     }
-    is_equal(&message[k..], &m[..k])
+    wire::is_equal(&message[k..], &m[..k])
 }
 
 // Whether j is marked. The own piece is the first of m; piece j is written behind it.

@@ -107,23 +107,6 @@ pub fn forward(n: usize, t: usize, k: usize, own: usize, core: u16, block: &[u8]
     }
 }
 
-// Whether a and b are equal, byte by byte.
-fn is_same(a: &[u8], b: &[u8]) -> bool
-    ensures { λ r. ⌜ r ≡ same (now (a .entry)) (now (b .entry)) ⌝ }
-{
-    if a.len() != b.len() {
-        return false;
-    }
-    let mut i: usize = 0;
-    while i < a.len() {
-        if a[i] != b[i] {
-            return false;
-        }
-        i += 1;
-    }
-    true
-}
-
 // Whether the controller of index i is a core member and sent m.
 fn is_vote(core: u16, inbox: &[u8], len: usize, i: usize, m: &[u8]) -> bool
     requires { ⌜ i < 16 ⌝ }
@@ -132,7 +115,7 @@ fn is_vote(core: u16, inbox: &[u8], len: usize, i: usize, m: &[u8]) -> bool
     if !bitset::member(core, i) {
         return false;
     }
-    is_same(wire::message(inbox, len, i + 1), m)
+    wire::is_equal(wire::message(inbox, len, i + 1), m)
 }
 
 // How many core members sent m.

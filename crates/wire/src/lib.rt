@@ -5,6 +5,7 @@ ghost use mathlib.Core.Bool.{cond, _&&_};
 ghost use Prim.Native.Nat.{_+_, _-_, _*_, _≤_, _<_};
 ghost use lib.Dec.{eqb};
 ghost use lib.ListN.{length, replicate};
+ghost use Rattle.lists.specs.Same.{same};
 ghost use Rattle.settings.specs.Refusal.{outside};
 ghost use Rattle.settings.specs.Valid.{Coded};
 ghost use Rattle.wire.specs.Round.{roundCount, callCount, phaseRound, lastRound, roundKind, phaseCall, lastCall, callKind, phaseOf};
@@ -426,4 +427,22 @@ fn fill_slots(outbox: &mut [u8], n: usize, len: usize, m: &[u8])
         send_one(outbox, len, j + 1, m);
         j += 1;
     }
+}
+
+// Whether two messages are equal, byte for byte.
+// Shut out: equal where a is a front of b; bytes told apart only where that of a is smaller.
+pub fn is_equal(a: &[u8], b: &[u8]) -> bool
+    ensures { λ r. ⌜ r ≡ same (now (a .entry)) (now (b .entry)) ⌝ }
+{
+    if a.len() != b.len() {
+        return false;
+    }
+    let mut i: usize = 0;
+    while i < a.len() {
+        if a[i] != b[i] {
+            return false;
+        }
+        i += 1;
+    }
+    true
 }

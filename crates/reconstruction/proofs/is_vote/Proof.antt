@@ -25,16 +25,16 @@ add-message c = search needs
 message-requires : tie.Need-message-requires
 message-requires c κs = search needs
 
-is-same-requires : tie.Need-is-same-requires
-is-same-requires c κs = search needs
+is-equal-requires : tie.Need-is-equal-requires
+is-equal-requires c κs = search needs
 
 returns-2 : tie.Need-returns-2
 returns-2 c =
     let a = c .before .before .before .before .before .before .args in
-    c .is-same .ensures ∙ ap (λ (l : List ℕ). same l (a .m .now)) (c .before .message .ensures)
+    c .is-equal .ensures ∙ ap (λ (l : List ℕ). same l (a .m .now)) (c .before .message .ensures)
     ∙ sym (and-tail (member (a .core) (a .i)) (same (messageOf (a .inbox .now) (a .len) (a .i + 1)) (a .m .now)) (sym (c .before .before .before .member .ensures) ∙ not-false _ (c .before .before .if1 .left)))
 
 pub is-vote-spec : {M : Type 1} → statement M
 is-vote-spec =
     tie.close
-    (tie.spec member-requires returns add-message message-requires is-same-requires returns-2)
+    (tie.spec member-requires returns add-message message-requires is-equal-requires returns-2)

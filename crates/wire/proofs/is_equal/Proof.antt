@@ -5,8 +5,8 @@ use borrow.Author.Count.{below-more}
 use native.Mathlib.Omega.{arith}
 use Prim.Native.Nat.{ℕ, _-_, _≤_, _<_}
 use mathlib.Core.Path.{_≡_, sym}
-use Rattle.dispersal.proofs.is_equal.Statement.{statement}
-use Rattle.dispersal.proofs.is_equal.Tie as tie
+use Rattle.wire.proofs.is_equal.Statement.{statement}
+use Rattle.wire.proofs.is_equal.Tie as tie
 
 abbrev Inv-loop : tie.InvT-loop
 Inv-loop a b i₀ i = (i ≤ length a) × (length a ≡ length b) × ((j : ℕ) → j < i → getD a j 0 ≡ getD b j 0)
