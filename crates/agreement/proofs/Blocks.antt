@@ -20,7 +20,8 @@ use Rattle.wire.proofs.Laws.{call-send, call-receive, call-compare, length-of, 
 use Rattle.reed_solomon.specs.Encode.{pieceOf}
 use Rattle.dispersal.specs.Dispersal.{sentBlock, receivedBlock, traded, sentPieces, isMarked, marksOf, marksMessage, sentMarks}
 use Rattle.dispersal.proofs.Laws.{sent-block, received-message, received-length, received-all, sent-pieces, traded-is, marks-set, marked-true, true-marked, sent-marks}
-use Rattle.protocol.specs.Calls.{Carried, callOf}
+use Rattle.protocol.specs.Calls.{Carried, sendCall, receiveCall, compareCall}
+use Rattle.protocol.proofs.Laws.{of-send, of-receive, of-compare}
 use Rattle.agreement.specs.Run.{Held}
 use Rattle.agreement.specs.Agreement.{System, Correct, Supposed, call}
 use Rattle.agreement.proofs.System.{lenOf, coded, numbered, block-size, call-at, call-first, outbox-long, block-long, performs-kind, block-from, delivered}
@@ -43,13 +44,12 @@ module _ (S : System) (H : Supposed S) where
 
     -- ---- call 2
     received : held S i ≡ receivedBlock (call S i 2 .lent .inbox) (lenOf S 1) (S .sender) (call S i 2 .before .block)
-    unfolding callOf
     received =
         let m = call S i 2 in
         let r = call-at S H i f 2 (omega arith) (omega arith) in
         let a = r .before-at in
         r .block-is
-        ∙ ap (λ (x : Carried). x .block) (performs-kind S H i f 2 (omega arith) (omega arith) Receive (call-receive (S .t)))
+        ∙ ap (λ (x : Carried). x .block) (performs-kind S H i f 2 (omega arith) (omega arith) Receive (call-receive (S .t)) receiveCall of-receive)
         ∙ (λ x. receivedBlock (m .lent .inbox) (messageLength (a .n-is x) (a .t-is x) (a .k-is x) (a .next-is x - 1)) (a .sender-is x) (m .before .block))
 
     long-2 : length (call S i 2 .before .block) ≡ lenOf S 1
@@ -67,13 +67,12 @@ module _ (S : System) (H : Supposed S) where
 
     -- round 2: to j the own piece, then piece j
     pub pieces-sent : call S i 2 .sends ≡ slots (lenOf S 2) (traded (S .k) (S .t) i (held S i)) (S .n)
-    unfolding callOf
     pieces-sent =
         let m = call S i 2 in
         let r = call-at S H i f 2 (omega arith) (omega arith) in
         let a = r .before-at in
         r .sends-is
-        ∙ ap (λ (x : Carried). x .outbox) (performs-kind S H i f 2 (omega arith) (omega arith) Receive (call-receive (S .t)))
+        ∙ ap (λ (x : Carried). x .outbox) (performs-kind S H i f 2 (omega arith) (omega arith) Receive (call-receive (S .t)) receiveCall of-receive)
         ∙ (λ x. sentPieces (a .n-is x) (a .t-is x) (a .k-is x) (a .own-is x)
         (receivedBlock (m .lent .inbox) (messageLength (a .n-is x) (a .t-is x) (a .k-is x) (a .next-is x - 1)) (a .sender-is x) (m .before .block)) (m .lent .outbox))
         ∙ ap (λ (b : List ℕ). sentPieces (S .n) (S .t) (S .k) i b (m .lent .outbox)) (sym received)
@@ -86,13 +85,13 @@ module _ (S : System) (H : Supposed S) where
     marks = marksOf (S .n) (S .t) (S .k) i (call S i 3 .lent .inbox) (lenOf S 2) (held S i)
 
     pub marks-sent : call S i 3 .sends ≡ slots (lenOf S 3) (λ _. bytes (marksMessage (S .n) marks)) (S .n)
-    unfolding callOf marks
+    unfolding marks
     marks-sent =
         let m = call S i 3 in
         let r = call-at S H i f 3 (omega arith) (omega arith) in
         let a = r .before-at in
         r .sends-is
-        ∙ ap (λ (x : Carried). x .outbox) (performs-kind S H i f 3 (omega arith) (omega arith) Compare (call-compare (S .t)))
+        ∙ ap (λ (x : Carried). x .outbox) (performs-kind S H i f 3 (omega arith) (omega arith) Compare (call-compare (S .t)) compareCall of-compare)
         ∙ (λ x. sentMarks (a .n-is x) (marksOf (a .n-is x) (a .t-is x) (a .k-is x) (a .own-is x) (m .lent .inbox)
         (messageLength (a .n-is x) (a .t-is x) (a .k-is x) (a .next-is x - 1)) (block-from S H i f 3 (omega arith) (omega arith) x)) (m .lent .outbox))
         ∙ sent-marks (S .n) (marksOf (S .n) (S .t) (S .k) i (m .lent .inbox) (lenOf S 2) (held S i)) (m .lent .outbox)
@@ -119,7 +118,6 @@ module _ (S : System) (H : Supposed S) where
   -- ---- the sender is correct
   module _ (g : Correct S (S .sender)) where
     sent : call S (S .sender) 1 .sends ≡ slots (lenOf S 1) (λ _. bytes (S .block (S .sender))) (S .n)
-    unfolding callOf
     sent =
         let i = S .sender in
         let m = call S i 1 in
@@ -128,7 +126,7 @@ module _ (S : System) (H : Supposed S) where
         let b : m .before .block ≡ S .block i = ap (λ (h : Held). h .block) (call-first S H i g) in
         let long : length (S .block i) ≡ lenOf S 1 = block-size S H i g ∙ sym (len-1 i g) in
         r .sends-is
-        ∙ ap (λ (x : Carried). x .outbox) (performs-kind S H i g 1 (omega arith) (omega arith) Send (call-send (S .t)))
+        ∙ ap (λ (x : Carried). x .outbox) (performs-kind S H i g 1 (omega arith) (omega arith) Send (call-send (S .t)) (λ s b _ o. sendCall s b o) of-send)
         ∙ (λ x. sentBlock (a .n-is x) (a .own-is x) (a .sender-is x) (b x) (m .lent .outbox))
         ∙ sent-block (S .n) i i (S .block i) (m .lent .outbox) refl (outbox-long S H i g 1 (omega arith) (omega arith) ∙ ap (λ (x : ℕ). S .n * width x) (sym long))
         ∙ ap (λ (x : ℕ). slots x (λ _. bytes (S .block i)) (S .n)) long

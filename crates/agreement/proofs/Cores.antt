@@ -19,7 +19,8 @@ use Rattle.reed_solomon.specs.Encode.{pieceOf}
 use Rattle.matching.specs.Graph.{neighbour}
 use Rattle.protocol.specs.Calls.{coreOf}
 use Rattle.protocol.specs.declared.State.{State}
-use Rattle.protocol.specs.Calls.{Carried, callOf}
+use Rattle.protocol.specs.Calls.{Carried, coreCall, chooseCall}
+use Rattle.protocol.proofs.Laws.{of-core, of-choose}
 use Rattle.agreement.specs.Run.{Held}
 use Rattle.agreement.specs.Agreement.{System, Correct, Supposed, last, call}
 use Rattle.agreement.proofs.System.{coded, call-at, call-next, performs-kind}
@@ -38,15 +39,14 @@ module _ (S : System) (H : Supposed S) where
     few-rows = coded S H i f .quorum .n-most
 
     pub core-of : call S i (3 * S .t + 7) .after .state .core ≡ coreOf (matrixOf S i) (S .n) (S .t)
-    unfolding callOf
     core-of =
         let m = call S i (3 * S .t + 7) in
         let r = call-at S H i f (3 * S .t + 7) (omega arith) (omega arith) in
         let a = r .before-at in
-        let is = performs-kind S H i f (3 * S .t + 7) (omega arith) (omega arith) Core (call-core (S .t)) in
+        let is = performs-kind S H i f (3 * S .t + 7) (omega arith) (omega arith) Core (call-core (S .t)) coreCall of-core in
         ap (λ (s : State). s .core) (r .state-is)
         ∙ ap (λ (x : Carried). x .state .core) is
-        ∙ (λ x. coreOf (callOf Core (m .before .state) (m .before .block) (m .lent .inbox) (m .lent .outbox) .state .matrix) (a .n-is x) (a .t-is x))
+        ∙ (λ x. coreOf (coreCall (m .before .state) (m .before .block) (m .lent .inbox) (m .lent .outbox) .state .matrix) (a .n-is x) (a .t-is x))
         ∙ ap (λ (x : List ℕ). coreOf x (S .n) (S .t)) (sym (ap (λ (s : State). s .matrix) (r .state-is) ∙ ap (λ (x : Carried). x .state .matrix) is))
 
     -- the core at the two calls after it
@@ -58,14 +58,13 @@ module _ (S : System) (H : Supposed S) where
         ∙ core-of
 
     pub core-last : call S i (last S) .before .state .core ≡ coreOf (matrixOf S i) (S .n) (S .t)
-    unfolding callOf
     core-last =
         let e : last S ≡ 3 * S .t + 8 + 1 = omega arith in
         let r = call-at S H i f (3 * S .t + 8) (omega arith) (omega arith) in
         ap (λ (c : ℕ). call S i c .before .state .core) e
         ∙ ap (λ (h : Held). h .state .core) (call-next S H i f (3 * S .t + 8) (omega arith) (omega arith))
         ∙ ap (λ (s : State). s .core) (r .state-is)
-        ∙ ap (λ (x : Carried). x .state .core) (performs-kind S H i f (3 * S .t + 8) (omega arith) (omega arith) Choose (call-choose (S .t)))
+        ∙ ap (λ (x : Carried). x .state .core) (performs-kind S H i f (3 * S .t + 8) (omega arith) (omega arith) Choose (call-choose (S .t)) chooseCall of-choose)
         ∙ core-choose
 
   -- all correct controllers have one core

@@ -22,7 +22,8 @@ use Rattle.reconstruction.specs.declared.Outcome.the-variants.{Agreed, None}
 use Rattle.reconstruction.specs.Reconstruction.{Finished as Final, decodedOutcome, finished}
 use Rattle.reconstruction.proofs.Laws.{finished-none, finished-else}
 use Rattle.protocol.specs.declared.State.{State}
-use Rattle.protocol.specs.Calls.{Carried, callOf}
+use Rattle.protocol.specs.Calls.{Carried, finishCall}
+use Rattle.protocol.proofs.Laws.{of-finish}
 use Rattle.agreement.specs.Run.{Held}
 use Rattle.agreement.specs.Agreement.{System, Correct, Supposed, last, call, lastCore, lastInbox, outcomeOf, blockOf, SetByLast}
 use Rattle.agreement.proofs.System.{block-size, call-at, call-last, inbox-long, block-long, performs-kind}
@@ -52,25 +53,25 @@ module _ (S : System) (H : Supposed S) where
     final = finished (S .n) (S .t) (S .k) (lastCore S i) (lastInbox S i) (call S i (last S) .before .block)
 
     outcome-final : outcomeOf S i ≡ final .outcome
-    unfolding callOf final
+    unfolding final
     outcome-final =
         let m = call S i (last S) in
         let r = call-at S H i f (last S) (omega arith) (omega arith) in
         let a = r .before-at in
         ap (λ (h : Held). h .state .outcome) (sym (call-last S H i f))
         ∙ ap (λ (s : State). s .outcome) (r .state-is)
-        ∙ ap (λ (x : Carried). x .state .outcome) (performs-kind S H i f (last S) (omega arith) (omega arith) Finish (call-finish (S .t)))
+        ∙ ap (λ (x : Carried). x .state .outcome) (performs-kind S H i f (last S) (omega arith) (omega arith) Finish (call-finish (S .t)) finishCall of-finish)
         ∙ (λ x. finished (a .n-is x) (a .t-is x) (a .k-is x) (m .before .state .core) (m .lent .inbox) (m .before .block) .outcome)
 
     block-final : blockOf S i ≡ final .block
-    unfolding callOf final
+    unfolding final
     block-final =
         let m = call S i (last S) in
         let r = call-at S H i f (last S) (omega arith) (omega arith) in
         let a = r .before-at in
         ap (λ (h : Held). h .block) (sym (call-last S H i f))
         ∙ r .block-is
-        ∙ ap (λ (x : Carried). x .block) (performs-kind S H i f (last S) (omega arith) (omega arith) Finish (call-finish (S .t)))
+        ∙ ap (λ (x : Carried). x .block) (performs-kind S H i f (last S) (omega arith) (omega arith) Finish (call-finish (S .t)) finishCall of-finish)
         ∙ (λ x. finished (a .n-is x) (a .t-is x) (a .k-is x) (m .before .state .core) (m .lent .inbox) (m .before .block) .block)
 
     -- no core

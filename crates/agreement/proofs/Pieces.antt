@@ -19,7 +19,8 @@ use Rattle.protocol.specs.Calls.{coreOf}
 use Rattle.reconstruction.specs.Reconstruction.{inCore, forwarded, ownPiece, shared}
 use Rattle.reconstruction.proofs.Laws.{in-core, forwarded-member, shared-sends, own-member, own-other, chosen}
 use Rattle.protocol.specs.declared.State.{State}
-use Rattle.protocol.specs.Calls.{Carried, callOf}
+use Rattle.protocol.specs.Calls.{Carried, coreCall, chooseCall}
+use Rattle.protocol.proofs.Laws.{of-core, of-choose}
 use Rattle.agreement.specs.Agreement.{System, Correct, Supposed, last, call}
 use Rattle.agreement.proofs.System.{lenOf, coded, numbered, call-at, outbox-long, performs-kind, block-from, delivered}
 use Rattle.agreement.proofs.Coding.{Code}
@@ -41,13 +42,12 @@ module _ (S : System) (H : Supposed S) where
 
     -- a core member sends to x piece x of its own coding
     forward-sent : member coreAt (i - 1) ≡ true → call S i (3 * S .t + 7) .sends ≡ slots (lenOf S (3 * S .t + 7)) (λ x. bytes (pieceOf (S .k) (S .t) (held S i) x)) (S .n)
-    unfolding callOf
     forward-sent y =
         let m = call S i (3 * S .t + 7) in
         let r = call-at S H i f (3 * S .t + 7) (omega arith) (omega arith) in
         let a = r .before-at in
-        let is = performs-kind S H i f (3 * S .t + 7) (omega arith) (omega arith) Core (call-core (S .t)) in
-        let e : callOf Core (m .before .state) (m .before .block) (m .lent .inbox) (m .lent .outbox) .state .core ≡ coreAt =
+        let is = performs-kind S H i f (3 * S .t + 7) (omega arith) (omega arith) Core (call-core (S .t)) coreCall of-core in
+        let e : coreCall (m .before .state) (m .before .block) (m .lent .inbox) (m .lent .outbox) .state .core ≡ coreAt =
         sym (ap (λ (s : State). s .core) (r .state-is) ∙ ap (λ (x : Carried). x .state .core) is) ∙ core-of S H i f in
         r .sends-is
         ∙ ap (λ (x : Carried). x .outbox) is
@@ -91,14 +91,13 @@ module _ (S : System) (H : Supposed S) where
           (either (inCore e i))
 
       pub piece-sent : call S i (3 * S .t + 8) .sends ≡ slots (lenOf S (3 * S .t + 8)) (λ _. bytes (pieceOf (S .k) (S .t) B i)) (S .n)
-      unfolding callOf
       piece-sent =
           let m = call S i (3 * S .t + 8) in
           let r = call-at S H i f (3 * S .t + 8) (omega arith) (omega arith) in
           let a = r .before-at in
           let n : 3 * S .t + 8 - 1 ≡ 3 * S .t + 7 = omega arith in
           r .sends-is
-          ∙ ap (λ (x : Carried). x .outbox) (performs-kind S H i f (3 * S .t + 8) (omega arith) (omega arith) Choose (call-choose (S .t)))
+          ∙ ap (λ (x : Carried). x .outbox) (performs-kind S H i f (3 * S .t + 8) (omega arith) (omega arith) Choose (call-choose (S .t)) chooseCall of-choose)
           ∙ (λ x. shared (a .n-is x) (a .t-is x) (a .k-is x) (a .own-is x) ((core-choose S H i f ∙ core-is i f) x) (m .lent .inbox)
           (messageLength (a .n-is x) (a .t-is x) (a .k-is x) (a .next-is x - 1)) (block-from S H i f (3 * S .t + 8) (omega arith) (omega arith) x) (m .lent .outbox))
           ∙ ap (λ (c : ℕ). shared (S .n) (S .t) (S .k) i e (m .lent .inbox) (lenOf S c) (held S i) (m .lent .outbox)) n

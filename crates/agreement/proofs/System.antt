@@ -2,6 +2,7 @@
 -- `call-last` (how they go on from one another), `block-from` (the block between call 2 and the last), and `delivered` (what i sent to j in
 -- round c is what j's call c + 1 reads).
 use mathlib.Core.Path.{_≡_, refl, sym, ap, subst, _∙_}
+use mathlib.Core.List.{List}
 use Prim.Native.Nat.{ℕ, zero, suc, _+_, _-_, _*_, _≤_, _<_}
 use native.Mathlib.Nat.{mul-le-mul-right}
 use native.Mathlib.Omega.{arith}
@@ -114,14 +115,16 @@ module _ (S : System) (H : Supposed S) (i : ℕ) (f : Correct S i) where
       let a = r .before-at in
       r .ready .block-length ∙ (λ x. blockLength (a .k-is x) (a .t-is x))
 
-  -- the call that is performed, by its kind
+  -- the call that is performed, by its kind: what D says, where a call of that kind is D
   pub performs-kind : (c : ℕ) → 1 ≤ c → c ≤ last S → (kind : Call) → callKind (S .t) c ≡ kind
+      → (D : State → List ℕ → List ℕ → List ℕ → Carried) → ((s : State) (b x o : List ℕ) → callOf kind s b x o ≡ D s b x o)
       → performs (call S i c .before) (call S i c .lent)
-      ≡ callOf kind (call S i c .before .state) (call S i c .before .block) (call S i c .lent .inbox) (call S i c .lent .outbox)
-  performs-kind c least most kind e =
+      ≡ D (call S i c .before .state) (call S i c .before .block) (call S i c .lent .inbox) (call S i c .lent .outbox)
+  performs-kind c least most kind e D does =
       let m = call S i c in
       let a = call-at c least most .before-at in
       ap (λ (x : Call). callOf x (m .before .state) (m .before .block) (m .lent .inbox) (m .lent .outbox)) ((λ x. callKind (a .t-is x) (a .next-is x)) ∙ e)
+      ∙ does (m .before .state) (m .before .block) (m .lent .inbox) (m .lent .outbox)
 
   -- ---- the block from call 3 on is what call 2 left
   block-kept : (c : ℕ) → 3 ≤ c → c < last S → call S i c .after .block ≡ call S i c .before .block
@@ -130,7 +133,7 @@ module _ (S : System) (H : Supposed S) (i : ℕ) (f : Correct S i) where
       let r = call-at c (omega arith) (omega arith) in
       let kinds = block-call (S .t) c least (omega arith) in
       r .block-is
-      ∙ ap (λ (x : Carried). x .block) (performs-kind c (omega arith) (omega arith) (callKind (S .t) c) refl)
+      ∙ ap (λ (x : Carried). x .block) (performs-kind c (omega arith) (omega arith) (callKind (S .t) c) refl (callOf (callKind (S .t) c)) (λ s b x o. refl))
       ∙ call-block (callKind (S .t) c) (m .before .state) (m .before .block) (m .lent .inbox) (m .lent .outbox) (kinds .0) (kinds .1)
 
   block-add : (d : ℕ) → d + 3 ≤ last S → call S i (d + 3) .before .block ≡ call S i 2 .after .block

@@ -28,7 +28,8 @@ use Rattle.phase_king.specs.Matrix.{firstMatrix, zerosOf, onesOf, heldOf, weakO
 use Rattle.phase_king.specs.Vote.{System as Voters, MatrixPhase, Agreed, phaseCount}
 use Rattle.phase_king.proofs.Laws.{vote-in-order, marks-kept, seen-length}
 use Rattle.protocol.specs.declared.State.{State}
-use Rattle.protocol.specs.Calls.{Carried, callOf}
+use Rattle.protocol.specs.Calls.{Carried, collectCall, tallyCall, holdCall, settleCall, coreCall, callOf}
+use Rattle.protocol.proofs.Laws.{of-collect, of-tally, of-hold, of-settle, of-core}
 use Rattle.agreement.specs.Run.{Held}
 use Rattle.agreement.specs.Agreement.{System, Correct, Supposed, last, call}
 use Rattle.agreement.proofs.System.{lenOf, coded, call-at, call-next, outbox-long, performs-kind, delivered}
@@ -99,41 +100,40 @@ module _ (S : System) (H : Supposed S) where
 
     -- ---- call 4
     first-rows : call S i 4 .after .state .matrix ≡ firstMatrix (call S i 4 .lent .inbox) (lenOf S 3) (S .n)
-    unfolding callOf
     first-rows =
         let m = call S i 4 in
         let r = call-at S H i f 4 (omega arith) (omega arith) in
         let a = r .before-at in
         ap (λ (s : State). s .matrix) (r .state-is)
-        ∙ ap (λ (x : Carried). x .state .matrix) (performs-kind S H i f 4 (omega arith) (omega arith) Collect (call-collect (S .t)))
+        ∙ ap (λ (x : Carried). x .state .matrix) (performs-kind S H i f 4 (omega arith) (omega arith) Collect (call-collect (S .t)) collectCall of-collect)
         ∙ (λ x. firstMatrix (m .lent .inbox) (messageLength (a .n-is x) (a .t-is x) (a .k-is x) (a .next-is x - 1)) (a .n-is x))
 
     first-sent : call S i 4 .sends ≡ toAll (S .n) (rowsOf (S .n) (call S i 4 .after .state .matrix)) (call S i 4 .lent .outbox)
-    unfolding callOf
     first-sent =
         let m = call S i 4 in
         let r = call-at S H i f 4 (omega arith) (omega arith) in
         let a = r .before-at in
-        let is = performs-kind S H i f 4 (omega arith) (omega arith) Collect (call-collect (S .t)) in
+        let is = performs-kind S H i f 4 (omega arith) (omega arith) Collect (call-collect (S .t)) collectCall of-collect in
         r .sends-is
         ∙ ap (λ (x : Carried). x .outbox) is
-        ∙ (λ x. toAll (a .n-is x) (rowsOf (a .n-is x) (callOf Collect (m .before .state) (m .before .block) (m .lent .inbox) (m .lent .outbox) .state .matrix)) (m .lent .outbox))
+        ∙ (λ x. toAll (a .n-is x) (rowsOf (a .n-is x) (collectCall (m .before .state) (m .before .block) (m .lent .inbox) (m .lent .outbox) .state .matrix)) (m .lent .outbox))
         ∙ ap (λ (x : List ℕ). toAll (S .n) (rowsOf (S .n) x) (m .lent .outbox)) (sym (ap (λ (s : State). s .matrix) (r .state-is) ∙ ap (λ (x : Carried). x .state .matrix) is))
 
     -- ---- the call after the king's round of phase p: it settles the matrix
     module _ (p : ℕ) (l : p < suc (S .t)) where
       settled-kind : (kind : Call) → callKind (S .t) (3 * p + 7) ≡ kind
-          → ((s : State) (b x o : List ℕ) → callOf kind s b x o .state .matrix ≡ settledOf (s .matrix) (s .weak) x (messageLength (s .n) (s .t) (s .k) (s .next - 1)) (s .n) (phaseOf (s .next - 1)))
+          → (D : State → List ℕ → List ℕ → List ℕ → Carried) → ((s : State) (b x o : List ℕ) → callOf kind s b x o ≡ D s b x o)
+          → ((s : State) (b x o : List ℕ) → D s b x o .state .matrix ≡ settledOf (s .matrix) (s .weak) x (messageLength (s .n) (s .t) (s .k) (s .next - 1)) (s .n) (phaseOf (s .next - 1)))
           → call S i (3 * p + 7) .after .state .matrix
           ≡ settledOf (call S i (3 * p + 7) .before .state .matrix) (call S i (3 * p + 7) .before .state .weak) (call S i (3 * p + 7) .lent .inbox) (lenOf S (3 * p + 6)) (S .n) (p + 1)
-      settled-kind kind is law =
+      settled-kind kind is D does law =
           let m = call S i (3 * p + 7) in
           let r = call-at S H i f (3 * p + 7) (omega arith) (omega arith) in
           let a = r .before-at in
           let e : 3 * p + 7 - 1 ≡ 3 * p + 6 = omega arith in
           let q : 3 * p + 6 ≡ 3 * (p + 1) + 3 = omega arith in
           ap (λ (s : State). s .matrix) (r .state-is)
-          ∙ ap (λ (x : Carried). x .state .matrix) (performs-kind S H i f (3 * p + 7) (omega arith) (omega arith) kind is)
+          ∙ ap (λ (x : Carried). x .state .matrix) (performs-kind S H i f (3 * p + 7) (omega arith) (omega arith) kind is D does)
           ∙ law (m .before .state) (m .before .block) (m .lent .inbox) (m .lent .outbox)
           ∙ (λ x. settledOf (m .before .state .matrix) (m .before .state .weak) (m .lent .inbox) (messageLength (a .n-is x) (a .t-is x) (a .k-is x) (a .next-is x - 1)) (a .n-is x) (phaseOf (a .next-is x - 1)))
           ∙ ap₂ (λ (x y : ℕ). settledOf (m .before .state .matrix) (m .before .state .weak) (m .lent .inbox) (messageLength (S .n) (S .t) (S .k) x) (S .n) y)
@@ -141,15 +141,14 @@ module _ (S : System) (H : Supposed S) where
 
       settled-rows : call S i (3 * p + 7) .after .state .matrix
           ≡ settledOf (call S i (3 * p + 7) .before .state .matrix) (call S i (3 * p + 7) .before .state .weak) (call S i (3 * p + 7) .lent .inbox) (lenOf S (3 * p + 6)) (S .n) (p + 1)
-      unfolding callOf
       settled-rows =
           ⊎-elim
           (λ (e : p ≡ S .t).
           let q : 3 * p + 7 ≡ 3 * S .t + 7 = omega arith in
-          settled-kind Core (ap (callKind (S .t)) q ∙ call-core (S .t)) (λ s b x o. refl))
+          settled-kind Core (ap (callKind (S .t)) q ∙ call-core (S .t)) coreCall of-core (λ s b x o. refl))
           (λ (n : p ≡ S .t → ⊥).
           let q : 3 * p + 7 ≡ 3 * (p + 1) + 4 = omega arith in
-          settled-kind Settle (ap (callKind (S .t)) q ∙ call-settle (S .t) (p + 1) (omega arith) (omega arith)) (λ s b x o. refl))
+          settled-kind Settle (ap (callKind (S .t)) q ∙ call-settle (S .t) (p + 1) (omega arith) (omega arith)) settleCall of-settle (λ s b x o. refl))
           (same-or-not p (S .t))
 
       -- ---- call 3p + 6 of phase p, counted from 0: the bits held
@@ -159,32 +158,29 @@ module _ (S : System) (H : Supposed S) where
           ap (callKind (S .t)) e ∙ call-hold (S .t) (p + 1) (omega arith) (omega arith)
 
       held-rows : call S i (3 * p + 6) .after .state .matrix ≡ heldOf (call S i (3 * p + 6) .lent .inbox) (lenOf S (3 * p + 5)) (S .n) (S .t)
-      unfolding callOf
       held-rows =
           let m = call S i (3 * p + 6) in
           let r = call-at S H i f (3 * p + 6) (omega arith) (omega arith) in
           let a = r .before-at in
           let e : 3 * p + 6 - 1 ≡ 3 * p + 5 = omega arith in
           ap (λ (s : State). s .matrix) (r .state-is)
-          ∙ ap (λ (x : Carried). x .state .matrix) (performs-kind S H i f (3 * p + 6) (omega arith) (omega arith) Hold hold-kind)
+          ∙ ap (λ (x : Carried). x .state .matrix) (performs-kind S H i f (3 * p + 6) (omega arith) (omega arith) Hold hold-kind holdCall of-hold)
           ∙ (λ x. heldOf (m .lent .inbox) (messageLength (a .n-is x) (a .t-is x) (a .k-is x) (a .next-is x - 1)) (a .n-is x) (a .t-is x))
           ∙ ap (λ (x : ℕ). heldOf (m .lent .inbox) (lenOf S x) (S .n) (S .t)) e
 
       weak-rows : call S i (3 * p + 6) .after .state .weak ≡ weakOf (call S i (3 * p + 6) .lent .inbox) (lenOf S (3 * p + 5)) (S .n) (S .t)
-      unfolding callOf
       weak-rows =
           let m = call S i (3 * p + 6) in
           let r = call-at S H i f (3 * p + 6) (omega arith) (omega arith) in
           let a = r .before-at in
           let e : 3 * p + 6 - 1 ≡ 3 * p + 5 = omega arith in
           ap (λ (s : State). s .weak) (r .state-is)
-          ∙ ap (λ (x : Carried). x .state .weak) (performs-kind S H i f (3 * p + 6) (omega arith) (omega arith) Hold hold-kind)
+          ∙ ap (λ (x : Carried). x .state .weak) (performs-kind S H i f (3 * p + 6) (omega arith) (omega arith) Hold hold-kind holdCall of-hold)
           ∙ (λ x. weakOf (m .lent .inbox) (messageLength (a .n-is x) (a .t-is x) (a .k-is x) (a .next-is x - 1)) (a .n-is x) (a .t-is x))
           ∙ ap (λ (x : ℕ). weakOf (m .lent .inbox) (lenOf S x) (S .n) (S .t)) e
 
       -- king p + 1 sends them
       king-sent : i ≡ p + 1 → call S i (3 * p + 6) .sends ≡ toAll (S .n) (rowsOf (S .n) (heldOf (call S i (3 * p + 6) .lent .inbox) (lenOf S (3 * p + 5)) (S .n) (S .t))) (call S i (3 * p + 6) .lent .outbox)
-      unfolding callOf
       king-sent king =
           let m = call S i (3 * p + 6) in
           let r = call-at S H i f (3 * p + 6) (omega arith) (omega arith) in
@@ -194,7 +190,7 @@ module _ (S : System) (H : Supposed S) where
           let mine : eqb (m .before .state .own) (phaseOf (m .before .state .next)) ≡ true =
           eq-eqb (m .before .state .own) (phaseOf (m .before .state .next)) (a .own-is ∙ king ∙ sym (ap phaseOf (a .next-is ∙ q) ∙ phase-king (p + 1))) in
           r .sends-is
-          ∙ ap (λ (x : Carried). x .outbox) (performs-kind S H i f (3 * p + 6) (omega arith) (omega arith) Hold hold-kind)
+          ∙ ap (λ (x : Carried). x .outbox) (performs-kind S H i f (3 * p + 6) (omega arith) (omega arith) Hold hold-kind holdCall of-hold)
           ∙ cond-yes (eqb (m .before .state .own) (phaseOf (m .before .state .next))) _ _ mine
           ∙ (λ x. toAll (a .n-is x) (rowsOf (a .n-is x) (heldOf (m .lent .inbox) (messageLength (a .n-is x) (a .t-is x) (a .k-is x) (a .next-is x - 1)) (a .n-is x) (a .t-is x))) (m .lent .outbox))
           ∙ ap (λ (x : ℕ). toAll (S .n) (rowsOf (S .n) (heldOf (m .lent .inbox) (lenOf S x) (S .n) (S .t))) (m .lent .outbox)) e
@@ -208,14 +204,13 @@ module _ (S : System) (H : Supposed S) where
       seen-sent : call S i (3 * p + 5) .sends
           ≡ toAll (S .n) (seenMessage (S .n) (zerosOf (call S i (3 * p + 5) .lent .inbox) (lenOf S (3 * p + 4)) (S .n) (S .t)) (onesOf (call S i (3 * p + 5) .lent .inbox) (lenOf S (3 * p + 4)) (S .n) (S .t)))
           (call S i (3 * p + 5) .lent .outbox)
-      unfolding callOf
       seen-sent =
           let m = call S i (3 * p + 5) in
           let r = call-at S H i f (3 * p + 5) (omega arith) (omega arith) in
           let a = r .before-at in
           let e : 3 * p + 5 - 1 ≡ 3 * p + 4 = omega arith in
           r .sends-is
-          ∙ ap (λ (x : Carried). x .outbox) (performs-kind S H i f (3 * p + 5) (omega arith) (omega arith) Tally tally-kind)
+          ∙ ap (λ (x : Carried). x .outbox) (performs-kind S H i f (3 * p + 5) (omega arith) (omega arith) Tally tally-kind tallyCall of-tally)
           ∙ (λ x. toAll (a .n-is x) (seenMessage (a .n-is x)
           (zerosOf (m .lent .inbox) (messageLength (a .n-is x) (a .t-is x) (a .k-is x) (a .next-is x - 1)) (a .n-is x) (a .t-is x))
           (onesOf (m .lent .inbox) (messageLength (a .n-is x) (a .t-is x) (a .k-is x) (a .next-is x - 1)) (a .n-is x) (a .t-is x))) (m .lent .outbox))
@@ -223,16 +218,15 @@ module _ (S : System) (H : Supposed S) where
       -- ---- call 3p + 4: the matrix that the phase starts with
 
     settle-sent : (q : ℕ) → q < S .t → call S i (3 * q + 7) .sends ≡ toAll (S .n) (rowsOf (S .n) (call S i (3 * q + 7) .after .state .matrix)) (call S i (3 * q + 7) .lent .outbox)
-    unfolding callOf
     settle-sent q l =
         let m = call S i (3 * q + 7) in
         let r = call-at S H i f (3 * q + 7) (omega arith) (omega arith) in
         let a = r .before-at in
         let e : 3 * q + 7 ≡ 3 * (q + 1) + 4 = omega arith in
-        let is = performs-kind S H i f (3 * q + 7) (omega arith) (omega arith) Settle (ap (callKind (S .t)) e ∙ call-settle (S .t) (q + 1) (omega arith) (omega arith)) in
+        let is = performs-kind S H i f (3 * q + 7) (omega arith) (omega arith) Settle (ap (callKind (S .t)) e ∙ call-settle (S .t) (q + 1) (omega arith) (omega arith)) settleCall of-settle in
         r .sends-is
         ∙ ap (λ (x : Carried). x .outbox) is
-        ∙ (λ x. toAll (a .n-is x) (rowsOf (a .n-is x) (callOf Settle (m .before .state) (m .before .block) (m .lent .inbox) (m .lent .outbox) .state .matrix)) (m .lent .outbox))
+        ∙ (λ x. toAll (a .n-is x) (rowsOf (a .n-is x) (settleCall (m .before .state) (m .before .block) (m .lent .inbox) (m .lent .outbox) .state .matrix)) (m .lent .outbox))
         ∙ ap (λ (x : List ℕ). toAll (S .n) (rowsOf (S .n) x) (m .lent .outbox)) (sym (ap (λ (s : State). s .matrix) (r .state-is) ∙ ap (λ (x : Carried). x .state .matrix) is))
 
     matrix-sent : (p : ℕ) → p < suc (S .t) → call S i (3 * p + 4) .sends ≡ toAll (S .n) (rowsOf (S .n) (call S i (3 * p + 4) .after .state .matrix)) (call S i (3 * p + 4) .lent .outbox)

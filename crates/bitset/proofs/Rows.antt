@@ -1,11 +1,14 @@
--- Laws of rows in message bytes. The main one: `row-read`, a row of the message that was written is read back.
+-- Laws of rows in message bytes. The main ones: `row-read` (a row of the message that was written is read back) and `rows-bytes` (rows are
+-- written in bytes).
 use mathlib.Core.Path.{_≡_, sym, ap, ap₂, _∙_}
+use mathlib.Core.Bool.{Bool, true, false, cond}
 use mathlib.Core.List.{List, [], _∷_, _++_}
 use Prim.Native.Nat.{ℕ, _+_, _*_, _/_, _%_, _^_, _≤_, _<_, min}
 use native.Mathlib.Omega.{arith}
 use borrow.Author.Tests.{eq-eqb, ne-eqb, lt-ltb, le-ltb}
-use lib.ListN.{length, getD, drop, length-append, List·getD-append}
-use lib.Pow.{pow-pos}
+use lib.Dec.{eqb, lit<}
+use lib.ListN.{length, getD, drop, length-append, List·getD-append, List·getD-eq-default}
+use lib.Pow.{pow-pos, pow-mono}
 use lib.Seq.{getD-append-add}
 use Rattle.lists.proofs.Tests.{lt-or-le}
 use Rattle.lists.specs.Fill.{filled}
@@ -102,3 +105,22 @@ row-read n rows r l h =
     (getD-tabulate (rowByte n rows) (2 * min n 16) (2 * r + 1) 0 (omega arith) ∙ byte-high n rows r)
     ∙ ap (λ (a : ℕ). restricted a n) w
     ∙ restrict-below x n (restrict-lt (getD rows r 0) n)
+
+-- ---- bytes
+-- of 16 bits, the low eight and the rest are bytes
+pub halves : (s n : ℕ) → n ≤ 16 → (restricted s n % 256 < 256) × (restricted s n / 256 < 256)
+halves s n h =
+    let l : restricted s n < 2 ^ 16 = omega (arith, restrict-lt s n, pow-mono {i = n} {j = 16} h) in
+    (omega arith, omega arith)
+
+pub rows-bytes : (n : ℕ) (rows : List ℕ) → n ≤ 16 → (x : ℕ) → getD (rowsOf n rows) x 0 < 256
+unfolding rowsOf rowByte
+rows-bytes n rows h x =
+    ⊎-elim
+    (λ (l : x < 2 * min n 16). rw (getD-tabulate (rowByte n rows) (2 * min n 16) x 0 l) (go (eqb (x % 2) 0)))
+    (λ (l : 2 * min n 16 ≤ x). rw (List·getD-eq-default (rowsOf n rows) 0 {n = x} (omega (arith, rows-length n rows))) (lit< tt))
+    (lt-or-le x (2 * min n 16))
+  where
+    go : (b : Bool) → cond b (restricted (getD rows (x / 2) 0) n % 256) (restricted (getD rows (x / 2) 0) n / 256) < 256
+    go true = halves (getD rows (x / 2) 0) n h .0
+    go false = halves (getD rows (x / 2) 0) n h .1

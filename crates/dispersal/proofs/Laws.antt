@@ -1,14 +1,14 @@
--- Laws of calls 1 to 3 within the settings. The main ones: `sent-block` and `sent-pieces` (what is sent), `received-message` (the block is the
--- sender's message), `marked-true` and `true-marked` (when the message of a controller with block B is marked), `marks-message-row` (the marks are read
--- back).
+-- Laws of calls 1 to 3 within the settings. The main ones: `sent-block`, `sent-silence` and `sent-pieces` (what is sent), `received-message` (the
+-- block is the sender's message), `marked-true` and `true-marked` (when the message of a controller with block B is marked), `marks-message-row` (the
+-- marks are read back), `marks-bytes` (they are sent as bytes).
 use mathlib.Core.Path.{_≡_, refl, sym, ap, subst, _∙_}
 use mathlib.Core.Logic.{⊎-elim}
 use mathlib.Core.Bool.{Bool, true, false, cond, not, _&&_}
 use mathlib.Core.List.{List, _++_}
-use Prim.Native.Nat.{ℕ, _+_, _*_, _≤_}
+use Prim.Native.Nat.{ℕ, zero, suc, _+_, _*_, _≤_, _<_}
 use native.Mathlib.Omega.{arith}
 use borrow.Author.Tests.{eq-eqb, ne-eqb, eqb-true}
-use lib.Dec.{eqb}
+use lib.Dec.{eqb, lit<}
 use lib.ListN.{length, take, drop, replicate, length-append, length-replicate, getD}
 use lib.Seq.{take-at, drop-at}
 use Rattle.lists.specs.Same.{same}
@@ -18,7 +18,7 @@ use Rattle.lists.proofs.Parts.{all-zeros}
 use Rattle.bitset.specs.Set.{setOf, restricted}
 use Rattle.bitset.specs.Row.{rowOf}
 use Rattle.bitset.proofs.Laws.{restrict-lt}
-use Rattle.bitset.proofs.Rows.{row-pair}
+use Rattle.bitset.proofs.Rows.{row-pair, halves}
 use Rattle.settings.specs.Valid.{Coded, Numbered}
 use Rattle.settings.proofs.Laws.{0-encode}
 use Rattle.wire.specs.Length.{blockLength}
@@ -32,6 +32,11 @@ pub sent-block : (n own sender : ℕ) (b o : List ℕ) → own ≡ sender → le
     → sentBlock n own sender b o ≡ slots (length b) (λ _. bytes b) n
 unfolding sentBlock
 sent-block n own sender b o e l = cond-yes (eqb own sender) (toAll n b o) (replicate (length o) 0) (eq-eqb own sender e) ∙ to-all n b o l
+
+-- the others are silent
+pub sent-silence : (n own sender : ℕ) (b o : List ℕ) → (own ≡ sender → ⊥) → sentBlock n own sender b o ≡ replicate (length o) 0
+unfolding sentBlock
+sent-silence n own sender b o z = cond-no (eqb own sender) (toAll n b o) (replicate (length o) 0) (ne-eqb own sender z)
 
 -- ---- call 2
 module _ (inbox : List ℕ) (len sender : ℕ) (b : List ℕ) where
@@ -127,6 +132,12 @@ self-marked k t own inbox len b = or-left (eqb own own) _ (eq-eqb own own refl)
 pub marks-length : (n s : ℕ) → length (marksMessage n s) ≡ 2
 unfolding marksMessage
 marks-length n s = refl
+
+pub marks-bytes : (n s : ℕ) → n ≤ 16 → (x : ℕ) → getD (marksMessage n s) x 0 < 256
+unfolding marksMessage
+marks-bytes n s h zero = halves s n h .0
+marks-bytes n s h (suc zero) = halves s n h .1
+marks-bytes n s h (suc (suc x)) = lit< tt
 
 pub sent-marks : (n s : ℕ) (o : List ℕ) → length o ≡ n * width 2 → sentMarks n s o ≡ slots 2 (λ _. bytes (marksMessage n s)) n
 unfolding sentMarks

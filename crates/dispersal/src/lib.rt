@@ -110,7 +110,7 @@ fn trade(n: usize, t: usize, k: usize, own: usize, block: &[u8], outbox: &mut [u
 }
 
 // Call 2: to each controller the own piece, then its piece of the own coding. Refused settings or lengths: nothing is written.
-// Shut out: the outbox untouched, the first slot left, silence in this round (must-fail edits); the own piece twice.
+// Shut out: the outbox untouched, the first slot left, slots of this round left unwritten (must-fail edits); the own piece twice.
 pub fn send_pieces(n: usize, t: usize, k: usize, own: usize, block: &[u8], outbox: &mut [u8])
     ensures { λ _. ⌜ now (outbox .exit) ≡ sentPieces n t k own (now (block .entry)) (now (outbox .entry)) ⌝ }
 {

@@ -10,7 +10,8 @@ use Rattle.wire.specs.Slot.{width, slotOf, holds, isPresent, messageOf}
 use Rattle.polynomial.specs.Polynomial.{gsum, evaluate, horner, plus, scale, timesRoot}
 use Rattle.interpolation.specs.Interpolation.{wrongBy, combine, withRoot, start, advance, next, run, smaller, reduced, series, candidate}
 use Rattle.reed_solomon.specs.Encode.{stripe, pieceOf, encodeRefusal, encodeOf}
-use Rattle.reed_solomon.specs.Decode.{received, agreement, points, column, stripeOf, isFound, joined, decodeRefusal, rebuiltOf, decodeOf}
+use Rattle.lists.specs.Join.{joined}
+use Rattle.reed_solomon.specs.Decode.{received, agreement, points, column, stripeOf, isFound, decodeRefusal, rebuiltOf, decodeOf}
 use Rattle.phase_king.specs.Bit.{zeroSeen, oneSeen}
 use Rattle.matching.specs.Graph.{neighbour}
 use Rattle.matching.specs.Matching.{matched}

@@ -16,7 +16,7 @@ struct Weights {
 // The most coefficients that decoding needs: n + t + 1 for n 16 and t 5.
 const MOST: usize = 22;
 
-// The value of the polynomial p at x, by Horner's rule. Shut out: must-fail/coefficients_reversed.
+// The value of the polynomial p at x, by Horner's rule. Shut out: a further coefficient 01 at the end; and must-fail/coefficients_reversed.
 pub fn evaluate(p: &[u8], x: u8) -> u8
     ensures { λ r. ⌜ r ≡ evaluate (now (p .entry)) x ⌝ }
 {

@@ -1,4 +1,5 @@
--- Laws of `tabulate` and `filled`. The main one: `fill-more`, a turn of a loop that fills a list from the front.
+-- Laws of `tabulate` and `filled`. The main ones: `fill-more`, a turn of a loop that fills a list from the front, and `tabulate-front`, the first
+-- element and the others.
 use mathlib.Core.Path.{_≡_, refl, ap, ap₂}
 use mathlib.Core.List.{List, [], _∷_, _++_}
 use Prim.Native.Nat.{ℕ, zero, suc, _+_, _≤_, _<_}
@@ -10,6 +11,15 @@ use Rattle.lists.specs.Fill.{tabulate, filled}
 
 module _ {A : Type 0} where
   -- ---- tabulate
+  pub tabulate-none : (f : ℕ → A) → tabulate f 0 ≡ []
+  unfolding tabulate
+  tabulate-none f = refl
+
+  -- one element more, at the front
+  pub tabulate-front : (f : ℕ → A) (n : ℕ) → tabulate f (suc n) ≡ f 0 ∷ tabulate (λ i. f (suc i)) n
+  unfolding tabulate
+  tabulate-front f n = refl
+
   pub length-tabulate : (f : ℕ → A) (n : ℕ) → length (tabulate f n) ≡ n
   unfolding tabulate
   length-tabulate f zero = refl

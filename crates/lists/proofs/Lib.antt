@@ -5,3 +5,4 @@ pub mod Parts
 pub mod Fills
 pub mod Table
 pub mod Sames
+pub mod Joins

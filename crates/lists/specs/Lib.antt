@@ -1,4 +1,5 @@
--- Sums, counts, lists given by a function of the index, and equality of lists as a test.
+-- Sums, counts, lists given by a function of the index, equality of lists as a test, and lists joined from parts.
 pub mod Sum
 pub mod Fill
 pub mod Same
+pub mod Join

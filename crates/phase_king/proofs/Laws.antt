@@ -1,16 +1,18 @@
 -- Laws of the vote for the crates above. The main one: `vote`, after the phases of a vote all correct controllers have one matrix, and a
 -- bit or row on which all correct ones started equal is what it was, whatever the others sent to each of them, with any different kings.
 -- `vote-in-order`: kings 1 to t + 1. `marks-kept`: the row of a controller whose marks all correct ones received. Below them the same for one
--- bit, and the laws of what slots say, of the matrices and of what is sent.
+-- bit, and the laws of what slots say, of the matrices and of what is sent (`seen-bytes`: it is bytes).
 use mathlib.Core.Path.{_≡_, sym, ap, _∙_}
 use mathlib.Core.Bool.{Bool}
 use mathlib.Core.List.{List}
 use Prim.Native.Nat.{ℕ, suc, _+_, _*_, _≤_, _<_}
 use native.Mathlib.Omega.{arith}
+use lib.Dec.{lit<}
 use lib.ListN.{length, getD}
+use Rattle.lists.proofs.Parts.{all-append}
 use Rattle.bitset.specs.Row.{rowOf, rowsOf}
 use Rattle.bitset.proofs.Laws.{restrict-below}
-use Rattle.bitset.proofs.Rows.{row-lt, length-rows}
+use Rattle.bitset.proofs.Rows.{row-lt, length-rows, rows-bytes}
 use Rattle.wire.specs.Slot.{width, messageOf, bytes, slots, toAll}
 use Rattle.wire.proofs.Laws.{to-all}
 use Rattle.phase_king.specs.Matrix.{limit, firstMatrix, heldOf, weakOf, settledOf, seenMessage}
@@ -33,7 +35,7 @@ pub use Rattle.phase_king.proofs.Matrices.{
   first-row,
   phase-bit,
 }
-use Rattle.phase_king.proofs.Writes.{seen-length as seen-bytes}
+use Rattle.phase_king.proofs.Writes.{seen-length as length-seen}
 
 -- ---- the vote
 pub vote : (n t : ℕ) (correct : ℕ → Bool) (king : ℕ → ℕ) (rows : ℕ → ℕ → List ℕ) → n ≤ 16 → System n t correct → Kings n t king
@@ -111,7 +113,11 @@ pub matrix-sent : (n : ℕ) (rows outbox : List ℕ) → n ≤ 16 → length out
 matrix-sent n rows outbox u h = sent n (2 * n) (rowsOf n rows) outbox u (length-rows n rows u) h
 
 pub seen-length : (n : ℕ) (zeros ones : List ℕ) → n ≤ 16 → length (seenMessage n zeros ones) ≡ 4 * n
-seen-length n zeros ones u = seen-bytes n zeros ones ∙ omega arith
+seen-length n zeros ones u = length-seen n zeros ones ∙ omega arith
+
+pub seen-bytes : (n : ℕ) (zeros ones : List ℕ) → n ≤ 16 → (x : ℕ) → getD (seenMessage n zeros ones) x 0 < 256
+unfolding seenMessage
+seen-bytes n zeros ones h = all-append (λ x. x < 256) (lit< tt) (rowsOf n zeros) (rowsOf n ones) (rows-bytes n zeros h) (rows-bytes n ones h)
 
 pub seen-sent : (n : ℕ) (zeros ones outbox : List ℕ) → n ≤ 16 → length outbox ≡ n * width (4 * n)
     → toAll (limit n) (seenMessage n zeros ones) outbox ≡ slots (4 * n) (λ _. bytes (seenMessage n zeros ones)) n

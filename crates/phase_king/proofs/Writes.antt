@@ -3,10 +3,10 @@ use mathlib.Core.Path.{_≡_, sym, ap, ap₂, _∙_}
 use mathlib.Core.List.{List, _++_, append-nil, append-assoc}
 use Prim.Native.Nat.{ℕ, _+_, _-_, _*_, _≤_, min}
 use native.Mathlib.Omega.{arith}
-use lib.ListN.{length, take, drop, replicate, length-append, length-drop, drop-of-length-le}
+use lib.ListN.{length, take, drop, length-append, length-drop, drop-of-length-le}
 use lib.Seq.{take-all, take-at, drop-at, drop-drop}
 use Rattle.lists.specs.Fill.{filled}
-use Rattle.lists.proofs.Fills.{length-filled, filled-split}
+use Rattle.lists.proofs.Fills.{length-filled}
 use Rattle.bitset.specs.Row.{rowByte, rowsOf}
 use Rattle.bitset.proofs.Rows.{rows-length, rows-written}
 use Rattle.wire.specs.Slot.{toAll}

@@ -1,6 +1,6 @@
 -- Laws of start and step. The main ones: `start-0` (what a start carried out says), `refused` and `performed` (a step hands everything back,
--- or does its call), `ready-of` and `of-ready` (number 0 exactly where no row of the table names the step), `step-8` (a finished run), and
--- `call-keeps` (a call keeps the settings and the own number, and counts on).
+-- or does its call), `of-send` to `of-outside` (what a call of each kind is), `ready-of` and `of-ready` (number 0 exactly where no row of the
+-- table names the step), `step-8` (a finished run), and `call-keeps` (a call keeps the settings and the own number, and counts on).
 use mathlib.Core.Path.{_≡_, refl, sym, ap, subst, _∙_}
 use mathlib.Core.Bool.{Bool, true, false, cond, not, _&&_, _||_}
 use mathlib.Core.List.{List}
@@ -23,7 +23,7 @@ use Rattle.wire.proofs.Laws.{Fact, call-fact, block-size}
 use Rattle.protocol.specs.declared.State.{State}
 use Rattle.protocol.specs.declared.Started.{Started}
 use Rattle.protocol.specs.State.{settingsOf, freshState, zeroState}
-use Rattle.protocol.specs.Calls.{callOf}
+use Rattle.protocol.specs.Calls.{carried, sendCall, receiveCall, compareCall, collectCall, tallyCall, holdCall, settleCall, coreCall, chooseCall, finishCall, callOf}
 use Rattle.protocol.specs.Step.{startRefusal, startOf, lengthsFit, stepRefusal, After, after, done, stepOf, Ready}
 
 -- ---- start
@@ -125,6 +125,52 @@ module _ (s : State) (b i o : ℕ) where
       ∙ cond-yes (eqb (s .next) (3 * s .t + 10)) 8 _ (eq-eqb (s .next) (3 * s .t + 10) e)
 
 -- ---- calls
+-- what a call of each kind is: the layers above cite these and don't unfold `callOf`
+module _ (s : State) (b i o : List ℕ) where
+  pub of-send : callOf Send s b i o ≡ sendCall s b o
+  unfolding callOf
+  of-send = refl
+
+  pub of-receive : callOf Receive s b i o ≡ receiveCall s b i o
+  unfolding callOf
+  of-receive = refl
+
+  pub of-compare : callOf Compare s b i o ≡ compareCall s b i o
+  unfolding callOf
+  of-compare = refl
+
+  pub of-collect : callOf Collect s b i o ≡ collectCall s b i o
+  unfolding callOf
+  of-collect = refl
+
+  pub of-tally : callOf Tally s b i o ≡ tallyCall s b i o
+  unfolding callOf
+  of-tally = refl
+
+  pub of-hold : callOf Hold s b i o ≡ holdCall s b i o
+  unfolding callOf
+  of-hold = refl
+
+  pub of-settle : callOf Settle s b i o ≡ settleCall s b i o
+  unfolding callOf
+  of-settle = refl
+
+  pub of-core : callOf Core s b i o ≡ coreCall s b i o
+  unfolding callOf
+  of-core = refl
+
+  pub of-choose : callOf Choose s b i o ≡ chooseCall s b i o
+  unfolding callOf
+  of-choose = refl
+
+  pub of-finish : callOf Finish s b i o ≡ finishCall s b i o
+  unfolding callOf
+  of-finish = refl
+
+  pub of-outside : callOf Outside s b i o ≡ carried s b o
+  unfolding callOf
+  of-outside = refl
+
 pub record Keeps (s s′ : State) : Type 0 where
   pub n : s′ .n ≡ s .n
   pub t : s′ .t ≡ s .t

@@ -1,13 +1,14 @@
 -- Laws of calls 3t + 7 to 3t + 9 within the settings. The main ones: `forwarded-member` (what a core member sends), `chosen` (the piece of at
--- least t + 1 good members is chosen), `shared-sends` (what everyone sends), `finished-none` and `finished-else` (what the last call sets).
-use mathlib.Core.Path.{_≡_, sym, ap, subst, _∙_}
-use mathlib.Core.Bool.{Bool, true, false, not, _&&_}
+-- least t + 1 good members is chosen), `shared-sends` (what everyone sends), `forwarded-other` and `shared-none` (who sends nothing),
+-- `finished-none` and `finished-else` (what the last call sets).
+use mathlib.Core.Path.{_≡_, refl, sym, ap, subst, _∙_}
+use mathlib.Core.Bool.{Bool, true, false, cond, not, _&&_}
 use mathlib.Core.List.{List, []}
 use Prim.Native.Nat.{ℕ, _+_, _-_, _*_, _≤_, _<_}
 use native.Mathlib.Omega.{arith}
 use borrow.Author.Tests.{eq-eqb, ne-eqb, le-leb, lt-ltb, leb-true}
 use lib.Dec.{eqb, leb, ltb}
-use lib.ListN.{length, replicate}
+use lib.ListN.{length, getD, replicate}
 use Rattle.lists.specs.Sum.{count}
 use Rattle.lists.specs.Same.{same}
 use Rattle.lists.proofs.Tests.{and-left, and-right, and-both, cond-yes, cond-no}
@@ -19,7 +20,7 @@ use Rattle.settings.specs.Valid.{Coded, Numbered}
 use Rattle.settings.proofs.Laws.{0-encode}
 use Rattle.wire.specs.Length.{blockLength}
 use Rattle.wire.specs.Slot.{width, messageOf, bytes, slots, toAll}
-use Rattle.wire.proofs.Laws.{to-all}
+use Rattle.wire.proofs.Laws.{to-all, length-message, message-all}
 use Rattle.reed_solomon.specs.Encode.{pieceOf}
 use Rattle.reed_solomon.specs.Decode.{Answer, decodeOf}
 use Rattle.reconstruction.specs.declared.Outcome.the-variants.{None}
@@ -29,6 +30,11 @@ use Rattle.reconstruction.specs.Reconstruction.{isReady, inCore, forward
 pub in-core : (core j : ℕ) → 1 ≤ j → inCore core j ≡ member core (j - 1)
 unfolding inCore
 in-core core j h = ap (λ (b : Bool). not b && member core (j - 1)) (ne-eqb j 0 (λ e. omega arith))
+
+-- who is not in the core forwards nothing
+pub forwarded-other : (n t k own core : ℕ) (b o : List ℕ) → inCore core own ≡ false → forwarded n t k own core b o ≡ replicate (length o) 0
+unfolding forwarded
+forwarded-other n t k own core b o e = cond-no (inCore core own) _ (replicate (length o) 0) e
 
 module _ (n t k own : ℕ) (b : List ℕ) (v : Coded n t k) (w : Numbered n own) (size : length b ≡ blockLength k t) where
   ready : (fits : Bool) → fits ≡ true → isReady n t k own b fits ≡ true
@@ -58,6 +64,16 @@ module _ (n t k own : ℕ) (b : List ℕ) (v : Coded n t k) (w : Numbered n own)
       ∙ to-all n m o (e ∙ ap (λ (x : ℕ). n * width x) (sym long))
       ∙ ap (λ (x : ℕ). slots x (λ _. bytes m) n) long
 
+  -- who has no piece is silent
+  pub shared-none : (core : ℕ) (inbox : List ℕ) (len : ℕ) (o : List ℕ) → length (ownPiece n t k own core inbox len b) ≡ 0
+      → length o ≡ n * width k → shared n t k own core inbox len b o ≡ replicate (length o) 0
+  unfolding shared sentPiece
+  shared-none core inbox len o none e =
+      let m = ownPiece n t k own core inbox len b in
+      cond-yes (isReady n t k own b (eqb (length o) (n * width k))) (sentPiece n m o) o
+      (ready (eqb (length o) (n * width k)) (eq-eqb (length o) (n * width k) e))
+      ∙ cond-yes (eqb (length m) 0) (replicate (length o) 0) (toAll n m o) (eq-eqb (length m) 0 none)
+
 -- a member's piece is its own
 pub own-member : (n t k own core : ℕ) (inbox : List ℕ) (len : ℕ) (b : List ℕ) → inCore core own ≡ true → ownPiece n t k own core inbox len b ≡ pieceOf k t b own
 unfolding ownPiece
@@ -67,6 +83,26 @@ own-member n t k own core inbox len b y = cond-yes (inCore core own) (pieceOf k 
 pub own-other : (n t k own core : ℕ) (inbox : List ℕ) (len : ℕ) (b : List ℕ) → inCore core own ≡ false → ownPiece n t k own core inbox len b ≡ chosenPiece n t core inbox len
 unfolding ownPiece
 own-other n t k own core inbox len b y = cond-no (inCore core own) (pieceOf k t b own) (chosenPiece n t core inbox len) y
+
+module _ (n t core : ℕ) (inbox : List ℕ) (len : ℕ) where
+  -- a piece that is chosen has the round's length
+  pub chosen-length : (length (chosenPiece n t core inbox len) ≡ 0 → ⊥) → length (chosenPiece n t core inbox len) ≡ len
+  unfolding chosenPiece
+  chosen-length = go (ltb (first n (isChosen n t core inbox len)) n)
+    where
+      go : (b : Bool) → (length (cond b (messageOf inbox len (first n (isChosen n t core inbox len) + 1)) []) ≡ 0 → ⊥)
+          → length (cond b (messageOf inbox len (first n (isChosen n t core inbox len) + 1)) []) ≡ len
+      go true z = length-message inbox len (first n (isChosen n t core inbox len) + 1) z
+      go false z = absurd (z refl)
+
+  -- what holds of 0 and of each byte of the inbox holds of each byte of the piece
+  pub chosen-each : (P : ℕ → Type 0) → P 0 → ((x : ℕ) → P (getD inbox x 0)) → (x : ℕ) → P (getD (chosenPiece n t core inbox len) x 0)
+  unfolding chosenPiece
+  chosen-each P none h x = go (ltb (first n (isChosen n t core inbox len)) n)
+    where
+      go : (b : Bool) → P (getD (cond b (messageOf inbox len (first n (isChosen n t core inbox len) + 1)) []) x 0)
+      go true = message-all P none inbox len (first n (isChosen n t core inbox len) + 1) h x
+      go false = none
 
 -- ---- the choice: at least t + 1 members are good, at most t of all are not, and every good member sent P
 module _ (n t core : ℕ) (inbox : List ℕ) (len : ℕ) (good : ℕ → Bool) (P : List ℕ) (some : length P ≡ 0 → ⊥)

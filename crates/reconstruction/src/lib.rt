@@ -205,7 +205,8 @@ fn share_own(n: usize, t: usize, k: usize, own: usize, block: &[u8], outbox: &mu
 }
 
 // Call 3t + 8: a member sends its own piece to all, another the piece that is chosen.
-// Shut out: the own piece from outside the core; t members enough; a slot counted that is no member's (must-fail edits).
+// Shut out: the own piece from outside the core; t members enough; a slot counted that is no member's; silence in this round from those outside
+// the core (must-fail edits).
 pub fn share(
     n: usize,
     t: usize,

@@ -23,9 +23,11 @@ use Rattle.polynomial.proofs.Laws.{evaluate-lt, equal-of-values, past-end}
 use Rattle.interpolation.specs.Interpolation.{agreements, candidate}
 use Rattle.interpolation.proofs.Laws.{recovers}
 use Rattle.reed_solomon.specs.Encode.{stripe, pieceOf, encodeFits, encodeRefusal, encoded, encodeOf}
-use Rattle.reed_solomon.specs.Decode.{received, agreement, Decodes, points, column, stripeOf, isFound, joined, decodeFits, decodeRefusal, decoded, beyond, refused, answer, rebuiltOf, decodeOf}
+use Rattle.reed_solomon.specs.Decode.{received, agreement, Decodes, points, column, stripeOf, isFound, decodeFits, decodeRefusal, decoded, beyond, refused, answer, rebuiltOf, decodeOf}
 use Rattle.reed_solomon.specs.Steps.{Tried, Rebuilt}
-use Rattle.reed_solomon.proofs.Stripes.{length-points, agreement-points, units-points, points-points, different-numbers, length-stripe, bytes-stripe, length-found, bytes-found, length-joined, stripe-joined, bytes-joined, joined-ext, block-joined}
+use Rattle.reed_solomon.proofs.Stripes.{length-points, agreement-points, units-points, points-points, different-numbers, length-stripe, bytes-stripe, length-found, bytes-found, stripe-joined, block-joined}
+use Rattle.lists.specs.Join.{joined}
+use Rattle.lists.proofs.Joins.{joined-ext, length-joined, all-joined}
 
 -- ---- what the code tries is what the definition says
 pub tried-found : (t k : ℕ) (slots : List ℕ) (s : ℕ) (xs : List ℕ) (r : Bool) (m : List ℕ) → xs ≡ points (length xs) → Tried t xs (column k slots s xs) r m
@@ -112,8 +114,8 @@ module _ (n t k : ℕ) (slots : List ℕ) where
     found-decodes : ((s : ℕ) → s < k → isFound n t k slots s ≡ true) → Decodes n t k slots (joined (stripeOf n t k slots) k)
     unfolding isFound
     found-decodes h = record {
-      size = length-joined t (stripeOf n t k slots) k (λ s l. length-found n t k slots s) ∙ sym (block-length k t);
-      bytes = bytes-joined (stripeOf n t k slots) k (λ s l. bytes-found n t k slots s);
+      size = length-joined (t + 1) (stripeOf n t k slots) k (λ s l. length-found n t k slots s) ∙ sym (block-length k t);
+      bytes = all-joined (λ x. x < 256) (stripeOf n t k slots) k (lit< tt) (λ s l. bytes-found n t k slots s);
       agrees = λ s l.
           subst (λ m. n - t ≤ agreement n k slots s m) (sym (stripe-joined t (stripeOf n t k slots) k (λ s l. length-found n t k slots s) s l))
           (leb-true (n - t) (agreement n k slots s (stripeOf n t k slots s)) (h s l));

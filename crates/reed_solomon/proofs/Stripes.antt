@@ -1,26 +1,26 @@
 -- Stripes and blocks, points and columns. The main laws: `block-joined`, a block is its stripes joined, and `agreement-points`, places counted
 -- over the list of points.
-use mathlib.Core.Path.{_≡_, refl, sym, ap, ap₂, subst, _∙_}
-use mathlib.Core.List.{List, [], _++_}
+use mathlib.Core.Path.{_≡_, sym, ap, ap₂, subst, _∙_}
+use mathlib.Core.List.{List}
 use mathlib.Core.Logic.{⊎-elim}
-use Prim.Native.Nat.{ℕ, zero, suc, _+_, _-_, _*_, _≤_, _<_}
-use native.Mathlib.Nat.{zero-mul, suc-mul}
-use native.Mathlib.Numerals.{add-one}
+use Prim.Native.Nat.{ℕ, _+_, _-_, _*_, _≤_, _<_}
 use native.Mathlib.Omega.{arith}
 use lib.Dec.{eqb, lit<}
-use lib.ListN.{length, getD, take, drop, length-append, length-drop, List·getD-append}
-use lib.Seq.{length-take-le, drop-at, take-all, take-add, take-append-le, drop-append-le, getD-append-add, getD-take, getD-drop}
+use lib.ListN.{length, getD, take, drop, length-drop}
+use lib.Seq.{length-take-le, getD-take, getD-drop}
 use Rattle.lists.specs.Sum.{count}
-use Rattle.lists.proofs.Sums.{below-suc, count-ext}
+use Rattle.lists.specs.Join.{joined, part}
+use Rattle.lists.proofs.Sums.{count-ext}
 use Rattle.lists.proofs.Tests.{lt-or-le}
 use Rattle.lists.proofs.Fills.{length-tabulate, getD-tabulate}
 use Rattle.lists.proofs.Parts.{slot-within}
+use Rattle.lists.proofs.Joins.{part-take, part-joined, joined-parts, joined-ext}
 use Rattle.polynomial.specs.Polynomial.{evaluate, Bytes, Points}
 use Rattle.polynomial.proofs.Laws.{past-end}
 use Rattle.interpolation.specs.Interpolation.{agreements}
 use Rattle.interpolation.proofs.Laws.{Units, agreements-count, length-candidate, bytes-candidate}
 use Rattle.reed_solomon.specs.Encode.{stripe}
-use Rattle.reed_solomon.specs.Decode.{received, agreement, points, column, stripeOf, joined}
+use Rattle.reed_solomon.specs.Decode.{received, agreement, points, column, stripeOf}
 
 -- ---- points and columns
 pub length-points : (n : ℕ) → length (points n) ≡ n
@@ -93,68 +93,13 @@ unfolding stripeOf
 bytes-found n t k slots s = bytes-candidate t (points n) (column k slots s (points n))
 
 -- ---- stripes joined
-pub joined-none : (f : ℕ → List ℕ) → joined f 0 ≡ []
-unfolding joined
-joined-none f = refl
-
-pub joined-more : (f : ℕ → List ℕ) (s : ℕ) → joined f (s + 1) ≡ joined f s ++ f s
-unfolding joined
-joined-more f s = rw add-one
-
-module _ (t : ℕ) (f : ℕ → List ℕ) where
-  pub length-joined : (k : ℕ) → ((s : ℕ) → s < k → length (f s) ≡ t + 1) → length (joined f k) ≡ k * (t + 1)
-  unfolding joined
-  length-joined zero h = sym (zero-mul (t + 1))
-  length-joined (suc k) h =
-      length-append (joined f k) (f k)
-      ∙ omega (arith, length-joined k (λ s l. h s (omega arith)), h k (omega arith), suc-mul k (t + 1))
-
-  pub stripe-joined : (k : ℕ) → ((s : ℕ) → s < k → length (f s) ≡ t + 1) → (s : ℕ) → s < k → stripe t (joined f k) s ≡ f s
-  unfolding joined stripe
-  stripe-joined zero h s l = absurd (omega arith)
-  stripe-joined (suc k) h s l =
-      let w = t + 1 in
-      let size : length (joined f k) ≡ k * w = length-joined k (λ s l. h s (omega arith)) in
-      ⊎-elim
-      (λ (e : s ≡ k).
-      ap (take w) (drop-at (joined f k) (f k) (s * w) (size ∙ ap (λ n. n * w) (sym e)))
-      ∙ take-all w (f k) (omega (arith, h k (omega arith))) ∙ ap f (sym e))
-      (λ (m : s < k).
-      let within : s * w + w ≤ length (joined f k) = omega (arith, size, slot-within k w s m) in
-      ap (take w) (drop-append-le (s * w) (joined f k) (f k) (omega arith))
-      ∙ take-append-le w (drop (s * w) (joined f k)) (f k) (omega (arith, length-drop (s * w) (joined f k)))
-      ∙ stripe-joined k (λ s l. h s (omega arith)) s m)
-      (below-suc l)
-
-bytes-append : (a b : List ℕ) → Bytes a → Bytes b → Bytes (a ++ b)
-bytes-append a b ha hb i =
-    ⊎-elim
-    (λ (l : i < length a). rw (List·getD-append a b 0 i l) (ha i))
-    (λ (l : length a ≤ i).
-    let e : length a + (i - length a) ≡ i = omega arith in
-    subst (λ j. getD (a ++ b) j 0 < 256) e (rw (getD-append-add a b (i - length a) 0) (hb (i - length a))))
-    (lt-or-le i (length a))
-
-pub bytes-joined : (f : ℕ → List ℕ) (k : ℕ) → ((s : ℕ) → s < k → Bytes (f s)) → Bytes (joined f k)
-unfolding joined
-bytes-joined f zero h i = lit< tt
-bytes-joined f (suc k) h i = bytes-append (joined f k) (f k) (bytes-joined f k (λ s l. h s (omega arith))) (h k (omega arith)) i
-
-pub joined-ext : (f g : ℕ → List ℕ) (k : ℕ) → ((s : ℕ) → s < k → f s ≡ g s) → joined f k ≡ joined g k
-unfolding joined
-joined-ext f g zero h = refl
-joined-ext f g (suc k) h = ap₂ _++_ (joined-ext f g k (λ s l. h s (omega arith))) (h k (omega arith))
-
--- the first k stripes of a block
-front-joined : (t : ℕ) (block : List ℕ) (k : ℕ) → joined (stripe t block) k ≡ take (k * (t + 1)) block
-unfolding joined stripe
-front-joined t block zero = sym (ap (λ n. take n block) (zero-mul (t + 1)))
-front-joined t block (suc k) =
-    ap (λ l. l ++ take (t + 1) (drop (k * (t + 1)) block)) (front-joined t block k)
-    ∙ sym (take-add (k * (t + 1)) (t + 1) block) ∙ ap (λ n. take n block) (sym (suc-mul k (t + 1)))
+pub stripe-joined : (t : ℕ) (f : ℕ → List ℕ) (k : ℕ) → ((s : ℕ) → s < k → length (f s) ≡ t + 1) → (s : ℕ) → s < k → stripe t (joined f k) s ≡ f s
+unfolding stripe
+stripe-joined t f k h s l = sym (part-take (t + 1) (joined f k) s) ∙ part-joined (t + 1) f k h s l
 
 pub block-joined : (k t : ℕ) (block : List ℕ) → length block ≡ k * (t + 1) → block ≡ joined (stripe t block) k
-block-joined k t block e = sym (front-joined t block k ∙ take-all (k * (t + 1)) block (omega arith))
+unfolding stripe
+block-joined k t block e = joined-parts (t + 1) block k e ∙ joined-ext (part (t + 1) block) (stripe t block) k (λ s l. part-take (t + 1) block s)
 
 -- the part of a list that holds one stripe
 pub part-length : (a w : ℕ) (xs : List ℕ) → a + w ≤ length xs → length (take (a + w - a) (drop a xs)) ≡ w

@@ -7,7 +7,6 @@
 --   column k slots s xs                the values received at the points xs
 --   stripeOf n t k slots s             the bytes of stripe s, if it has any
 --   isFound n t k slots s              whether it has
---   joined f k                         f 0 ++ .. ++ f (k - 1)
 --   decodeFits n t k slots block       the lent lengths are the stated ones: n slots of messages of k bytes, and a block
 --   decodeRefusal n t k slots block    the number of the refusal table's row, or 0 ('Turned down': decoding tries 1, 2, 3, 6)
 --   Answer                             what a call leaves: word and number of document 01, and the lent block
@@ -22,6 +21,7 @@ use lib.Dec.{eqb, leb}
 use lib.ListN.{length, getD, replicate}
 use Rattle.lists.specs.Sum.{count}
 use Rattle.lists.specs.Fill.{tabulate}
+use Rattle.lists.specs.Join.{joined}
 use Rattle.settings.specs.declared.Entry.the-variants.{Decode}
 use Rattle.settings.specs.Refusal.{refusalOf}
 use Rattle.wire.specs.Length.{blockLength}
@@ -54,10 +54,6 @@ stripeOf n t k slots s = candidate t (points n) (column k slots s (points n))
 
 unfoldable pub isFound : (n t k : ℕ) → List ℕ → ℕ → Bool
 isFound n t k slots s = leb (n - t) (agreement n k slots s (stripeOf n t k slots s))
-
-unfoldable pub joined : (ℕ → List ℕ) → ℕ → List ℕ
-joined f zero = []
-joined f (suc k) = joined f k ++ f k
 
 abbrev pub decodeFits : (n t k : ℕ) → List ℕ → List ℕ → Bool
 decodeFits n t k slots block = eqb (length slots) (n * width k) && eqb (length block) (blockLength k t)

@@ -9,7 +9,8 @@ use lib.Dec.{eqb, leb}
 use lib.ListN.{length}
 use Rattle.lists.specs.Sum.{count}
 use Rattle.interpolation.specs.Interpolation.{agreements, candidate}
-use Rattle.reed_solomon.specs.Decode.{stripeOf, isFound, joined}
+use Rattle.lists.specs.Join.{joined}
+use Rattle.reed_solomon.specs.Decode.{stripeOf, isFound}
 
 pub record Tried (t : ℕ) (xs ys : List ℕ) (found : Bool) (m : List ℕ) : Type 0 where
   pub message : m ≡ candidate t xs ys

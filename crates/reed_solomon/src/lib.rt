@@ -187,7 +187,7 @@ fn rebuild(n: usize, t: usize, k: usize, slots: &[u8], block: &mut [u8]) -> Deco
 
 // Decoding: the block whose code agrees, in each stripe, with the pieces in the n slots in at least n - t places, into the lent block; beyond
 // and zeros where some stripe has no such bytes. Shut out: must-fail/one_agreement_less, points_off_by_one, beyond_keeps_the_block,
-// refused_and_rebuilt.
+// refusal_clears_the_block.
 pub fn decode(n: usize, t: usize, k: usize, slots: &[u8], block: &mut [u8]) -> Decoded
     ensures { λ r. ⌜ answerOf r (now (block .exit)) ≡ decodeOf n t k (now (slots .entry)) (now (block .entry)) ⌝ }
 {
@@ -222,7 +222,8 @@ fn encode_piece(t: usize, block: &[u8], x: u8, piece: &mut [u8])
     }
 }
 
-// Coding: piece `number` of a block's coding, into the lent piece. Shut out: must-fail/piece_of_another.
+// Coding: piece `number` of a block's coding, into the lent piece. Shut out: 0 where it is refused; each stripe without its last byte; and
+// must-fail/piece_of_another.
 pub fn encode(n: usize, t: usize, k: usize, number: usize, block: &[u8], piece: &mut [u8]) -> u8
     ensures { λ r. ⌜ encoded r (now (piece .exit)) ≡ encodeOf n t k number (now (block .entry)) (now (piece .entry)) ⌝ }
 {

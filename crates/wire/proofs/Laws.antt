@@ -1,6 +1,7 @@
 -- Laws for the crates above. Kinds: `round-..` and `call-..` say of which kind a numbered round or call is, `call-fact` which number a kind
 -- of call has. Lengths: `length-of`, `inbox-of` and `outbox-of` give them within the settings. Slots: `arrived` (a slot that arrived as it
--- was sent is read as what was sent), `read-back` (slot j of what was written, read back), and those of the slots' module.
+-- was sent is read as what was sent), `read-back` (slot j of what was written, read back), and those of the slots' module, as `slots-each` (what
+-- holds of each byte of the messages holds of each byte of the slots).
 use mathlib.Core.Path.{_≡_, refl, sym, ap, subst, _∙_}
 use mathlib.Core.Bool.{Bool, true, false, cond}
 use mathlib.Core.List.{List}
@@ -40,11 +41,19 @@ pub use Rattle.wire.proofs.Slots.{
   slots-all,
   silent-slots,
   content,
+  written-each,
+  slots-each,
   to-all,
   put-next-slot,
   length-rest,
   copied-all,
   length-copied,
+  slot-part,
+  width-most,
+  slot-length,
+  silent-slot,
+  put-into,
+  relay-into,
 }
 
 -- ---- settings

@@ -1,5 +1,5 @@
--- Slots of one width. The main laws: `slot-of-slots`, slot j of an outbox written slot by slot, and `message-of-slot`, a slot that arrived
--- as it was written is read as what was sent.
+-- Slots of one width. The main laws: `slot-of-slots`, slot j of an outbox written slot by slot, `message-of-slot`, a slot that arrived as it
+-- was written is read as what was sent, and `slots-each`, what holds of each byte of the messages holds of each byte of the slots.
 use mathlib.Core.Path.{_≡_, refl, sym, ap, ap₂, subst, _∙_}
 use mathlib.Core.Bool.{Bool, cond, true, false, not, _&&_}
 use mathlib.Core.List.{List, [], _∷_, _++_, append-nil}
@@ -13,8 +13,10 @@ use lib.Dec.{leb, eqb}
 use lib.ListN.{length, getD, set, take, drop, replicate, length-append, length-drop, length-take, replicate-append-replicate, drop-of-length-le, getD-replicate, length-replicate}
 use lib.Seq.{length-take-le, take-all, take-append-le, drop-append-le, take-at, drop-at, drop-drop, getD-take, getD-drop}
 use Rattle.lists.proofs.Tests.{either, and-left, and-right, and-both, and-no-left, and-no-right, cond-yes, cond-no, lt-or-le}
-use Rattle.lists.proofs.Parts.{all-take, all-drop, next-offset}
-use Rattle.wire.specs.Slot.{header, width, slotOf, holds, isPresent, messageOf, Sent, silence, bytes, written, slots, toAll, putSlot, copied}
+use Rattle.lists.specs.Join.{part}
+use Rattle.lists.proofs.Parts.{all-take, all-drop, all-append, all-zeros, next-offset}
+use Rattle.lists.proofs.Joins.{part-take}
+use Rattle.wire.specs.Slot.{header, width, slotOf, holds, isPresent, messageOf, Sent, silence, bytes, written, slots, toAll, putSlot, relayed, copied}
 
 -- ---- the layout
 pub width-pos : (len : ℕ) → 0 < width len
@@ -192,6 +194,20 @@ message-of-slot box len j silence least fits e =
 message-of-slot box len j (bytes m) least fits e =
     message-held box len j (holds-yes box len j least fits) (ap isPresent e) ∙ ap (drop header) e
 
+-- what holds of 0, of 1 and of each byte of what is sent holds of each byte of what is written
+module _ (P : ℕ → Type 0) (none : P 0) (mark : P 1) where
+  pub written-each : (len : ℕ) (s : Sent) → ((x : ℕ) → P (getD (content s) x 0)) → (x : ℕ) → P (getD (written len s) x 0)
+  unfolding written
+  written-each len silence h x = all-zeros P none (width len) x
+  written-each len (bytes m) h zero = mark
+  written-each len (bytes m) h (suc x) = h x
+
+  pub slots-each : (len : ℕ) (f : ℕ → Sent) → ((j x : ℕ) → P (getD (content (f j)) x 0)) → (n x : ℕ) → P (getD (slots len f n) x 0)
+  unfolding slots
+  slots-each len f h zero x = none
+  slots-each len f h (suc n) x =
+      all-append P none (slots len f n) (written len (f (suc n))) (slots-each len f h n) (written-each len (f (suc n)) (h (suc n))) x
+
 -- ---- writing one slot
 pub put-none : (box : List ℕ) (len j : ℕ) (m : List ℕ) → holds box len j ≡ false → putSlot box len j m ≡ box
 unfolding putSlot
@@ -207,6 +223,23 @@ unfolding putSlot
 put-held box len j m h l e =
     cond-yes (holds box len j && eqb (length m) len) _ box
     (and-both (holds box len j) (eqb (length m) len) (holds-yes box len j h l) (eq-eqb (length m) len e))
+
+-- ---- a slot passed on
+module _ (box : List ℕ) (len j : ℕ) (src : List ℕ) (i : ℕ) where
+  pub relay-no-target : holds box len j ≡ false → relayed box len j src i ≡ box
+  unfolding relayed
+  relay-no-target n = cond-no (holds box len j && holds src len i) _ box (and-no-left (holds box len j) (holds src len i) n)
+
+  pub relay-no-source : holds src len i ≡ false → relayed box len j src i ≡ box
+  unfolding relayed
+  relay-no-source n = cond-no (holds box len j && holds src len i) _ box (and-no-right (holds box len j) (holds src len i) n)
+
+  pub relay-held : 1 ≤ j → j * width len ≤ length box → 1 ≤ i → i * width len ≤ length src
+      → relayed box len j src i ≡ take ((j - 1) * width len) box ++ (slotOf src len i ++ drop (j * width len) box)
+  unfolding relayed
+  relay-held a b c d =
+      cond-yes (holds box len j && holds src len i) _ box
+      (and-both (holds box len j) (holds src len i) (holds-yes box len j a b) (holds-yes src len i c d))
 
 -- one message to all, in an outbox that is as long as its slots
 pub to-all : (n : ℕ) (m o : List ℕ) → length o ≡ n * width (length m) → toAll n m o ≡ slots (length m) (λ _. bytes m) n
@@ -311,6 +344,29 @@ module _ (box : List ℕ) (len j : ℕ) where
           (drop-drop ((j - 1) * width len + width len - (j - 1) * width len) ((j - 1) * width len) box ∙ ap (λ (i : ℕ). drop i box) u)
           ∙ sym (put-held box len j m some within e)
 
+-- a slot of one box copied to a slot of another, both of which were lent as parts
+pub relay-part : (box src v : List ℕ) (len j i : ℕ) → 1 ≤ j → j ≤ length box / width len → 1 ≤ i → i ≤ length src / width len
+    → v ≡ copied (take ((i - 1) * width len + width len - (i - 1) * width len) (drop ((i - 1) * width len) src))
+    (take ((j - 1) * width len + width len - (j - 1) * width len) (drop ((j - 1) * width len) box))
+    → take ((j - 1) * width len) box ++ (v ++ drop ((j - 1) * width len + width len - (j - 1) * width len) (drop ((j - 1) * width len) box))
+    ≡ relayed box len j src i
+unfolding slotOf
+relay-part box src v len j i some-j held-j some-i held-i is-v =
+    let w = width len in
+    let a = (j - 1) * w in
+    let b = (i - 1) * w in
+    let to : a + w - a ≡ w = omega arith in
+    let from : b + w - b ≡ w = omega arith in
+    let room : a + w ≤ length box = slot-fits box len j some-j held-j in
+    let held : b + w ≤ length src = slot-fits src len i some-i held-i in
+    let u : a + (a + w - a) ≡ j * w = omega (arith, slot-end j w some-j) in
+    let l : length (take w (drop b src)) ≡ length (take w (drop a box)) =
+    length-take-le w (drop b src) (omega (arith, length-drop b src)) ∙ sym (length-take-le w (drop a box) (omega (arith, length-drop a box))) in
+    let e : v ≡ take w (drop b src) =
+    is-v ∙ ap₂ (λ (x y : ℕ). copied (take x (drop b src)) (take y (drop a box))) from to ∙ copied-all (take w (drop b src)) (take w (drop a box)) l in
+    ap₂ (λ (x y : List ℕ). take a box ++ (x ++ y)) e (drop-drop (a + w - a) a box ∙ ap (λ (x : ℕ). drop x box) u)
+    ∙ sym (relay-held box len j src i some-j (omega (arith, room, slot-end j w some-j)) some-i (omega (arith, held, slot-end i w some-i)))
+
 -- a slot whose first byte is 01 and whose rest was lent and came back with the message copied to it
 pub put-head : (d m : List ℕ) → length d ≡ width (length m)
     → take header (set d 0 1) ++ (copied m (take (length (set d 0 1) - header) (drop header (set d 0 1))) ++ drop (length (set d 0 1) - header) (drop header (set d 0 1)))
@@ -331,3 +387,40 @@ pub length-rest : (len : ℕ) (f : ℕ → Sent) → ((i : ℕ) → Sized len (f
 length-rest len f sized o box j h e =
     ap length e ∙ length-append (slots len f j) (drop (j * width len) o)
     ∙ omega (arith, length-slots len f sized j, length-drop (j * width len) o)
+
+-- ---- a box as parts of one width
+-- how large boxes are, for those who hold them
+pub width-most : (len : ℕ) → width len ≤ len + 1
+unfolding width
+width-most len = omega arith
+
+pub slot-part : (box : List ℕ) (len j : ℕ) → slotOf box len j ≡ part (width len) box (j - 1)
+unfolding slotOf
+slot-part box len j = sym (part-take (width len) box (j - 1))
+
+pub slot-length : (box : List ℕ) (len j : ℕ) → 1 ≤ j → j * width len ≤ length box → length (slotOf box len j) ≡ width len
+slot-length box len j some room = length-slot box len j (holds-yes box len j some room)
+
+pub silent-slot : (len : ℕ) → written len silence ≡ replicate (width len) 0
+unfolding written
+silent-slot len = refl
+
+-- a box whose first j slots are written, and a slot put or passed on behind them
+module _ (len : ℕ) (p r : List ℕ) (j : ℕ) (front : length p ≡ j * width len) (room : width len ≤ length r) where
+  within-box : (j + 1) * width len ≤ length (p ++ r)
+  within-box = omega (arith, length-append p r, next-offset j (width len))
+
+  behind : (v : List ℕ) → take ((j + 1 - 1) * width len) (p ++ r) ++ (v ++ drop ((j + 1) * width len) (p ++ r)) ≡ p ++ (v ++ drop (width len) r)
+  behind v =
+      let w = width len in
+      let back : j + 1 - 1 ≡ j = omega arith in
+      ap₂ (λ (x : ℕ) (y : ℕ). take (x * w) (p ++ r) ++ (v ++ drop y (p ++ r))) back (next-offset j w)
+      ∙ ap₂ (λ (x y : List ℕ). x ++ (v ++ y)) (take-at p r (j * w) front)
+      (sym (drop-drop w (j * w) (p ++ r)) ∙ ap (drop w) (drop-at p r (j * w) front))
+
+  pub put-into : (m : List ℕ) → length m ≡ len → putSlot (p ++ r) len (j + 1) m ≡ p ++ (written len (bytes m) ++ drop (width len) r)
+  put-into m e = put-held (p ++ r) len (j + 1) m (omega arith) within-box e ∙ behind (written len (bytes m))
+
+  pub relay-into : (src : List ℕ) (i : ℕ) → 1 ≤ i → i * width len ≤ length src
+      → relayed (p ++ r) len (j + 1) src i ≡ p ++ (slotOf src len i ++ drop (width len) r)
+  relay-into src i some held = relay-held (p ++ r) len (j + 1) src i (omega arith) within-box some held ∙ behind (slotOf src len i)

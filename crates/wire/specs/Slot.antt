@@ -10,6 +10,8 @@
 --   toAll n m outbox         the outbox with the message m in its n slots; as it is where it is not exactly as long
 --   putSlot box len j m      the box with slot j written with the message m; the box as it is where it does not hold the slot whole or
 --                            m is not len bytes long
+--   relayed box len j src i  the box with slot j replaced by slot i of the box src, byte for byte; the box as it is where either does not hold
+--                            its slot whole
 --   copied s d               d with its first bytes replaced by those of s, as far as both reach
 use mathlib.Core.Bool.{Bool, cond, not, _&&_}
 use mathlib.Core.List.{List, [], _∷_, _++_}
@@ -54,6 +56,12 @@ unfoldable pub putSlot : List ℕ → ℕ → ℕ → List ℕ → List ℕ
 putSlot box len j m =
     cond (holds box len j && eqb (length m) len)
     (take ((j - 1) * width len) box ++ (written len (bytes m) ++ drop (j * width len) box))
+    box
+
+unfoldable pub relayed : List ℕ → (len j : ℕ) → List ℕ → ℕ → List ℕ
+relayed box len j src i =
+    cond (holds box len j && holds src len i)
+    (take ((j - 1) * width len) box ++ (slotOf src len i ++ drop (j * width len) box))
     box
 
 unfoldable pub copied : List ℕ → List ℕ → List ℕ

@@ -10,7 +10,7 @@ ghost use Rattle.settings.specs.Refusal.{outside};
 ghost use Rattle.settings.specs.Valid.{Coded};
 ghost use Rattle.wire.specs.Round.{roundCount, callCount, phaseRound, lastRound, roundKind, phaseCall, lastCall, callKind, phaseOf};
 ghost use Rattle.wire.specs.Length.{rowIndex, factorsAt, rowLength, inSettings, blockSize, messageLength, inboxLength, outboxLength};
-ghost use Rattle.wire.specs.Slot.{width, messageOf, bytes, written, slots, toAll, putSlot, copied};
+ghost use Rattle.wire.specs.Slot.{width, messageOf, bytes, written, slots, toAll, putSlot, relayed, copied};
 use settings::Entry;
 use settings::Settings;
 
@@ -383,6 +383,37 @@ pub fn send_one(outbox: &mut [u8], len: usize, j: usize, m: &[u8])
     let a = (j - 1) * w;
     let e = a + w;
     put_slot(&mut outbox[a..e], m);
+}
+
+// A slot passed on byte for byte: slot j of `dst` becomes slot i of `src`. Nothing is written where either box does not hold its slot whole.
+// Shut out: slot j of `src`; the slot without its last byte.
+pub fn relay(dst: &mut [u8], len: usize, j: usize, src: &[u8], i: usize)
+    ensures { λ _. ⌜ now (dst .exit) ≡ relayed (now (dst .entry)) len j (now (src .entry)) i ⌝ }
+{
+    if j == 0 {
+        return;
+    }
+    if i == 0 {
+        return;
+    }
+    if src.len() < HEADER {
+        return;
+    }
+    if src.len() - HEADER < len {
+        return;
+    }
+    let w = HEADER + len;
+    if dst.len() / w < j {
+        return;
+    }
+    if src.len() / w < i {
+        return;
+    }
+    let a = (j - 1) * w;
+    let e = a + w;
+    let b = (i - 1) * w;
+    let f = b + w;
+    copy(&mut dst[a..e], &src[b..f]);
 }
 
 // Whether a box is exactly as long as n slots with messages of `len` bytes.

@@ -21,7 +21,8 @@ use Rattle.wire.specs.Slot.{width, slotOf, holds, isPresent, messageOf, written
 use Rattle.polynomial.specs.Polynomial.{Bytes, gsum, evaluate, horner, plus, scale, timesRoot}
 use Rattle.interpolation.specs.Interpolation.{wrongBy, combine, withRoot, start, advance, next, run, smaller, reduced, series, candidate}
 use Rattle.reed_solomon.specs.Encode.{stripe, pieceOf}
-use Rattle.reed_solomon.specs.Decode.{received, agreement as agreementOf, points, column, stripeOf, isFound, joined, decodeRefusal, rebuiltOf, decodeOf}
+use Rattle.lists.specs.Join.{joined}
+use Rattle.reed_solomon.specs.Decode.{received, agreement as agreementOf, points, column, stripeOf, isFound, decodeRefusal, rebuiltOf, decodeOf}
 use Rattle.dispersal.specs.Dispersal.{isReady, sentBlock, receivedBlock, traded, sentPieces, isMarked, marksOf, marksMessage, sentMarks}
 use Rattle.phase_king.specs.Bit.{zeroSeen, oneSeen, held, support, weak, settled}
 use Rattle.phase_king.specs.Matrix.{matrixOf, said, kingSays, firstMatrix, zerosOf, onesOf, heldOf, weakOf, settledOf, seenMessage}

@@ -1,8 +1,8 @@
+-- `bitset::row_byte` meets its contract.
 use borrow.Author.Tests.{eq-eqb, ne-eqb}
 use Rattle.bitset.specs.Row.{rowByte}
 use Prim.Native.Nat.{ℕ, _/_, _%_}
 use mathlib.Core.Path.{ap, _∙_}
--- `bitset::row_byte` meets its contract.
 use borrow.Author.Needs.{needs}
 use Rattle.bitset.proofs.row_byte.Statement.{statement}
 use Rattle.bitset.proofs.row_byte.Tie as tie

@@ -1,5 +1,6 @@
 -- `controller::perform` meets its contract, kind by kind.
 use Rattle.protocol.specs.Calls.{Carried, carried, callOf}
+use Rattle.protocol.proofs.Laws.{of-send, of-receive, of-compare, of-collect, of-tally, of-hold, of-settle, of-core, of-choose, of-finish, of-outside}
 use Rattle.wire.specs.declared.Call.{Call}
 use denote.Ref.{now}
 use mathlib.Core.Path.{sym, ap, _∙_}
@@ -80,12 +81,11 @@ same-length-2 : tie.Need-same-length-2
 same-length-2 c = search needs
 
 returns : tie.Need-returns
-unfolding callOf
 returns c =
     let a = c .before .before .before .before .before .before .before .before .before .before .before .args in
     let e = sym (c .before .before .before .before .before .before .before .call-kind .ensures) ∙ c .before .before .before .before .before .enum-told .given .1 in
     c .before .before .send-call .ensures
-    ∙ sym (ap (λ (k : Call). callOf k (a .s) (now (a .block)) (now (a .inbox)) (now (a .outbox))) e)
+    ∙ sym (ap (λ (k : Call). callOf k (a .s) (now (a .block)) (now (a .inbox)) (now (a .outbox))) e ∙ of-send (a .s) (now (a .block)) (now (a .inbox)) (now (a .outbox)))
 
 same-length-3 : tie.Need-same-length-3
 same-length-3 c = search needs
@@ -94,12 +94,11 @@ same-length-4 : tie.Need-same-length-4
 same-length-4 c = search needs
 
 returns-2 : tie.Need-returns-2
-unfolding callOf
 returns-2 c =
     let a = c .before .before .before .before .before .before .before .before .before .before .before .before .before .args in
     let e = sym (c .before .before .before .before .before .before .before .before .before .call-kind .ensures) ∙ c .before .before .before .before .before .before .before .enum-told2 .given .1 in
     c .before .before .before .before .receive-call .ensures
-    ∙ sym (ap (λ (k : Call). callOf k (a .s) (now (a .block)) (now (a .inbox)) (now (a .outbox))) e)
+    ∙ sym (ap (λ (k : Call). callOf k (a .s) (now (a .block)) (now (a .inbox)) (now (a .outbox))) e ∙ of-receive (a .s) (now (a .block)) (now (a .inbox)) (now (a .outbox)))
 
 same-length-5 : tie.Need-same-length-5
 same-length-5 c = search needs
@@ -108,56 +107,51 @@ same-length-6 : tie.Need-same-length-6
 same-length-6 c = search needs
 
 returns-3 : tie.Need-returns-3
-unfolding callOf
 returns-3 c =
     let a = c .before .before .before .before .before .before .before .before .before .before .before .args in
     let e = sym (c .before .before .before .before .before .before .before .call-kind .ensures) ∙ c .before .before .before .before .before .enum-told3 .given .1 in
     c .before .before .compare-call .ensures
-    ∙ sym (ap (λ (k : Call). callOf k (a .s) (now (a .block)) (now (a .inbox)) (now (a .outbox))) e)
+    ∙ sym (ap (λ (k : Call). callOf k (a .s) (now (a .block)) (now (a .inbox)) (now (a .outbox))) e ∙ of-compare (a .s) (now (a .block)) (now (a .inbox)) (now (a .outbox)))
 
 same-length-7 : tie.Need-same-length-7
 same-length-7 c = search needs
 
 returns-4 : tie.Need-returns-4
-unfolding callOf
 returns-4 c =
     let a = c .before .before .before .before .before .before .before .before .before .before .args in
     let e = sym (c .before .before .before .before .before .before .call-kind .ensures) ∙ c .before .before .before .before .enum-told4 .given .1 in
     ap (λ (x : Carried). carried (x .state) (now (a .block)) (x .outbox)) (c .before .before .collect-call .ensures)
-    ∙ sym (ap (λ (k : Call). callOf k (a .s) (now (a .block)) (now (a .inbox)) (now (a .outbox))) e)
+    ∙ sym (ap (λ (k : Call). callOf k (a .s) (now (a .block)) (now (a .inbox)) (now (a .outbox))) e ∙ of-collect (a .s) (now (a .block)) (now (a .inbox)) (now (a .outbox)))
 
 same-length-8 : tie.Need-same-length-8
 same-length-8 c = search needs
 
 returns-5 : tie.Need-returns-5
-unfolding callOf
 returns-5 c =
     let a = c .before .before .before .before .before .before .before .before .before .before .args in
     let e = sym (c .before .before .before .before .before .before .call-kind .ensures) ∙ c .before .before .before .before .enum-told5 .given .1 in
     ap (λ (x : Carried). carried (x .state) (now (a .block)) (x .outbox)) (c .before .before .tally-call .ensures)
-    ∙ sym (ap (λ (k : Call). callOf k (a .s) (now (a .block)) (now (a .inbox)) (now (a .outbox))) e)
+    ∙ sym (ap (λ (k : Call). callOf k (a .s) (now (a .block)) (now (a .inbox)) (now (a .outbox))) e ∙ of-tally (a .s) (now (a .block)) (now (a .inbox)) (now (a .outbox)))
 
 same-length-9 : tie.Need-same-length-9
 same-length-9 c = search needs
 
 returns-6 : tie.Need-returns-6
-unfolding callOf
 returns-6 c =
     let a = c .before .before .before .before .before .before .before .before .before .before .args in
     let e = sym (c .before .before .before .before .before .before .call-kind .ensures) ∙ c .before .before .before .before .enum-told6 .given .1 in
     ap (λ (x : Carried). carried (x .state) (now (a .block)) (x .outbox)) (c .before .before .hold-call .ensures)
-    ∙ sym (ap (λ (k : Call). callOf k (a .s) (now (a .block)) (now (a .inbox)) (now (a .outbox))) e)
+    ∙ sym (ap (λ (k : Call). callOf k (a .s) (now (a .block)) (now (a .inbox)) (now (a .outbox))) e ∙ of-hold (a .s) (now (a .block)) (now (a .inbox)) (now (a .outbox)))
 
 same-length-10 : tie.Need-same-length-10
 same-length-10 c = search needs
 
 returns-7 : tie.Need-returns-7
-unfolding callOf
 returns-7 c =
     let a = c .before .before .before .before .before .before .before .before .before .before .args in
     let e = sym (c .before .before .before .before .before .before .call-kind .ensures) ∙ c .before .before .before .before .enum-told7 .given .1 in
     ap (λ (x : Carried). carried (x .state) (now (a .block)) (x .outbox)) (c .before .before .settle-call .ensures)
-    ∙ sym (ap (λ (k : Call). callOf k (a .s) (now (a .block)) (now (a .inbox)) (now (a .outbox))) e)
+    ∙ sym (ap (λ (k : Call). callOf k (a .s) (now (a .block)) (now (a .inbox)) (now (a .outbox))) e ∙ of-settle (a .s) (now (a .block)) (now (a .inbox)) (now (a .outbox)))
 
 same-length-11 : tie.Need-same-length-11
 same-length-11 c = search needs
@@ -166,12 +160,11 @@ same-length-12 : tie.Need-same-length-12
 same-length-12 c = search needs
 
 returns-8 : tie.Need-returns-8
-unfolding callOf
 returns-8 c =
     let a = c .before .before .before .before .before .before .before .before .before .before .before .args in
     let e = sym (c .before .before .before .before .before .before .before .call-kind .ensures) ∙ c .before .before .before .before .before .enum-told8 .given .1 in
     c .before .before .core-call .ensures
-    ∙ sym (ap (λ (k : Call). callOf k (a .s) (now (a .block)) (now (a .inbox)) (now (a .outbox))) e)
+    ∙ sym (ap (λ (k : Call). callOf k (a .s) (now (a .block)) (now (a .inbox)) (now (a .outbox))) e ∙ of-core (a .s) (now (a .block)) (now (a .inbox)) (now (a .outbox)))
 
 same-length-13 : tie.Need-same-length-13
 same-length-13 c = search needs
@@ -180,30 +173,27 @@ same-length-14 : tie.Need-same-length-14
 same-length-14 c = search needs
 
 returns-9 : tie.Need-returns-9
-unfolding callOf
 returns-9 c =
     let a = c .before .before .before .before .before .before .before .before .before .before .before .args in
     let e = sym (c .before .before .before .before .before .before .before .call-kind .ensures) ∙ c .before .before .before .before .before .enum-told9 .given .1 in
     c .before .before .choose-call .ensures
-    ∙ sym (ap (λ (k : Call). callOf k (a .s) (now (a .block)) (now (a .inbox)) (now (a .outbox))) e)
+    ∙ sym (ap (λ (k : Call). callOf k (a .s) (now (a .block)) (now (a .inbox)) (now (a .outbox))) e ∙ of-choose (a .s) (now (a .block)) (now (a .inbox)) (now (a .outbox)))
 
 same-length-15 : tie.Need-same-length-15
 same-length-15 c = search needs
 
 returns-10 : tie.Need-returns-10
-unfolding callOf
 returns-10 c =
     let a = c .before .before .before .before .before .before .before .before .before .before .args in
     let e = sym (c .before .before .before .before .before .before .call-kind .ensures) ∙ c .before .before .before .before .enum-told10 .given .1 in
     ap (λ (x : Carried). carried (x .state) (x .block) (now (a .outbox))) (c .before .before .finish-call .ensures)
-    ∙ sym (ap (λ (k : Call). callOf k (a .s) (now (a .block)) (now (a .inbox)) (now (a .outbox))) e)
+    ∙ sym (ap (λ (k : Call). callOf k (a .s) (now (a .block)) (now (a .inbox)) (now (a .outbox))) e ∙ of-finish (a .s) (now (a .block)) (now (a .inbox)) (now (a .outbox)))
 
 returns-11 : tie.Need-returns-11
-unfolding callOf
 returns-11 c =
     let a = c .before .before .before .before .before .before .args in
     let e = sym (c .before .before .call-kind .ensures) ∙ c .enum-told11 .given .1 in
-    sym (ap (λ (k : Call). callOf k (a .s) (now (a .block)) (now (a .inbox)) (now (a .outbox))) e)
+    sym (ap (λ (k : Call). callOf k (a .s) (now (a .block)) (now (a .inbox)) (now (a .outbox))) e ∙ of-outside (a .s) (now (a .block)) (now (a .inbox)) (now (a .outbox)))
 
 pub perform-spec : {M : Type 1} → statement M
 perform-spec =

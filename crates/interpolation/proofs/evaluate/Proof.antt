@@ -6,8 +6,8 @@ use Rattle.gf256.specs.Field.{gadd, gmul}
 use lib.Seq.{drop-length}
 use lib.ListN.{length, getD, drop}
 use native.Mathlib.Omega.{arith}
-use Prim.Native.Nat.{ℕ, _+_, _-_, _≤_, _<_}
-use mathlib.Core.Path.{_≡_, refl, sym, ap, ap₂, _∙_}
+use Prim.Native.Nat.{_+_, _-_, _≤_}
+use mathlib.Core.Path.{_≡_, sym, ap, _∙_}
 use borrow.Author.Needs.{needs}
 use Rattle.interpolation.proofs.evaluate.Statement.{statement}
 use Rattle.interpolation.proofs.evaluate.Tie as tie

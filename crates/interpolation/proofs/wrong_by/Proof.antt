@@ -1,6 +1,6 @@
+-- `wrong_by` meets its contract.
 use Rattle.polynomial.proofs.Laws.{evaluate-horner}
 use native.Mathlib.Omega.{arith}
--- `wrong_by` meets its contract.
 use Rattle.interpolation.proofs.Laws.{wrong-values}
 use Rattle.gf256.specs.Field.{gadd, gmul}
 use mathlib.Core.Path.{sym, ap, ap₂, _∙_}

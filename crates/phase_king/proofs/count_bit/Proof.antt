@@ -1,5 +1,5 @@
-use Rattle.phase_king.proofs.Steps.{is-count-le}
 -- `phase_king::count_bit` meets its contract: the loop counts.
+use Rattle.phase_king.proofs.Steps.{is-count-le}
 use Rattle.phase_king.specs.Matrix.{cell}
 use Rattle.lists.proofs.Sums.{count-none-below, counted}
 use Rattle.lists.specs.Sum.{count}

@@ -1,5 +1,5 @@
-use native.Mathlib.Omega.{arith}
 -- `phase_king::said_row` meets its contract: an absent slot says nothing but zeros.
+use native.Mathlib.Omega.{arith}
 use Rattle.bitset.proofs.Rows.{row-missing}
 use Rattle.bitset.specs.Row.{rowOf}
 use denote.Ref.{now}

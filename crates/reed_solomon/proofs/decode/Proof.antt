@@ -1,5 +1,5 @@
-use Rattle.settings.specs.declared.Settings.{Settings}
 -- `decode` meets its contract.
+use Rattle.settings.specs.declared.Settings.{Settings}
 use Rattle.reed_solomon.proofs.Rule.{decode-refused, decode-carried, decode-valid}
 use Rattle.reed_solomon.specs.Decode.{decodeRefusal}
 use Rattle.settings.specs.Refusal.{refusalOf}

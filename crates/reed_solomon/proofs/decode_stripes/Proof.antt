@@ -1,7 +1,9 @@
 -- `decode_stripes` meets its contract. The invariant: the first s stripes are found and written.
 use Rattle.reed_solomon.proofs.Rule.{tried-found}
-use Rattle.reed_solomon.proofs.Stripes.{joined-none, joined-more, length-joined, length-found, part-length}
-use Rattle.reed_solomon.specs.Decode.{stripeOf, isFound, joined}
+use Rattle.reed_solomon.proofs.Stripes.{length-found, part-length}
+use Rattle.lists.specs.Join.{joined}
+use Rattle.lists.proofs.Joins.{joined-none, joined-more, length-joined}
+use Rattle.reed_solomon.specs.Decode.{stripeOf, isFound}
 use Rattle.lists.proofs.Parts.{slot-within, next-offset, put-next}
 use Rattle.lists.proofs.Tests.{true≢false}
 use Rattle.lists.proofs.Sums.{count-none-below, counted-yes, count-full}
@@ -111,7 +113,7 @@ loop-again c =
       same-len-mid z (z + w - z) (l .block) m (d .kept .1 .1 .1 .1 .1 .0) ∙ l .inv .1,
       counted-yes (l .s) (isFound n (a .t) (a .k) (a .slots .now)) (l .s) (sym (f .1) ∙ not-false (d .result) (c .if1 .left)) (l .inv .2),
       ap (λ (x : List ℕ). putMid z (z + w - z) x m) (l .inv .3)
-          ∙ put-next (joined g (l .s)) m b z (z + w) (length-joined (a .t) g (l .s) (λ s h. length-found n (a .t) (a .k) (a .slots .now) s)) (omega arith)
+          ∙ put-next (joined g (l .s)) m b z (z + w) (length-joined (a .t + 1) g (l .s) (λ s h. length-found n (a .t) (a .k) (a .slots .now) s)) (omega arith)
           ∙ ap₂ (λ (x : List ℕ) (e : ℕ). x ++ drop e b) (ap (λ (x : List ℕ). joined g (l .s) ++ x) (f .0) ∙ sym (joined-more g (l .s))) (sym (next-offset (l .s) w)),
     )
 

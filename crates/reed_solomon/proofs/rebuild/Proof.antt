@@ -1,8 +1,7 @@
+-- `rebuild` meets its contract.
 use Rattle.wire.specs.Length.{blockLength}
 use lib.Seq.{take-length, drop-length}
 use mathlib.Core.List.{_++_, append-nil}
-use mathlib.Core.Path.{ap₂}
--- `rebuild` meets its contract.
 use Rattle.reed_solomon.proofs.Rule.{rebuilt-yes, rebuilt-no}
 use Rattle.interpolation.proofs.Zeros.{length-zeros}
 use Rattle.reed_solomon.specs.Steps.{Rebuilt}
@@ -11,7 +10,7 @@ use Rattle.wire.proofs.Laws.{block-length}
 use lib.ListN.{length, replicate}
 use native.Mathlib.Omega.{arith}
 use Prim.Native.Nat.{_≤_}
-use mathlib.Core.Path.{_≡_, refl, sym, ap, subst, _∙_}
+use mathlib.Core.Path.{sym, ap, ap₂, subst, _∙_}
 use borrow.Author.Needs.{needs}
 use Rattle.reed_solomon.proofs.rebuild.Statement.{statement}
 use Rattle.reed_solomon.proofs.rebuild.Tie as tie

@@ -1,6 +1,6 @@
+-- `received` meets its contract.
 use Rattle.wire.specs.Slot.{messageOf}
 use lib.ListN.{length}
--- `received` meets its contract.
 use Rattle.reed_solomon.specs.Decode.{received}
 use Rattle.polynomial.proofs.Laws.{past-end}
 use lib.ListN.{getD}

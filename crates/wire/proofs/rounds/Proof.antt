@@ -1,9 +1,8 @@
+-- `wire::rounds` meets its contract.
 use Rattle.settings.proofs.Laws.{outside-yes, no-outside}
 use mathlib.Core.Logic.{inl, inr}
--- `wire::rounds` meets its contract.
 use native.Mathlib.Omega.{arith}
 use Rattle.wire.specs.Round.{roundCount}
-use Rattle.settings.proofs.Laws.{outside-yes}
 use borrow.Author.Needs.{needs}
 use Rattle.wire.proofs.rounds.Statement.{statement}
 use Rattle.wire.proofs.rounds.Tie as tie
