@@ -1,0 +1,39 @@
+-- Laws for the crates above. Fields: `before-length`, `before-take`, `before-text` and `after-text`. Numbers: `number-yes`, `number-no` and
+-- `number-range`; `answer-value` and `answer-wrong` say what an answer tells. Bytes: `bytes-length`, `bytes-small` and `getD-bytes`. Written text:
+-- `decimal-length`, `decimal-short` and `length-hexadecimal`. Buffers: `append-padded` and `end-padded`, `append-behind`, `length-appended`.
+-- Read back: `read-decimal` and `read-hexadecimal`.
+-- What stands before a byte: at most the list, a front part of it; and where the byte follows a text whose bytes pass a test that it fails, that text.
+pub use Rattle.text.proofs.Fields.{before-at, before-past, before-length, before-take, before-all, before-text, after-text, after-drop}
+-- A number in a range: its answer by the test, the test's parts, and the test by the answer.
+pub use Rattle.text.proofs.Numbers.{
+  digit-small,
+  value-grows,
+  every-append,
+  number-yes,
+  number-no,
+  number-is,
+  number-range,
+  number-in,
+  answer-value,
+  answer-wrong,
+}
+-- How many bytes hexadecimal digits say, and which.
+pub use Rattle.text.proofs.Bytes.{hex-small, bytes-half, length-bytesOf, bytes-length, getD-bytes, bytes-small, bytes-odd, bytes-other}
+-- How many digits are written.
+pub use Rattle.text.proofs.Digits.{decimal-length, decimal-short, length-hexadecimal}
+-- A buffer where there is room and where there is none; text behind text that is written, with the rest or zeros after it.
+pub use Rattle.text.proofs.Buffers.{
+  appended-fits,
+  end-room,
+  appended-full,
+  end-full,
+  length-appended,
+  append-behind,
+  end-behind,
+  padded-none,
+  length-padded,
+  append-padded,
+  end-padded,
+}
+-- What is written is read back.
+pub use Rattle.text.proofs.RoundTrips.{every-decimal, read-decimal, every-hexadecimal, read-hexadecimal}

@@ -1,0 +1,4 @@
+-- Lines, decimal numbers and hexadecimal bytes: how they are read and written.
+pub mod Read
+pub mod Write
+pub mod Steps
