@@ -1,0 +1,46 @@
+-- `past` meets its contract.
+use Rattle.system_file.proofs.Fields.{lent-past, lent-end}
+use borrow.Author.Needs.{needs}
+use Rattle.system_file.proofs.past.Statement.{statement}
+use Rattle.system_file.proofs.past.Tie as tie
+
+add-result : tie.Need-add-result
+add-result c = search needs
+
+sub-result : tie.Need-sub-result
+sub-result c = search needs
+
+part-result-start : tie.Need-part-result-start
+part-result-start c = search needs
+
+part-result-end : tie.Need-part-result-end
+part-result-end c = search needs
+
+returns : tie.Need-returns
+returns c = lent-past (c .before .before .args .l .now) (c .before .before .args .end)
+
+sub-result-2 : tie.Need-sub-result-2
+sub-result-2 c = search needs
+
+part-result-start-2 : tie.Need-part-result-start-2
+part-result-start-2 c = search needs
+
+part-result-end-2 : tie.Need-part-result-end-2
+part-result-end-2 c = search needs
+
+returns-2 : tie.Need-returns-2
+returns-2 c = lent-end (c .before .before .args .l .now) (c .before .before .args .end) (c .before .if1 .left)
+
+pub past-spec : {M : Type 1} → statement M
+past-spec =
+    tie.close
+    (tie.spec
+    add-result
+    sub-result
+    part-result-start
+    part-result-end
+    returns
+    sub-result-2
+    part-result-start-2
+    part-result-end-2
+    returns-2)
