@@ -1,0 +1,2 @@
+-- The run of a system.
+pub mod Run
