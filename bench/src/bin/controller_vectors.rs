@@ -1,5 +1,7 @@
 //! The expected output of the program controller_cases. The refusals are written by hand from document 01's table ('Turned down'), not
-//! computed; the runs with silent inboxes follow its rounds ('Rounds'), with what silence makes of each rule.
+//! computed; the runs with silent inboxes follow its rounds ('Rounds'), with what silence makes of each rule. The reference is compared
+//! with both.
+use bench::reference::controller::{start, step, Outcome, State};
 use bench::reference::wire::{block_length, box_length};
 
 const MAX: usize = usize::MAX;
@@ -106,8 +108,40 @@ fn words(numbers: &[usize]) -> String {
     numbers.iter().map(|x| format!(" {x}")).collect()
 }
 
+fn started([n, t, k, own, sender]: Settings, length: usize, number: u8) {
+    let (answer, state) = start(n, t, k, own, sender, &vec![0xa5; length]);
+    assert_eq!(answer, number);
+    let settings = [state.n, state.t, state.k, state.own, state.sender];
+    if number == 0 {
+        assert_eq!((settings, state.next), ([n, t, k, own, sender], 1));
+        assert_eq!(state.outcome, Outcome::Open);
+    } else {
+        assert_eq!(state, State::default());
+    }
+}
+
 /// A refused step changes nothing.
 fn refused(s: Settings, next: usize, lengths: [usize; 3], number: u8) {
+    let [n, t, k, own, sender] = s;
+    let state = State {
+        n,
+        t,
+        k,
+        own,
+        sender,
+        next,
+        outcome: Outcome::Beyond,
+        matrix: [0xa5; 16],
+        weak: [0x5a; 16],
+        core: 3,
+    };
+    let [mut block, inbox, mut outbox] = lengths.map(|length| vec![0xa5; length]);
+    let answer = step(state, &mut block, &inbox, &mut outbox);
+    assert_eq!(answer, (number, state));
+    assert_eq!(
+        [block, outbox].concat(),
+        vec![0xa5; lengths[0] + lengths[2]]
+    );
     let all = [&s[..], &[next], &lengths[..]].concat();
     println!("step{}: {number} same same same", words(&all));
 }
@@ -198,23 +232,37 @@ fn sent([n, t, k, own, sender]: Settings, block: &[u8], c: usize) -> Vec<u8> {
     }
 }
 
+/// Call c of the reference with a silent inbox.
+fn called(reference: &mut (State, Vec<u8>), c: usize, block: &[u8], sent: &[u8]) {
+    let inbox = vec![0; reference.0.box_length(c - 1)];
+    let mut outbox = vec![0xa5; sent.len()];
+    let (number, state) = step(reference.0, &mut reference.1, &inbox, &mut outbox);
+    assert_eq!((number, state.next), (0, c + 1));
+    assert_eq!((&reference.1[..], &outbox[..]), (block, sent));
+    reference.0 = state;
+}
+
 /// All calls with silent inboxes, then two steps more.
-fn run(s: Settings, start: &[u8]) {
-    let [n, t, k, ..] = s;
+fn run(s: Settings, first: &[u8]) {
+    let [n, t, k, own, sender] = s;
     let last = 3 * t + 9;
-    println!("run{} {}", words(&s), hex(start));
+    println!("run{} {}", words(&s), hex(first));
+    let mut reference = (start(n, t, k, own, sender, first).1, first.to_vec());
     for c in 1..=last {
         let block = if c == 1 {
-            start.to_vec()
+            first.to_vec()
         } else {
-            vec![0; start.len()]
+            vec![0; first.len()]
         };
         let (outbox, outcome) = if c == last {
             (vec![], "none")
         } else {
-            (sent(s, start, c), "open")
+            (sent(s, first, c), "open")
         };
         assert_eq!(outbox.len(), slots(n, t, k, c));
+        called(&mut reference, c, &block, &outbox);
+        let word = format!("{:?}", reference.0.outcome).to_lowercase();
+        assert_eq!(word, outcome);
         println!(
             "call {c}: 0 {} {outcome} {} {}",
             c + 1,
@@ -224,12 +272,15 @@ fn run(s: Settings, start: &[u8]) {
     }
     for _ in 0..2 {
         let c = last + 1;
-        println!("call {c}: 8 {c} none {} -", hex(&vec![0; start.len()]));
+        let state = reference.0;
+        assert_eq!(step(state, &mut reference.1, &[], &mut []), (8, state));
+        println!("call {c}: 8 {c} none {} -", hex(&vec![0; first.len()]));
     }
 }
 
 fn main() {
     for (s, length, number) in STARTS {
+        started(s, length, number);
         let state = if number == 0 { "begun" } else { "zero" };
         println!("start{} {length}: {number} {state} same", words(&s));
     }

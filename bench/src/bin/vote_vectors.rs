@@ -1,5 +1,7 @@
 //! The expected output of the program vote_cases, from the reference.
-use bench::reference::vote::{bytes, first, held, seen, settled, Matrix, Message};
+use bench::reference::vote::{
+    bytes, first, from_words as matrix, held, seen, settled, words, Message,
+};
 
 struct Setup {
     n: usize,
@@ -64,21 +66,6 @@ impl Setup {
             })
             .collect()
     }
-}
-
-/// A matrix as 16 words.
-fn words(m: &Matrix) -> [u16; 16] {
-    let mut words = [0; 16];
-    for (r, pair) in bytes(m).chunks(2).enumerate() {
-        words[r] = u16::from_le_bytes([pair[0], pair[1]]);
-    }
-    words
-}
-
-fn matrix(n: usize, words: &[u16; 16]) -> Matrix {
-    (0..n)
-        .map(|r| (0..n).map(|j| words[r] >> j & 1 == 1).collect())
-        .collect()
 }
 
 fn digest(words: &[u16]) -> u64 {

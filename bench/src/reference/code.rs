@@ -97,7 +97,7 @@ fn stripe(values: &[u8], t: usize) -> Option<Vec<u8>> {
 }
 
 /// Rows 1 to 3 of 'Turned down'.
-fn settings_refusal(n: u128, t: u128, k: u128) -> u8 {
+pub fn settings_refusal(n: u128, t: u128, k: u128) -> u8 {
     if !(4..=16).contains(&n) {
         1
     } else if t == 0 || 3 * t + 1 > n {

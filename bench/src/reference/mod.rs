@@ -5,3 +5,5 @@ pub mod wire;
 pub mod vote;
 pub mod star;
 pub mod code;
+pub mod controller;
+pub mod simulator;

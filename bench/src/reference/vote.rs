@@ -34,6 +34,20 @@ pub fn bytes(m: &Matrix) -> Vec<u8> {
     out
 }
 
+/// A matrix as 16 rows of marks, zeros past n.
+pub fn words(m: &Matrix) -> [u16; 16] {
+    let mut words = [0; 16];
+    for (r, pair) in bytes(m).chunks(2).enumerate() {
+        words[r] = u16::from_le_bytes([pair[0], pair[1]]);
+    }
+    words
+}
+
+/// The first n bits of the first n rows of marks.
+pub fn from_words(n: usize, words: &[u16; 16]) -> Matrix {
+    matrix(n, |r, j| words[r] >> j & 1 == 1)
+}
+
 /// Call 4: row j is the message of j.
 pub fn first(messages: &[Message]) -> Matrix {
     matrix(messages.len(), |r, j| says(&messages[r], 0, j))
