@@ -1,0 +1,126 @@
+-- All calls. The main law: `held-next`, what each controller holds after one call more.
+use mathlib.Core.Path.{_≡_, refl, sym, ap, subst, _∙_}
+use mathlib.Core.Bool.{true, false}
+use mathlib.Core.List.{List, [], _++_}
+use mathlib.Core.Logic.{⊎-elim}
+use Prim.Native.Nat.{ℕ, zero, suc, _+_, _-_, _*_, _≤_, _<_}
+use native.Mathlib.Nat.{mul-le-mul}
+use native.Mathlib.Numerals.{add-one}
+use native.Mathlib.Omega.{arith}
+use lib.ListN.{length, getD, set, take, drop, replicate, getD-replicate}
+use lib.Seq.{getD-set-same, getD-set-other}
+use Rattle.lists.specs.Join.{part}
+use Rattle.lists.proofs.Tests.{either}
+use Rattle.lists.proofs.Sums.{below-suc}
+use Rattle.lists.proofs.Parts.{slot-within, length-put}
+use Rattle.lists.proofs.Joins.{part-put-same, part-put-other}
+use Rattle.bitset.specs.Set.{member}
+use Rattle.wire.specs.Length.{blockLength, messageLength, inboxLength, outboxLength}
+use Rattle.wire.specs.Slot.{copied}
+use Rattle.wire.proofs.Laws.{length-pos, inbox-of, outbox-of, copied-all}
+use Rattle.protocol.specs.declared.State.{State}
+use Rattle.protocol.specs.State.{zeroState}
+use Rattle.protocol.specs.Step.{startOf}
+use Rattle.system_file.specs.Table.{textOf, placeIn}
+use Rattle.simulation.specs.Run.{Scenario, Playing, called, played}
+use Rattle.simulation.proofs.Laws.{called-ext, called-other, played-correct, played-faulty}
+use Rattle.simulator.specs.Steps.{Small, Rooms, Calling, Called, Held, Playable, tableScenario, nowOf}
+use Rattle.simulator.proofs.Running.{lent-length, inbox-most, outbox-most}
+
+-- a run finds what each call finds
+pub playable-calling : (input places : List ℕ) (n t k c : ℕ) (blocks₀ blocks sent sending : List ℕ) → Small n t k → Rooms input places n t k
+    → n * blockLength k t ≤ length blocks₀ → length blocks ≡ length blocks₀ → length sent ≡ 49408 → length sending ≡ 49408 → c ≤ 3 * t + 8
+    → Calling input places n t k c blocks sent sending
+playable-calling input places n t k c blocks₀ blocks sent sending v rooms room same is-sent is-sending most =
+    let few = v .coded .quorum .n-most in
+    record {
+      small = v;
+      rooms = rooms;
+      calls-most = most;
+      blocks-room = omega (arith, room, same);
+      sent-room = omega (arith, is-sent, mul-le-mul {n₁ = n} {m₁ = inboxLength n t k (c + 1)} {n₂ = 16} {m₂ = 3088} few (inbox-most v c most));
+      sent-most = omega (arith, is-sent);
+      sending-room = omega (arith, is-sending, mul-le-mul {n₁ = n} {m₁ = outboxLength n t k (c + 1)} {n₂ = 16} {m₂ = 3088} few (outbox-most v (c + 1) (omega arith) (omega arith)));
+    }
+
+module _ (n t k sender : ℕ) (block : List ℕ) (faulty : ℕ) (places input : List ℕ) (v : Small n t k) where
+  F : Scenario
+  F = tableScenario n t k sender block faulty places input
+
+  module _ (c : ℕ) (states next : List State) (blocks blocks′ sent sending : List ℕ) (most : c ≤ 3 * t + 8)
+      (H : Held (tableScenario n t k sender block faulty places input) c states blocks (blockLength k t) sent (inboxLength n t k (c + 1)))
+      (C : Called (tableScenario n t k 0 [] faulty places input) c (nowOf states blocks (blockLength k t) sent (inboxLength n t k (c + 1)))
+      (nowOf next blocks′ (blockLength k t) sending (outboxLength n t k (c + 1)))) where
+    now : ℕ → Playing
+    now = nowOf states blocks (blockLength k t) sent (inboxLength n t k (c + 1))
+
+    after : ℕ → Playing
+    after = nowOf next blocks′ (blockLength k t) sending (outboxLength n t k (c + 1))
+
+    correct-is : (i : ℕ) → 1 ≤ i → i ≤ n → member faulty (i - 1) ≡ false → after i ≡ played F (suc c) i
+    unfolding F now after
+    correct-is i a b f =
+        C .correct i a b f
+        ∙ called-other n t k 0 sender [] block (λ j. member faulty (j - 1)) (λ r g j. textOf input (messageLength n t k r) (placeIn places r g j)) c now i
+        ∙ called-ext F c now (played F c) i (H .state i a b) (H .block i a b) (λ j d e g. H .outbox j d e most g)
+        ∙ sym (played-correct F c i f)
+
+    -- one call more
+    pub held-next : (sent′ : List ℕ) → sent′ ≡ sending
+        → Held (tableScenario n t k sender block faulty places input) (c + 1) next blocks′ (blockLength k t) sent′ (inboxLength n t k (c + 1 + 1))
+    unfolding F now after
+    held-next sent′ is-sent = subst (λ (d : ℕ). Held F d next blocks′ (blockLength k t) sent′ (inboxLength n t k (c + 1 + 1))) (sym (add-one c)) (record {
+      state = λ i a b. ⊎-elim
+          (λ (f : member faulty (i - 1) ≡ true).
+          C .state i a b f ∙ H .state i a b ∙ ap (λ (p : Playing). p .state) (sym (played-faulty F c i f)))
+          (λ (f : member faulty (i - 1) ≡ false). ap (λ (p : Playing). p .state) (correct-is i a b f))
+          (either (member faulty (i - 1)));
+      block = λ i a b. ⊎-elim
+          (λ (f : member faulty (i - 1) ≡ true).
+          C .block i a b f ∙ H .block i a b ∙ ap (λ (p : Playing). p .block) (sym (played-faulty F c i f)))
+          (λ (f : member faulty (i - 1) ≡ false). ap (λ (p : Playing). p .block) (correct-is i a b f))
+          (either (member faulty (i - 1)));
+      outbox = λ i a b l f.
+          let pos = length-pos (v .coded) (c + 1) (omega arith) (omega arith) in
+          ap (λ (x : List ℕ). part (inboxLength n t k (c + 1 + 1)) x (i - 1)) is-sent
+          ∙ ap (λ (w : ℕ). part w sending (i - 1)) (inbox-of n t k (c + 1) pos ∙ sym (outbox-of n t k (c + 1) pos))
+          ∙ ap (λ (p : Playing). p .outbox) (correct-is i a b f);
+    })
+
+-- ---- what the run begins with
+-- block i was copied behind the others
+module _ (n i : ℕ) (block blocks v : List ℕ) (l : i < n) (room : n * length block ≤ length blocks)
+    (is-v : v ≡ copied block (take (i * length block + length block - i * length block) (drop (i * length block) blocks))) where
+  copied-is : v ≡ block
+  copied-is = is-v ∙ copied-all block (take (i * length block + length block - i * length block) (drop (i * length block) blocks))
+      (sym (lent-length (length block) blocks i (omega (arith, slot-within n (length block) i l))))
+
+  pub blocks-turn : ((x : ℕ) → x < i → part (length block) blocks x ≡ block) → (x : ℕ) → x < i + 1
+      → part (length block) (take (i * length block) blocks ++ (v ++ drop (i * length block + length block - i * length block) (drop (i * length block) blocks))) x ≡ block
+  blocks-turn h x g =
+      ⊎-elim
+      (λ (e : x ≡ i).
+      ap (part (length block) (take (i * length block) blocks ++ (v ++ drop (i * length block + length block - i * length block) (drop (i * length block) blocks)))) e
+      ∙ part-put-same (length block) blocks v n i l room (ap length copied-is) ∙ copied-is)
+      (λ (d : x < i). part-put-other (length block) blocks v n i l room (ap length copied-is) x (λ e. omega arith) ∙ h x d)
+      (below-suc (omega arith))
+
+  pub blocks-kept : length (take (i * length block) blocks ++ (v ++ drop (i * length block + length block - i * length block) (drop (i * length block) blocks))) ≡ length blocks
+  blocks-kept = length-put blocks v (i * length block) (i * length block + length block) (omega arith) (omega (arith, slot-within n (length block) i l)) (ap length copied-is ∙ omega arith)
+
+-- the states that start returns
+pub first-state : (n t k sender : ℕ) (block : List ℕ) (s : State) → s ≡ startOf n t k 1 sender (length block) .state → (x : ℕ) → x < 1
+    → getD (replicate 16 s) x zeroState ≡ startOf n t k (x + 1) sender (length block) .state
+first-state n t k sender block s e x l =
+    let z : x ≡ 0 = omega arith in
+    getD-replicate 16 x s zeroState (omega arith) ∙ e ∙ ap (λ (y : ℕ). startOf n t k (y + 1) sender (length block) .state) (sym z)
+
+pub next-state : (n t k sender : ℕ) (block : List ℕ) (states : List State) (i : ℕ) (s : State) → i < length states → s ≡ startOf n t k (i + 1) sender (length block) .state
+    → ((x : ℕ) → x < i → getD states x zeroState ≡ startOf n t k (x + 1) sender (length block) .state)
+    → (x : ℕ) → x < i + 1 → getD (set states i s) x zeroState ≡ startOf n t k (x + 1) sender (length block) .state
+next-state n t k sender block states i s l e h x g =
+    ⊎-elim
+    (λ (q : x ≡ i).
+    ap (λ (y : ℕ). getD (set states i s) y zeroState) q ∙ getD-set-same states i s zeroState l ∙ e ∙ ap (λ (y : ℕ). startOf n t k (y + 1) sender (length block) .state) (sym q))
+    (λ (d : x < i). getD-set-other states i x s zeroState (λ q. omega arith) ∙ h x d)
+    (below-suc (omega arith))

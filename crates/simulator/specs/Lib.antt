@@ -1,0 +1,3 @@
+-- What the simulator writes, and what its functions do on the way.
+pub mod Output
+pub mod Steps
