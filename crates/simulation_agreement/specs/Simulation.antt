@@ -1,0 +1,26 @@
+-- What demand 3 says of a simulated run (document 01, 'The house program': the others follow the steps).
+--   Tolerated F        at most t controllers are faulty
+--   OneResult F        the correct controllers end with one outcome and one block; if the sender is correct, with agreed and its block
+--   SimulationAgrees   a run of a proper scenario with at most t faulty controllers has one result
+use mathlib.Core.Path.{_≡_}
+use mathlib.Core.Bool.{false}
+use mathlib.Core.List.{List}
+use Prim.Native.Nat.{ℕ, _+_, _≤_}
+use Rattle.lists.specs.Sum.{count}
+use Rattle.reconstruction.specs.declared.Outcome.{Outcome}
+use Rattle.reconstruction.specs.declared.Outcome.the-variants.{Agreed}
+use Rattle.simulation.specs.Run.{Scenario, Proper, ended}
+
+abbrev pub Tolerated : Scenario → Type 0
+Tolerated F = count (F .n) (λ i. F .faulty (i + 1)) ≤ F .t
+
+pub record OneResult (F : Scenario) : Type 0 where
+  pub outcome : Outcome
+  pub block : List ℕ
+  -- each correct controller ends with both
+  pub all : (i : ℕ) → 1 ≤ i → i ≤ F .n → F .faulty i ≡ false → (ended F i .state .outcome ≡ outcome) × (ended F i .block ≡ block)
+  -- a correct sender's block is agreed on
+  pub sender-agreed : F .faulty (F .sender) ≡ false → (outcome ≡ Agreed) × (block ≡ F .block)
+
+abbrev pub SimulationAgrees : Type 0
+SimulationAgrees = (F : Scenario) → Proper F → Tolerated F → OneResult F
