@@ -93,33 +93,20 @@ fn bytes(name: &[u8], s: &[u8]) {
     newline();
 }
 
-// Reads and writes of slots.
-fn slots() {
-    let mut outbox = [7u8; 12];
-    bytes(
-        b"slot 1",
-        wire::message(b"\x01\x05\x06\x02\x07\x08\x01\x09\x0a\x00\x0b\x0c", 2, 1),
-    );
-    bytes(
-        b"slot 2",
-        wire::message(b"\x01\x05\x06\x02\x07\x08\x01\x09\x0a\x00\x0b\x0c", 2, 2),
-    );
-    bytes(
-        b"slot 3",
-        wire::message(b"\x01\x05\x06\x02\x07\x08\x01\x09\x0a\x00\x0b\x0c", 2, 3),
-    );
-    bytes(
-        b"slot 4",
-        wire::message(b"\x01\x05\x06\x02\x07\x08\x01\x09\x0a\x00\x0b\x0c", 2, 4),
-    );
-    bytes(
-        b"slot 0",
-        wire::message(b"\x01\x05\x06\x02\x07\x08\x01\x09\x0a\x00\x0b\x0c", 2, 0),
-    );
-    bytes(
-        b"slot 5",
-        wire::message(b"\x01\x05\x06\x02\x07\x08\x01\x09\x0a\x00\x0b\x0c", 2, 5),
-    );
+// Slot j of an inbox of four slots.
+fn slot(name: &[u8], j: usize) {
+    let inbox = b"\x01\x05\x06\x02\x07\x08\x01\x09\x0a\x00\x0b\x0c";
+    bytes(name, wire::message(inbox, 2, j));
+}
+
+// Reads of slots.
+fn reads() {
+    slot(b"slot 1", 1);
+    slot(b"slot 2", 2);
+    slot(b"slot 3", 3);
+    slot(b"slot 4", 4);
+    slot(b"slot 0", 0);
+    slot(b"slot 5", 5);
     bytes(b"not whole", wire::message(b"\x01\x05\x06\x01\x07", 2, 2));
     bytes(
         b"longer",
@@ -134,6 +121,11 @@ fn slots() {
         b"largest number",
         wire::message(b"\x01\x05\x06", 2, 18446744073709551615),
     );
+}
+
+// Writes of slots.
+fn writes() {
+    let mut outbox = [7u8; 12];
     wire::send_one(&mut outbox, 2, 2, b"\x05\x06");
     bytes(b"one", &outbox);
     wire::send_one(&mut outbox, 2, 5, b"\x08\x09");
@@ -170,5 +162,6 @@ fn main() {
     table(16, 5, 18446744073709551615, 3);
     line(16, 5, 128, 18446744073709551615);
     line(16, 18446744073709551615, 128, 18446744073709551615);
-    slots();
+    reads();
+    writes();
 }
