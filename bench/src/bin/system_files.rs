@@ -602,6 +602,7 @@ const LINES: &[(&str, usize, &str)] = &[
     ("message_short_middle", 6, "1,1,4,0b"),
     ("message_long_last", 9, "3,1,0,070000"),
     ("nul_first", 4, "1,1,2,0a14\0"),
+    ("nul_middle", 7, "2,1,2,\x001e2"),
     ("nul_last", 9, "3,1,0,07\x000"),
     ("blank_first", 4, ""),
     ("blank_middle", 6, ""),
@@ -616,6 +617,7 @@ const LINES: &[(&str, usize, &str)] = &[
     ("from_0_last", 9, "3,0,0,0700"),
     ("from_5_middle", 6, "1,5,4,0b14"),
     ("to_5_first", 4, "1,1,5,0a14"),
+    ("to_5_middle", 6, "1,1,5,0b14"),
     ("to_5_last", 9, "3,1,5,0700"),
     ("to_256", 9, "3,1,256,0700"),
     ("huge_0_round", 7, "18446744073709551616,1,2,1e22"),
@@ -631,6 +633,7 @@ const LINES: &[(&str, usize, &str)] = &[
     ("twice_middle_other_message", 7, "1,1,2,0b14"),
     ("twice_last", 9, "2,1,3,1e36"),
     ("all_after_one_first", 5, "1,1,0,0a14"),
+    ("all_after_one_middle", 6, "1,1,0,0b14"),
     ("all_after_one_last", 9, "2,1,0,1e22"),
 ];
 
@@ -657,6 +660,7 @@ fn wrong_lines(files: &mut Files) {
     files.wrong("byte_ff_names", changed(1, b"\xff"), 1);
     files.wrong("byte_ff_settings", changed(2, b"4,1,1,1,0a\xff4"), 2);
     files.wrong("byte_ff_first", changed(4, b"1,1,2,0a1\xff"), 4);
+    files.wrong("byte_ff_middle", changed(7, b"2,1,2,1e\xff2"), 7);
     files.wrong("byte_ff_last", changed(9, b"3,1,0,0700\xff"), 9);
     let block = "0a".repeat(66);
     let stripes = format!("4,1,33,1,{block}");

@@ -12,7 +12,7 @@ use lib.ListN.{length, getD, take, drop, replicate, length-append, length-replic
 use lib.Seq.{length-take-le, take-at}
 use Rattle.lists.specs.Join.{part}
 use Rattle.lists.proofs.Tests.{either, cond-yes, cond-no}
-use Rattle.lists.proofs.Joins.{part-take, length-part}
+use Rattle.lists.proofs.Joins.{length-part}
 use Rattle.text.specs.Read.{newline, comma}
 use Rattle.text.specs.Write.{decimal, hexadecimal, appended, endOf, padded}
 use Rattle.text.proofs.Laws.{append-behind, padded-none, length-padded, append-padded, end-padded, decimal-short, length-hexadecimal}
@@ -166,12 +166,6 @@ module _ (f : ℕ → Bool) (w : ℕ → Outcome) (b : ℕ → List ℕ) where
       (either (f (suc i)))
 
 -- ---- the loop that writes them: states and blocks are counted from 0
--- the part that is lent
-pub lent-part : (b : ℕ) (blocks : List ℕ) (i : ℕ) → take (i * b + b - i * b) (drop (i * b) blocks) ≡ part b blocks i
-lent-part b blocks i =
-    let e : i * b + b - i * b ≡ b = omega arith in
-    ap (λ (n : ℕ). take n (drop (i * b) blocks)) e ∙ sym (part-take b blocks i)
-
 -- an element that is there
 pub getD-inside : (l : List State) (i : ℕ) (d e : State) → i < length l → getD l i d ≡ getD l i e
 getD-inside [] i d e h = absurd (omega arith)

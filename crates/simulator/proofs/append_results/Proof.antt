@@ -1,11 +1,11 @@
 -- `simulator::append_results` meets its contract. The loop's invariant: the lines of the first i controllers are written. The measure is what is
 -- left of n.
+use Rattle.simulator.proofs.Running.{part-lent}
 use Rattle.simulator.proofs.Writing.{
   Added,
   adds,
   length-after,
   after,
-  lent-part,
   getD-inside,
   lines,
   lines-most,
@@ -96,7 +96,7 @@ append-result-requires c κs =
     let i = L .loop .i in
     let l = lines-most (a .faulty) (a .t5) (now (a .blocks)) (a .b) (a .n) i (p .pre .0) (p .pre .1) (p .pre .2) (L .loop .inv .0) in (
       omega arith,
-      omega (arith, ap length (lent-part (a .b) (now (a .blocks)) i), length-part (a .b) (now (a .blocks)) (a .n) i (omega arith) (p .pre .2), p .pre .1),
+      omega (arith, ap length (part-lent (a .b) (now (a .blocks)) i), length-part (a .b) (now (a .blocks)) (a .n) i (omega arith) (p .pre .2), p .pre .1),
       after (add-lines L) 395 (omega (arith, l)),
     )
 
@@ -117,7 +117,7 @@ loop-again c =
       turn-correct (a .faulty) (a .t5) (now (a .blocks)) (a .b) i (add-lines L)
           (sym (m .member .ensures) ∙ not-true (m .member .result) (t .if1 .taken))
           (ap (λ (s : State). s .outcome) (getD-inside (a .t5) i _ zeroState n))
-          (lent-part (a .b) (now (a .blocks)) i)
+          (part-lent (a .b) (now (a .blocks)) i)
           (r .append-result .ensures),
     )
 
