@@ -31,6 +31,7 @@ pub use Rattle.wire.proofs.Slots.{
   holds-fits,
   message-none,
   length-message,
+  message-at,
   message-all,
   Sized,
   sized-silence,

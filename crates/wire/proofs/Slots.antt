@@ -3,7 +3,7 @@
 use mathlib.Core.Path.{_≡_, refl, sym, ap, ap₂, subst, _∙_}
 use mathlib.Core.Bool.{Bool, cond, true, false, not, _&&_}
 use mathlib.Core.List.{List, [], _∷_, _++_, append-nil}
-use mathlib.Core.Logic.{⊎-elim}
+use mathlib.Core.Logic.{_⊎_, inl, inr, ⊎-elim}
 use Prim.Native.Nat.{ℕ, zero, suc, _+_, _-_, _*_, _/_, _<_, _≤_, min}
 use native.Mathlib.Nat.{add-zero, suc-mul, zero-mul, mul-le-mul-right, le-div-iff-mul-le, div-lt-iff-lt-mul, le-of-eq}
 use native.Mathlib.Numerals.{add-one}
@@ -16,7 +16,7 @@ use Rattle.lists.proofs.Tests.{either, and-left, and-right, and-both, and-no-le
 use Rattle.lists.specs.Join.{part}
 use Rattle.lists.proofs.Parts.{all-take, all-drop, all-append, all-zeros, next-offset}
 use Rattle.lists.proofs.Joins.{part-take}
-use Rattle.wire.specs.Slot.{header, width, slotOf, holds, isPresent, messageOf, Sent, silence, bytes, written, slots, toAll, putSlot, relayed, copied}
+use Rattle.wire.specs.Slot.{header, width, slotOf, holds, isPresent, messageOf, offsetOf, Sent, silence, bytes, written, slots, toAll, putSlot, relayed, copied}
 
 -- ---- the layout
 pub width-pos : (len : ℕ) → 0 < width len
@@ -89,14 +89,71 @@ drop-take zero n l = ap (λ (m : ℕ). take m l) (native.Mathlib.Nat.zero-add n)
 drop-take (suc h) n [] = rw (native.Mathlib.Nat.suc-add h n) (sym (lib.Seq.take-nil n))
 drop-take (suc h) n (x ∷ l) = rw (native.Mathlib.Nat.suc-add h n) (drop-take h n l)
 
--- the message as the part of the box that is handed out
-pub message-part : (box : List ℕ) (len j : ℕ) → 1 ≤ j → j * width len ≤ length box → getD box ((j - 1) * width len) 0 ≡ 1
-    → messageOf box len j ≡ take len (drop ((j - 1) * width len + header) box)
+-- ---- where a message starts
+module _ (box : List ℕ) (len j : ℕ) where
+  pub offset-none : holds box len j ≡ false → offsetOf box len j ≡ 0
+  unfolding offsetOf
+  offset-none e = cond-no (holds box len j && isPresent (slotOf box len j)) ((j - 1) * width len + header) 0 (and-no-left (holds box len j) (isPresent (slotOf box len j)) e)
+
+  pub offset-absent : isPresent (slotOf box len j) ≡ false → offsetOf box len j ≡ 0
+  unfolding offsetOf
+  offset-absent e = cond-no (holds box len j && isPresent (slotOf box len j)) ((j - 1) * width len + header) 0 (and-no-right (holds box len j) (isPresent (slotOf box len j)) e)
+
+  pub offset-held : holds box len j ≡ true → isPresent (slotOf box len j) ≡ true → offsetOf box len j ≡ (j - 1) * width len + header
+  unfolding offsetOf
+  offset-held h e = cond-yes (holds box len j && isPresent (slotOf box len j)) ((j - 1) * width len + header) 0 (and-both (holds box len j) (isPresent (slotOf box len j)) h e)
+
+-- a message starts at 0 only where there is none
+pub record Placed (box : List ℕ) (len j : ℕ) : Type 0 where
+  pub some : 1 ≤ offsetOf box len j
+  pub within : offsetOf box len j + len ≤ length box
+  pub here : messageOf box len j ≡ take len (drop (offsetOf box len j) box)
+
+pub placed-or-none : (box : List ℕ) (len j : ℕ) → Placed box len j ⊎ ((offsetOf box len j ≡ 0) × (messageOf box len j ≡ []))
 unfolding slotOf width
-message-part box len j h l e =
-    message-held box len j (holds-yes box len j h l) (present-yes box len j e)
-    ∙ drop-take header len (drop ((j - 1) * width len) box)
-    ∙ ap (take len) (drop-drop header ((j - 1) * width len) box)
+placed-or-none box len j =
+    ⊎-elim
+    (λ (h : holds box len j ≡ true).
+    ⊎-elim
+    (λ (p : isPresent (slotOf box len j) ≡ true).
+    let f = holds-fits box len j h in
+    let e : offsetOf box len j ≡ (j - 1) * width len + header = offset-held box len j h p in
+    inl
+    (record {
+      some = omega (arith, e);
+      within = omega (arith, e, slot-end j (width len) (f .0), f .1);
+      here =
+          message-held box len j h p
+          ∙ drop-take header len (drop ((j - 1) * width len) box)
+          ∙ ap (take len) (drop-drop header ((j - 1) * width len) box ∙ ap (λ (i : ℕ). drop i box) (sym e));
+    }))
+    (λ (p : isPresent (slotOf box len j) ≡ false). inr (offset-absent box len j p, message-absent box len j p))
+    (either (isPresent (slotOf box len j))))
+    (λ (h : holds box len j ≡ false). inr (offset-none box len j h, message-none box len j h))
+    (either (holds box len j))
+
+-- with no offset there is no message
+pub no-message : (box : List ℕ) (len j : ℕ) → offsetOf box len j ≡ 0 → messageOf box len j ≡ []
+no-message box len j e =
+    ⊎-elim (λ (p : Placed box len j). absurd (omega (arith, p .some))) (λ (n : (offsetOf box len j ≡ 0) × (messageOf box len j ≡ [])). n .1)
+    (placed-or-none box len j)
+
+pub placed : (box : List ℕ) (len j : ℕ) → (offsetOf box len j ≡ 0 → ⊥) → Placed box len j
+placed box len j n =
+    ⊎-elim (λ (p : Placed box len j). p) (λ (e : (offsetOf box len j ≡ 0) × (messageOf box len j ≡ [])). absurd (n (e .0)))
+    (placed-or-none box len j)
+
+-- the part of the box that starts there, as long as the message, is the message
+pub message-at : (box : List ℕ) (len j : ℕ) → take (length (messageOf box len j)) (drop (offsetOf box len j) box) ≡ messageOf box len j
+message-at box len j =
+    ⊎-elim
+    (λ (p : Placed box len j).
+    let l : length (messageOf box len j) ≡ len
+    = ap length (p .here) ∙ length-take-le len (drop (offsetOf box len j) box) (omega (arith, p .within, length-drop (offsetOf box len j) box)) in
+    ap (λ (i : ℕ). take i (drop (offsetOf box len j) box)) l ∙ sym (p .here))
+    (λ (e : (offsetOf box len j ≡ 0) × (messageOf box len j ≡ [])).
+    ap (λ (m : List ℕ). take (length m) (drop (offsetOf box len j) box)) (e .1) ∙ sym (e .1))
+    (placed-or-none box len j)
 
 -- a message that is there has the round's length
 pub length-message : (box : List ℕ) (len j : ℕ) → (length (messageOf box len j) ≡ 0 → ⊥) → length (messageOf box len j) ≡ len
@@ -308,12 +365,12 @@ length-copied s d =
 
 -- ---- the tests that the code makes
 module _ (box : List ℕ) (len j : ℕ) where
-  pub number-zero : j ≡ 0 → [] ≡ messageOf box len j
-  number-zero e = sym (message-none box len j (holds-zero box len j e))
+  pub number-zero : j ≡ 0 → 0 ≡ offsetOf box len j
+  number-zero e = sym (offset-none box len j (holds-zero box len j e))
 
   module _ (some : 1 ≤ j) where
-    pub too-short : length box < width len → [] ≡ messageOf box len j
-    too-short l = sym (message-none box len j (holds-past box len j (omega (arith, slot-end j (width len) some))))
+    pub too-short : length box < width len → 0 ≡ offsetOf box len j
+    too-short l = sym (offset-none box len j (holds-past box len j (omega (arith, slot-end j (width len) some))))
 
     pub past-end : length box / width len < j → holds box len j ≡ false
     past-end l = holds-past box len j (div-lt-iff-lt-mul (width-pos len) .0 l)
@@ -325,15 +382,11 @@ module _ (box : List ℕ) (len j : ℕ) where
       pub slot-fits : (j - 1) * width len + width len ≤ length box
       slot-fits = omega (arith, within, slot-end j (width len) some)
 
-      pub absent-slot : (getD box ((j - 1) * width len) 0 ≡ 1 → ⊥) → [] ≡ messageOf box len j
-      absent-slot n = sym (message-absent box len j (present-no box len j n))
+      pub absent-slot : (getD box ((j - 1) * width len) 0 ≡ 1 → ⊥) → 0 ≡ offsetOf box len j
+      absent-slot n = sym (offset-absent box len j (present-no box len j n))
 
-      pub present-slot : getD box ((j - 1) * width len) 0 ≡ 1
-          → take ((j - 1) * width len + width len - ((j - 1) * width len + header)) (drop ((j - 1) * width len + header) box) ≡ messageOf box len j
-      unfolding width
-      present-slot e =
-          let l : (j - 1) * width len + width len - ((j - 1) * width len + header) ≡ len = omega arith in
-          ap (λ (i : ℕ). take i (drop ((j - 1) * width len + header) box)) l ∙ sym (message-part box len j some within e)
+      pub present-slot : getD box ((j - 1) * width len) 0 ≡ 1 → (j - 1) * width len + header ≡ offsetOf box len j
+      present-slot e = sym (offset-held box len j (holds-yes box len j some within) (present-yes box len j e))
 
       -- slot j written with a message that was lent to it
       pub put-part : (m v : List ℕ) → length m ≡ len → v ≡ written len (bytes m)

@@ -4,6 +4,7 @@
 --   holds box len j          the box holds slot j whole
 --   isPresent slot           its first byte is 01
 --   messageOf box len j      the message in slot j; empty where the slot is absent, j is 0, or the box does not hold it whole
+--   offsetOf box len j       where in the box that message starts; 0 where there is none
 --   Sent                     what one controller sends to another in a round: silence, or a message
 --   written len s            a slot written in full: 01 and the message, or all 00
 --   slots len f n            the n slots of an outbox whose slot j is f j
@@ -36,6 +37,9 @@ isPresent slot = eqb (getD slot 0 0) 1
 
 unfoldable pub messageOf : List ℕ → ℕ → ℕ → List ℕ
 messageOf box len j = cond (holds box len j && isPresent (slotOf box len j)) (drop header (slotOf box len j)) []
+
+unfoldable pub offsetOf : List ℕ → ℕ → ℕ → ℕ
+offsetOf box len j = cond (holds box len j && isPresent (slotOf box len j)) ((j - 1) * width len + header) 0
 
 pub data Sent : Type 0 where
   silence : Sent

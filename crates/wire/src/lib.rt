@@ -10,7 +10,7 @@ ghost use Rattle.settings.specs.Refusal.{outside};
 ghost use Rattle.settings.specs.Valid.{Coded};
 ghost use Rattle.wire.specs.Round.{roundCount, callCount, phaseRound, lastRound, roundKind, phaseCall, lastCall, callKind, phaseOf};
 ghost use Rattle.wire.specs.Length.{rowIndex, factorsAt, rowLength, inSettings, blockSize, messageLength, inboxLength, outboxLength};
-ghost use Rattle.wire.specs.Slot.{width, messageOf, bytes, written, slots, toAll, putSlot, relayed, copied};
+ghost use Rattle.wire.specs.Slot.{width, messageOf, offsetOf, bytes, written, slots, toAll, putSlot, relayed, copied};
 use settings::Entry;
 use settings::Settings;
 
@@ -304,30 +304,42 @@ pub fn inbox_length(n: usize, t: usize, k: usize, c: usize) -> usize
     outbox_length(n, t, k, c - 1)
 }
 
-// The message of slot j of an inbox of messages of `len` bytes, as that part of the inbox; the empty part where the slot is absent, j
-// is 0, or the inbox does not hold the slot whole.
-// Shut out: an absent slot handed out; a slot off by one (must-fail edits).
-pub fn message(inbox: &[u8], len: usize, j: usize) -> &[u8]
-    ensures { λ r. ⌜ now r ≡ messageOf (now (inbox .entry)) len j ⌝ }
+// Where in an inbox of messages of `len` bytes the message of slot j starts; 0 where there is none: the slot is absent, j is 0, or the inbox
+// does not hold the slot whole.
+// Shut out: an absent slot taken for a present one; a slot off by one (must-fail edits).
+pub fn offset(inbox: &[u8], len: usize, j: usize) -> usize
+    ensures { λ r. ⌜ r ≡ offsetOf (now (inbox .entry)) len j ⌝ }
 {
     if j == 0 {
-        return &inbox[..0];
+        return 0;
     }
     if inbox.len() < HEADER {
-        return &inbox[..0];
+        return 0;
     }
     if inbox.len() - HEADER < len {
-        return &inbox[..0];
+        return 0;
     }
     let w = HEADER + len;
     if inbox.len() / w < j {
-        return &inbox[..0];
+        return 0;
     }
     let start = (j - 1) * w;
     if inbox[start] != PRESENT {
+        return 0;
+    }
+    start + HEADER
+}
+
+// The message of slot j of an inbox of messages of `len` bytes, as that part of the inbox; the empty part where there is none.
+// Shut out: slot number and length the other way round; a part of j bytes.
+pub fn message(inbox: &[u8], len: usize, j: usize) -> &[u8]
+    ensures { λ r. ⌜ now r ≡ messageOf (now (inbox .entry)) len j ⌝ }
+{
+    let start = offset(inbox, len, j);
+    if start == 0 {
         return &inbox[..0];
     }
-    &inbox[start + HEADER..start + w]
+    &inbox[start..start + len]
 }
 
 // Silence: every byte 00.
