@@ -5,7 +5,7 @@
 use mathlib.Core.Path.{_≡_, sym, ap, _∙_}
 use mathlib.Core.Bool.{Bool}
 use mathlib.Core.List.{List}
-use Prim.Native.Nat.{ℕ, suc, _+_, _*_, _≤_, _<_}
+use Prim.Native.Nat.{ℕ, suc, _+_, _*_, _^_, _≤_, _<_}
 use native.Mathlib.Omega.{arith}
 use lib.Dec.{lit<}
 use lib.ListN.{length, getD}
@@ -18,7 +18,7 @@ use Rattle.wire.proofs.Laws.{to-all}
 use Rattle.phase_king.specs.Matrix.{limit, firstMatrix, heldOf, weakOf, settledOf, seenMessage}
 use Rattle.phase_king.specs.Vote.{Correct, System, phaseCount, Kings, BitPhase, Vote, Agreed}
 use Rattle.phase_king.proofs.Bits
-use Rattle.phase_king.proofs.Matrices.{length-matrix, first-row, agreed}
+use Rattle.phase_king.proofs.Matrices.{length-matrix, matrix-below, first-row, agreed}
 pub use Rattle.phase_king.proofs.Matrices.{
   said-absent,
   king-absent,
@@ -100,6 +100,23 @@ length-weak inbox len n t = length-matrix (limit n) _
 pub length-settled : (rows weak inbox : List ℕ) (len n king : ℕ) → length (settledOf rows weak inbox len n king) ≡ 16
 unfolding settledOf
 length-settled rows weak inbox len n king = length-matrix (limit n) _
+
+-- ---- and each row is a number of 16 bits
+pub first-below : (inbox : List ℕ) (len n r : ℕ) → getD (firstMatrix inbox len n) r 0 < 2 ^ 16
+unfolding firstMatrix
+first-below inbox len n r = matrix-below (limit n) _ r (omega arith)
+
+pub held-below : (inbox : List ℕ) (len n t r : ℕ) → getD (heldOf inbox len n t) r 0 < 2 ^ 16
+unfolding heldOf
+held-below inbox len n t r = matrix-below (limit n) _ r (omega arith)
+
+pub weak-below : (inbox : List ℕ) (len n t r : ℕ) → getD (weakOf inbox len n t) r 0 < 2 ^ 16
+unfolding weakOf
+weak-below inbox len n t r = matrix-below (limit n) _ r (omega arith)
+
+pub settled-below : (rows weak inbox : List ℕ) (len n king r : ℕ) → getD (settledOf rows weak inbox len n king) r 0 < 2 ^ 16
+unfolding settledOf
+settled-below rows weak inbox len n king r = matrix-below (limit n) _ r (omega arith)
 
 -- ---- what is sent, in an outbox of n slots of that length
 sent : (n len : ℕ) (m outbox : List ℕ) → n ≤ 16 → length m ≡ len → length outbox ≡ n * width len → toAll (limit n) m outbox ≡ slots len (λ _. bytes m) n

@@ -6,13 +6,15 @@ use mathlib.Core.List.{List, []}
 use Prim.Native.Nat.{ℕ, suc, _+_, _^_, _≤_, _<_}
 use native.Mathlib.Omega.{arith}
 use borrow.Author.Tests.{le-leb, lt-leb}
-use lib.Dec.{leb}
+use mathlib.Core.Logic.{⊎-elim}
+use lib.Dec.{leb, lit<}
 use lib.ListN.{length, getD, replicate}
-use Rattle.lists.proofs.Tests.{cond-yes, cond-no}
-use Rattle.lists.proofs.Fills.{length-filled, getD-filled, filled-ext}
+use Rattle.lists.proofs.Parts.{all-zeros}
+use Rattle.lists.proofs.Tests.{cond-yes, cond-no, lt-or-le}
+use Rattle.lists.proofs.Fills.{length-filled, getD-filled, getD-filled-past, filled-ext}
 use Rattle.bitset.specs.Set.{member, setOf, restricted}
 use Rattle.bitset.specs.Row.{rowOf, rowsOf}
-use Rattle.bitset.proofs.Laws.{member-over, set-lt, member-set, set-ext, set-of-members, ext, restrict-lt, member-restrict}
+use Rattle.bitset.proofs.Laws.{member-over, set-lt, set-lt-16, member-set, set-ext, set-of-members, ext, restrict-lt, member-restrict}
 use Rattle.bitset.proofs.Rows.{row-lt, row-none, row-left, row-right, length-rows, row-read}
 use Rattle.wire.specs.Slot.{messageOf}
 use Rattle.phase_king.specs.Bit.{zeroSeen, oneSeen, held, weak, settled}
@@ -28,6 +30,15 @@ length-matrix n f = length-filled (λ r. setOf n (f r)) n (replicate 16 0)
 pub row-matrix : (n : ℕ) (f : ℕ → ℕ → Bool) (r : ℕ) → n ≤ 16 → r < n → getD (matrixOf n f) r 0 ≡ setOf n (f r)
 unfolding matrixOf
 row-matrix n f r u l = getD-filled (λ r. setOf n (f r)) n (replicate 16 0) r 0 l (omega arith)
+
+-- each row is a number of 16 bits
+pub matrix-below : (n : ℕ) (f : ℕ → ℕ → Bool) (r : ℕ) → n ≤ 16 → getD (matrixOf n f) r 0 < 2 ^ 16
+unfolding matrixOf
+matrix-below n f r l =
+    ⊎-elim
+    (λ (h : r < n). rw (getD-filled (λ r. setOf n (f r)) n (replicate 16 0) r 0 h (omega arith)) (set-lt-16 n (f r) l))
+    (λ (h : n ≤ r). rw (getD-filled-past (λ r. setOf n (f r)) n (replicate 16 0) r 0 h) (all-zeros (λ x. x < 2 ^ 16) (lit< tt) 16 r))
+    (lt-or-le r n)
 
 pub cell-matrix : (n : ℕ) (f : ℕ → ℕ → Bool) (r j : ℕ) → n ≤ 16 → r < n → j < n → cell (matrixOf n f) r j ≡ f r j
 cell-matrix n f r j u l h = ap (λ (x : ℕ). member x j) (row-matrix n f r u l) ∙ member-set n (f r) j h

@@ -1,0 +1,2 @@
+-- The state as bytes.
+pub mod State
