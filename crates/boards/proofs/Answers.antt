@@ -1,0 +1,216 @@
+-- The answers of the exported functions, case by case, from what the functions of the crates below ensure. The main ones: `step-carried` and
+-- `step-refused`.
+use mathlib.Core.Path.{_≡_, refl, sym, ap, ap₂, _∙_}
+use mathlib.Core.Bool.{Bool, true, false, cond, _&&_}
+use mathlib.Core.List.{List}
+use Prim.Native.Nat.{ℕ, _*_, min}
+use native.Mathlib.Nat.{le-of-eq}
+use native.Mathlib.Omega.{arith}
+use borrow.Author.Tests.{eq-eqb, ne-eqb}
+use lib.Dec.{eqb}
+use lib.ListN.{length}
+use Rattle.lists.specs.Fill.{tabulate, filled}
+use Rattle.lists.proofs.Fills.{filled-all, filled-over}
+use Rattle.lists.proofs.Tests.{cond-yes, cond-no, and-both, and-no-left, and-no-right}
+use Rattle.bitset.specs.Row.{rowByte, rowOf}
+use Rattle.wire.specs.Slot.{copied}
+use Rattle.wire.proofs.Laws.{copied-all}
+use Rattle.reed_solomon.specs.declared.Decoded.{Decoded}
+use Rattle.reed_solomon.specs.declared.Decoded.the-variants.{Block, Beyond, Refused}
+use Rattle.reed_solomon.specs.Decode.{Answer, answerOf, decodeOf}
+use Rattle.star.specs.declared.Sets.{Sets}
+use Rattle.star.specs.Star.{starOf}
+use Rattle.protocol.specs.declared.Started.{Started}
+use Rattle.protocol.specs.declared.State.{State}
+use Rattle.protocol.specs.declared.Stepped.{Stepped}
+use Rattle.protocol.specs.Step.{After, after, startOf, stepOf}
+use Rattle.state_bytes.specs.State.{stateLength, bytesOf, stateOf, outcomeNumber}
+use Rattle.boards.specs.Boards.{
+  badLength,
+  Written,
+  written,
+  startWritten,
+  startBytes,
+  Left,
+  left,
+  leftOf,
+  stepLeft,
+  stepBytes,
+  outcomeIn,
+  finalSize,
+  finalFits,
+  finalBytes,
+  decodeNumber,
+  decodeWritten,
+  decodeBytes,
+  setRows,
+  setBytes,
+  starWritten,
+  starBytes,
+}
+
+-- ---- what was written to a state of the right length
+kept-all : (state b v : List ℕ) → length state ≡ stateLength → v ≡ cond (eqb (length state) stateLength) b state → v ≡ b
+kept-all state b v e is = is ∙ cond-yes (eqb (length state) stateLength) b state (eq-eqb (length state) stateLength e)
+
+-- ---- start
+module _ (n t k own sender b : ℕ) (state : List ℕ) where
+  pub start-wrong : (length state ≡ stateLength → ⊥) → written badLength state ≡ startBytes n t k own sender b state
+  unfolding startBytes
+  start-wrong e =
+      sym
+      (cond-no (eqb (length state) stateLength) (startWritten (startOf n t k own sender b)) (written badLength state) (ne-eqb (length state) stateLength e))
+
+  pub start-written : length state ≡ stateLength → (a : Started) (v : List ℕ) → a ≡ startOf n t k own sender b
+      → v ≡ cond (eqb (length state) stateLength) (bytesOf (a .state)) state → written (a .number) v ≡ startBytes n t k own sender b state
+  unfolding startBytes
+  start-written e a v is-a is-v =
+      ap (written (a .number)) (kept-all state (bytesOf (a .state)) v e is-v)
+      ∙ ap startWritten is-a
+      ∙ sym
+      (cond-yes (eqb (length state) stateLength) (startWritten (startOf n t k own sender b)) (written badLength state) (eq-eqb (length state) stateLength e))
+
+-- ---- step
+module _ (state b i o : List ℕ) where
+  pub step-wrong : (length state ≡ stateLength → ⊥) → left badLength state b o ≡ stepBytes state b i o
+  unfolding stepBytes
+  step-wrong e =
+      sym (cond-no (eqb (length state) stateLength) (stepLeft state (stepOf (stateOf state) b i o)) (left badLength state b o) (ne-eqb (length state) stateLength e))
+
+  module _ (e : length state ≡ stateLength) (s : State) (is-s : s ≡ stateOf state) (r : Stepped) (b′ o′ : List ℕ) (is-r : after r b′ o′ ≡ stepOf s b i o) where
+    stepped : stepLeft state (after r b′ o′) ≡ stepBytes state b i o
+    unfolding stepBytes
+    stepped =
+        ap (stepLeft state) (is-r ∙ ap (λ (x : State). stepOf x b i o) is-s)
+        ∙ sym (cond-yes (eqb (length state) stateLength) (stepLeft state (stepOf (stateOf state) b i o)) (left badLength state b o) (eq-eqb (length state) stateLength e))
+
+    pub step-refused : (r .number ≡ 0 → ⊥) → left (r .number) state b′ o′ ≡ stepBytes state b i o
+    unfolding stepLeft
+    step-refused n =
+        sym (cond-no (eqb (r .number) 0) (leftOf (after r b′ o′)) (left (r .number) state b′ o′) (ne-eqb (r .number) 0 n)) ∙ stepped
+
+    pub step-carried : r .number ≡ 0 → (v : List ℕ) → v ≡ cond (eqb (length state) stateLength) (bytesOf (r .state)) state → left 0 v b′ o′ ≡ stepBytes state b i o
+    unfolding stepLeft
+    step-carried z v is-v =
+        ap₂ (λ (n : ℕ) (x : List ℕ). left n x b′ o′) (sym z) (kept-all state (bytesOf (r .state)) v e is-v)
+        ∙ sym (cond-yes (eqb (r .number) 0) (leftOf (after r b′ o′)) (left (r .number) state b′ o′) (eq-eqb (r .number) 0 z)) ∙ stepped
+
+-- ---- the outcome
+pub outcome-wrong : (state : List ℕ) → (length state ≡ stateLength → ⊥) → badLength ≡ outcomeIn state
+unfolding outcomeIn
+outcome-wrong state e =
+    sym (cond-no (eqb (length state) stateLength) (outcomeNumber (stateOf state .outcome)) badLength (ne-eqb (length state) stateLength e))
+
+pub outcome-read : (state : List ℕ) → length state ≡ stateLength → (s : State) → s ≡ stateOf state → outcomeNumber (s .outcome) ≡ outcomeIn state
+unfolding outcomeIn
+outcome-read state e s is-s =
+    ap (λ (x : State). outcomeNumber (x .outcome)) is-s
+    ∙ sym (cond-yes (eqb (length state) stateLength) (outcomeNumber (stateOf state .outcome)) badLength (eq-eqb (length state) stateLength e))
+
+-- ---- the final block
+module _ (state block out : List ℕ) where
+  fits : Bool
+  fits = eqb (length state) stateLength && finalFits state block out
+
+  answer : Written
+  answer = cond (eqb (outcomeIn state) 0) (written 0 out) (written (outcomeIn state) block)
+
+  wrong : fits ≡ false → written badLength out ≡ finalBytes state block out
+  unfolding finalBytes fits answer
+  wrong e = sym (cond-no fits answer (written badLength out) e)
+
+  pub final-wrong-state : (length state ≡ stateLength → ⊥) → written badLength out ≡ finalBytes state block out
+  unfolding fits
+  final-wrong-state e = wrong (and-no-left (eqb (length state) stateLength) (finalFits state block out) (ne-eqb (length state) stateLength e))
+
+  pub final-wrong-block : (length block ≡ finalSize state → ⊥) → written badLength out ≡ finalBytes state block out
+  unfolding fits
+  final-wrong-block e =
+      wrong
+      (and-no-right (eqb (length state) stateLength) (finalFits state block out)
+      (and-no-left (eqb (length block) (finalSize state)) (eqb (length out) (finalSize state)) (ne-eqb (length block) (finalSize state) e)))
+
+  pub final-wrong-out : (length out ≡ finalSize state → ⊥) → written badLength out ≡ finalBytes state block out
+  unfolding fits
+  final-wrong-out e =
+      wrong
+      (and-no-right (eqb (length state) stateLength) (finalFits state block out)
+      (and-no-right (eqb (length block) (finalSize state)) (eqb (length out) (finalSize state)) (ne-eqb (length out) (finalSize state) e)))
+
+  module _ (e : length state ≡ stateLength) (f : length block ≡ finalSize state) (g : length out ≡ finalSize state) where
+    right : answer ≡ finalBytes state block out
+    unfolding finalBytes fits answer
+    right =
+        sym
+        (cond-yes fits answer (written badLength out)
+        (and-both (eqb (length state) stateLength) (finalFits state block out) (eq-eqb (length state) stateLength e)
+        (and-both (eqb (length block) (finalSize state)) (eqb (length out) (finalSize state)) (eq-eqb (length block) (finalSize state) f)
+        (eq-eqb (length out) (finalSize state) g))))
+
+    pub final-open : outcomeIn state ≡ 0 → written 0 out ≡ finalBytes state block out
+    unfolding answer
+    final-open z = sym (cond-yes (eqb (outcomeIn state) 0) (written 0 out) (written (outcomeIn state) block) (eq-eqb (outcomeIn state) 0 z)) ∙ right
+
+    pub final-copied : (r : ℕ) → r ≡ outcomeIn state → (r ≡ 0 → ⊥) → (v : List ℕ) → v ≡ copied block out → written r v ≡ finalBytes state block out
+    unfolding answer
+    final-copied r is-r n v is-v =
+        ap₂ written is-r (is-v ∙ copied-all block out (f ∙ sym g))
+        ∙ sym (cond-no (eqb (outcomeIn state) 0) (written 0 out) (written (outcomeIn state) block) (ne-eqb (outcomeIn state) 0 (λ z. n (is-r ∙ z)))) ∙ right
+
+-- ---- decoding
+block-left : (r : Decoded) (b : List ℕ) → b ≡ answerOf r b .block
+block-left Block b = refl
+block-left Beyond b = refl
+block-left (Refused x) b = refl
+
+pub decode-written : (n t k : ℕ) (slots block : List ℕ) (r : Decoded) (b : List ℕ) (x : ℕ) → answerOf r b ≡ decodeOf n t k slots block
+    → x ≡ decodeNumber (answerOf r b) → written x b ≡ decodeBytes n t k slots block
+unfolding decodeBytes
+decode-written n t k slots block r b x is-r is-x = ap₂ written is-x (block-left r b) ∙ ap decodeWritten is-r
+
+-- ---- the star
+pub sets-written : (s : Sets) (sets v : List ℕ) → length sets ≡ 8 → v ≡ filled (rowByte 16 (setRows s)) (2 * min 16 16) sets → v ≡ setBytes s
+unfolding setBytes
+sets-written s sets v e is-v =
+    is-v
+    ∙ filled-over (rowByte 16 (setRows s)) 32 sets (omega arith)
+    ∙ ap (λ (m : ℕ). filled (rowByte 16 (setRows s)) m sets) e
+    ∙ filled-all (rowByte 16 (setRows s)) 8 sets e
+
+module _ (n t : ℕ) (rows sets : List ℕ) where
+  found : Sets
+  found = starOf (tabulate (rowOf 16 rows) 16) n t
+
+  pub star-wrong-rows : (length rows ≡ 32 → ⊥) → written badLength sets ≡ starBytes n t rows sets
+  unfolding starBytes found
+  star-wrong-rows e =
+      sym
+      (cond-no (eqb (length rows) 32 && eqb (length sets) 8) (starWritten found sets) (written badLength sets)
+      (and-no-left (eqb (length rows) 32) (eqb (length sets) 8) (ne-eqb (length rows) 32 e)))
+
+  pub star-wrong-sets : (length sets ≡ 8 → ⊥) → written badLength sets ≡ starBytes n t rows sets
+  unfolding starBytes found
+  star-wrong-sets e =
+      sym
+      (cond-no (eqb (length rows) 32 && eqb (length sets) 8) (starWritten found sets) (written badLength sets)
+      (and-no-right (eqb (length rows) 32) (eqb (length sets) 8) (ne-eqb (length sets) 8 e)))
+
+  module _ (e : length rows ≡ 32) (f : length sets ≡ 8) (m : List ℕ) (is-m : m ≡ tabulate (rowOf 16 rows) 16) (s : Sets) (is-s : s ≡ starOf m n t) where
+    right-star : starWritten s sets ≡ starBytes n t rows sets
+    unfolding starBytes found
+    right-star =
+        ap (λ (x : Sets). starWritten x sets) (is-s ∙ ap (λ (x : List ℕ). starOf x n t) is-m)
+        ∙ sym
+        (cond-yes (eqb (length rows) 32 && eqb (length sets) 8) (starWritten found sets) (written badLength sets)
+        (and-both (eqb (length rows) 32) (eqb (length sets) 8) (eq-eqb (length rows) 32 e) (eq-eqb (length sets) 8 f)))
+
+    pub star-refused : (s .refusal ≡ 0 → ⊥) → written (s .refusal) sets ≡ starBytes n t rows sets
+    unfolding starWritten
+    star-refused r =
+        sym (cond-no (eqb (s .refusal) 0) (written 0 (setBytes s)) (written (s .refusal) sets) (ne-eqb (s .refusal) 0 r)) ∙ right-star
+
+    pub star-written : s .refusal ≡ 0 → (v : List ℕ) → v ≡ setBytes s → written 0 v ≡ starBytes n t rows sets
+    unfolding starWritten
+    star-written z v is-v =
+        ap (written 0) is-v
+        ∙ sym (cond-yes (eqb (s .refusal) 0) (written 0 (setBytes s)) (written (s .refusal) sets) (eq-eqb (s .refusal) 0 z)) ∙ right-star

@@ -1,0 +1,112 @@
+-- What the exported functions answer and leave: the definitions of the crates below, with the state as bytes. A lent state of another length is
+-- refused with 6, which is tried first.
+--   badLength                       6, row 6 of the refusal table
+--   beyondNumber                    what decoding answers where no block meets the rule: 9, since rows 1 to 8 are refusals
+--   Written                         a number answered, and the lent bytes as the call leaves them
+--   startBytes n t k own sender b state   start: the number, and the state that it returns; b is the length of the lent block
+--   Left                            what a step leaves: its number, the state, the block and the outbox
+--   leftOf a                        an answer of `step`, with the state as bytes
+--   stepBytes state b i o           step on the state that the bytes stand for; refused, the state stays byte for byte
+--   outcomeIn state                 the number of the outcome in a state
+--   finalFits, finalBytes           the lent blocks have the length of the state's settings; the outcome and the final block, which is the
+--                                   block as it is once the run is at its end
+--   decodeNumber a                  the number for an answer of decoding
+--   decodeBytes n t k slots block   decoding
+--   setRows s                       the sets C, D, F and E as the first of 16 rows of marks
+--   setBytes s                      the bytes of these four rows
+--   starBytes n t rows sets         the star of the rows in 32 bytes, to 8 bytes
+use mathlib.Core.Bool.{Bool, cond, _&&_}
+use mathlib.Core.List.{List, _∷_}
+use Prim.Native.Nat.{ℕ}
+use lib.Dec.{eqb}
+use lib.ListN.{length, replicate}
+use Rattle.lists.specs.Fill.{tabulate}
+use Rattle.bitset.specs.Row.{rowByte, rowOf}
+use Rattle.wire.specs.Length.{blockSize}
+use Rattle.reed_solomon.specs.Decode.{Answer, Word, decoded, beyond, refused, decodeOf}
+use Rattle.star.specs.declared.Sets.{Sets}
+use Rattle.star.specs.Star.{starOf}
+use Rattle.protocol.specs.declared.Started.{Started}
+use Rattle.protocol.specs.Step.{After, startOf, stepOf}
+use Rattle.state_bytes.specs.State.{stateLength, bytesOf, stateOf, outcomeNumber}
+
+abbrev pub badLength : ℕ
+badLength = 6
+
+abbrev pub beyondNumber : ℕ
+beyondNumber = 9
+
+pub record Written : Type 0 where
+  pub number : ℕ
+  pub bytes : List ℕ
+
+abbrev pub written : ℕ → List ℕ → Written
+written r bytes = record { number = r; bytes = bytes }
+
+abbrev pub startWritten : Started → Written
+startWritten a = written (a .number) (bytesOf (a .state))
+
+unfoldable pub startBytes : (n t k own sender b : ℕ) → List ℕ → Written
+startBytes n t k own sender b state =
+    cond (eqb (length state) stateLength) (startWritten (startOf n t k own sender b)) (written badLength state)
+
+pub record Left : Type 0 where
+  pub number : ℕ
+  pub state : List ℕ
+  pub block : List ℕ
+  pub outbox : List ℕ
+
+abbrev pub left : ℕ → List ℕ → List ℕ → List ℕ → Left
+left r state b o = record { number = r; state = state; block = b; outbox = o }
+
+abbrev pub leftOf : After → Left
+leftOf a = left (a .answer .number) (bytesOf (a .answer .state)) (a .block) (a .outbox)
+
+unfoldable pub stepLeft : List ℕ → After → Left
+stepLeft state a =
+    cond (eqb (a .answer .number) 0) (leftOf a) (left (a .answer .number) state (a .block) (a .outbox))
+
+unfoldable pub stepBytes : (state b i o : List ℕ) → Left
+stepBytes state b i o = cond (eqb (length state) stateLength) (stepLeft state (stepOf (stateOf state) b i o)) (left badLength state b o)
+
+unfoldable pub outcomeIn : List ℕ → ℕ
+outcomeIn state = cond (eqb (length state) stateLength) (outcomeNumber (stateOf state .outcome)) badLength
+
+abbrev pub finalSize : List ℕ → ℕ
+finalSize state = blockSize (stateOf state .n) (stateOf state .t) (stateOf state .k)
+
+abbrev pub finalFits : (state block final : List ℕ) → Bool
+finalFits state block final = eqb (length block) (finalSize state) && eqb (length final) (finalSize state)
+
+unfoldable pub finalBytes : (state block final : List ℕ) → Written
+finalBytes state block final =
+    cond (eqb (length state) stateLength && finalFits state block final)
+    (cond (eqb (outcomeIn state) 0) (written 0 final) (written (outcomeIn state) block))
+    (written badLength final)
+
+abbrev pub wordNumber : Word → ℕ → ℕ
+wordNumber decoded r = 0
+wordNumber beyond r = beyondNumber
+wordNumber refused r = r
+
+abbrev pub decodeNumber : Answer → ℕ
+decodeNumber a = wordNumber (a .word) (a .number)
+
+abbrev pub decodeWritten : Answer → Written
+decodeWritten a = written (decodeNumber a) (a .block)
+
+unfoldable pub decodeBytes : (n t k : ℕ) → List ℕ → List ℕ → Written
+decodeBytes n t k slots block = decodeWritten (decodeOf n t k slots block)
+
+abbrev pub setRows : Sets → List ℕ
+setRows s = s .c ∷ s .d ∷ s .f ∷ s .e ∷ replicate 12 0
+
+unfoldable pub setBytes : Sets → List ℕ
+setBytes s = tabulate (rowByte 16 (setRows s)) 8
+
+unfoldable pub starWritten : Sets → List ℕ → Written
+starWritten s sets = cond (eqb (s .refusal) 0) (written 0 (setBytes s)) (written (s .refusal) sets)
+
+unfoldable pub starBytes : (n t : ℕ) → List ℕ → List ℕ → Written
+starBytes n t rows sets =
+    cond (eqb (length rows) 32 && eqb (length sets) 8) (starWritten (starOf (tabulate (rowOf 16 rows) 16) n t) sets) (written badLength sets)

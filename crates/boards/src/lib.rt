@@ -1,0 +1,255 @@
+// The functions that programs in C, or in Rust, link as a static library: those of the crates below over numbers and byte slices, with the
+// state as bytes in a lent buffer. include/potekawhi.h declares them for C.
+ghost use mathlib.Core.Path.{_≡_};
+ghost use mathlib.Core.Bool.{cond};
+ghost use mathlib.Core.List.{List};
+ghost use Prim.Native.Nat.{ℕ};
+ghost use lib.ListN.{length};
+ghost use Rattle.settings.specs.Refusal.{outside};
+ghost use Rattle.wire.specs.Round.{callCount};
+ghost use Rattle.wire.specs.Length.{blockSize, messageLength, inboxLength, outboxLength};
+ghost use Rattle.wire.specs.Slot.{messageOf, offsetOf};
+ghost use Rattle.reed_solomon.specs.Encode.{encoded, encodeOf};
+ghost use Rattle.reed_solomon.specs.Decode.{answerOf};
+ghost use Rattle.state_bytes.specs.State.{stateOf};
+ghost use Rattle.boards.specs.Boards.{written, startBytes, left, stepBytes, outcomeIn, finalBytes, decodeNumber, decodeBytes, setBytes, starBytes};
+use reed_solomon::Decoded;
+use star::Sets;
+
+// The number of a lent length that is wrong.
+const BAD_LENGTH: u8 = 6;
+
+// What decoding answers where no block meets the rule.
+const BEYOND: u8 = 9;
+
+// Start: the number, and the state to the lent bytes; refused by a setting or the block's length, the zero state.
+// Shut out: own number and sender the other way round; 6 whatever start answers.
+#[no_mangle]
+pub extern "C" fn potekawhi_start(
+    n: usize,
+    t: usize,
+    k: usize,
+    own: usize,
+    sender: usize,
+    block: &[u8],
+    state: &mut [u8],
+) -> u8
+    ensures { λ r. ⌜ written r (now (state .exit)) ≡ startBytes n t k own sender (length (now (block .entry))) (now (state .entry)) ⌝ }
+{
+    if state.len() != state_bytes::length() {
+        return BAD_LENGTH;
+    }
+    let started = controller::start(n, t, k, own, sender, block);
+    let fresh = started.state;
+    state_bytes::write(fresh, state);
+    started.number
+}
+
+// One step on the state in the lent bytes. Refused: no lent byte changes.
+// Shut out: block and outbox the other way round; 6 for a step carried out.
+#[no_mangle]
+pub extern "C" fn potekawhi_step(
+    state: &mut [u8],
+    block: &mut [u8],
+    inbox: &[u8],
+    outbox: &mut [u8],
+) -> u8
+    ensures { λ r. ⌜ left r (now (state .exit)) (now (block .exit)) (now (outbox .exit)) ≡ stepBytes (now (state .entry)) (now (block .entry)) (now (inbox .entry)) (now (outbox .entry)) ⌝ }
+{
+    if state.len() != state_bytes::length() {
+        return BAD_LENGTH;
+    }
+    let before = state_bytes::read(state);
+    let stepped = controller::step(before, block, inbox, outbox);
+    let number = stepped.number;
+    if number != 0 {
+        return number;
+    }
+    let next = stepped.state;
+    state_bytes::write(next, state);
+    0
+}
+
+// The number of the next call; 0 where the state has another length.
+// Shut out: the own number; n.
+#[no_mangle]
+pub extern "C" fn potekawhi_next_call(state: &[u8]) -> usize
+    ensures { λ r. ⌜ r ≡ stateOf (now (state .entry)) .next ⌝ }
+{
+    let s = state_bytes::read(state);
+    s.next
+}
+
+// The number of the outcome.
+// Shut out: 9 where the state has another length; open whatever the state says.
+#[no_mangle]
+pub extern "C" fn potekawhi_outcome(state: &[u8]) -> u8
+    ensures { λ r. ⌜ r ≡ outcomeIn (now (state .entry)) ⌝ }
+{
+    if state.len() != state_bytes::length() {
+        return BAD_LENGTH;
+    }
+    let s = state_bytes::read(state);
+    let outcome = s.outcome;
+    state_bytes::outcome_number(outcome)
+}
+
+// The number of the outcome, and the final block, once there is one.
+// Shut out: the block copied while the run is open; a final block of any length.
+#[no_mangle]
+pub extern "C" fn potekawhi_final_block(state: &[u8], block: &[u8], out: &mut [u8]) -> u8
+    ensures { λ r. ⌜ written r (now (out .exit)) ≡ finalBytes (now (state .entry)) (now (block .entry)) (now (out .entry)) ⌝ }
+{
+    if state.len() != state_bytes::length() {
+        return BAD_LENGTH;
+    }
+    let s = state_bytes::read(state);
+    let size = wire::block_length(s.n, s.t, s.k);
+    if block.len() != size {
+        return BAD_LENGTH;
+    }
+    if out.len() != size {
+        return BAD_LENGTH;
+    }
+    let number = potekawhi_outcome(state);
+    if number == 0 {
+        return 0;
+    }
+    wire::copy(out, block);
+    number
+}
+
+// The length of the message in slot j of an inbox of messages of `len` bytes, and to `offset` where it starts; 0 and 0 where there is none.
+// Shut out: slot number and length the other way round, in the length answered; the same in the offset.
+#[no_mangle]
+pub extern "C" fn potekawhi_message(inbox: &[u8], len: usize, j: usize, offset: &mut usize) -> usize
+    ensures { λ r. ⌜ (r ≡ length (messageOf (now (inbox .entry)) len j)) × (now (offset .exit) ≡ offsetOf (now (inbox .entry)) len j) ⌝ }
+{
+    let start = wire::offset(inbox, len, j);
+    *offset = start;
+    let m = wire::message(inbox, len, j);
+    m.len()
+}
+
+// Piece `number` of a block's coding.
+// Shut out: piece k; k and t the other way round.
+#[no_mangle]
+pub extern "C" fn potekawhi_encode(
+    n: usize,
+    t: usize,
+    k: usize,
+    number: usize,
+    block: &[u8],
+    piece: &mut [u8],
+) -> u8
+    ensures { λ r. ⌜ encoded r (now (piece .exit)) ≡ encodeOf n t k number (now (block .entry)) (now (piece .entry)) ⌝ }
+{
+    reed_solomon::encode(n, t, k, number, block, piece)
+}
+
+// The number for an answer of decoding.
+fn decoded_number(r: Decoded) -> u8
+    ensures { λ x. ⌜ ((b : List ℕ) → x ≡ decodeNumber (answerOf r b)) ⌝ }
+{
+    match r {
+        Decoded::Block => 0,
+        Decoded::Beyond => BEYOND,
+        Decoded::Refused(number) => number,
+    }
+}
+
+// Decoding: the block to the lent bytes.
+// Shut out: 0 for beyond; n and t the other way round.
+#[no_mangle]
+pub extern "C" fn potekawhi_decode(
+    n: usize,
+    t: usize,
+    k: usize,
+    slots: &[u8],
+    block: &mut [u8],
+) -> u8
+    ensures { λ r. ⌜ written r (now (block .exit)) ≡ decodeBytes n t k (now (slots .entry)) (now (block .entry)) ⌝ }
+{
+    let decoded = reed_solomon::decode(n, t, k, slots, block);
+    decoded_number(decoded)
+}
+
+// The four sets as rows of marks.
+fn put_sets(s: Sets, sets: &mut [u8])
+    requires { ⌜ length (now sets) ≡ 8 ⌝ }
+    ensures { λ _. ⌜ now (sets .exit) ≡ setBytes s ⌝ }
+{
+    let mut rows = [0u16; 16];
+    rows[0] = s.c;
+    rows[1] = s.d;
+    rows[2] = s.f;
+    rows[3] = s.e;
+    bitset::write_rows(sets, &rows, 16);
+}
+
+// The star of the rows in the lent bytes, its four sets to others.
+// Shut out: E for F; 9 bytes for the sets.
+#[no_mangle]
+pub extern "C" fn potekawhi_star(n: usize, t: usize, rows: &[u8], sets: &mut [u8]) -> u8
+    ensures { λ r. ⌜ written r (now (sets .exit)) ≡ starBytes n t (now (rows .entry)) (now (sets .entry)) ⌝ }
+{
+    if rows.len() != 32 {
+        return BAD_LENGTH;
+    }
+    if sets.len() != 8 {
+        return BAD_LENGTH;
+    }
+    let graph = state_bytes::get_rows(rows);
+    let found = star::find(&graph, n, t);
+    let number = found.refusal;
+    if number != 0 {
+        return number;
+    }
+    put_sets(found, sets);
+    0
+}
+
+// The length of a block; 0 outside the settings.
+// Shut out: k and t the other way round; n and t the other way round.
+#[no_mangle]
+pub extern "C" fn potekawhi_block_length(n: usize, t: usize, k: usize) -> usize
+    ensures { λ r. ⌜ r ≡ blockSize n t k ⌝ }
+{
+    wire::block_length(n, t, k)
+}
+
+// The length of a message of round c; 0 outside the settings and rounds.
+// Shut out: that of round k; k and c the other way round.
+#[no_mangle]
+pub extern "C" fn potekawhi_message_length(n: usize, t: usize, k: usize, c: usize) -> usize
+    ensures { λ r. ⌜ r ≡ messageLength n t k c ⌝ }
+{
+    wire::message_length(n, t, k, c)
+}
+
+// The length of the inbox of call c; 0 for the first call and outside the settings and calls.
+// Shut out: the length of the outbox; that of the inbox of call t.
+#[no_mangle]
+pub extern "C" fn potekawhi_inbox_length(n: usize, t: usize, k: usize, c: usize) -> usize
+    ensures { λ r. ⌜ r ≡ inboxLength n t k c ⌝ }
+{
+    wire::inbox_length(n, t, k, c)
+}
+
+// The length of the outbox of call c; 0 for the last call and outside the settings and calls.
+// Shut out: the length of the inbox; that of the outbox of call n.
+#[no_mangle]
+pub extern "C" fn potekawhi_outbox_length(n: usize, t: usize, k: usize, c: usize) -> usize
+    ensures { λ r. ⌜ r ≡ outboxLength n t k c ⌝ }
+{
+    wire::outbox_length(n, t, k, c)
+}
+
+// How many calls a run has; 0 for a t outside 1 .. 5.
+// Shut out: the number of rounds; the phase of round t.
+#[no_mangle]
+pub extern "C" fn potekawhi_calls(t: usize) -> usize
+    ensures { λ r. ⌜ r ≡ cond (outside 1 5 t) 0 (callCount t) ⌝ }
+{
+    wire::calls(t)
+}

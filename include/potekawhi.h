@@ -1,0 +1,128 @@
+/* Potekawhi: Byzantine broadcast of a block of bytes among 4 to 16 controllers, at most t of n >= 3t + 1 of them faulty.
+ *
+ * The functions are those of the crate `boards`, which are proved; `rt staticlib boards` writes target/staticlib/libboards.a. It is for
+ * x86-64, and calls nothing but memcpy, memmove and memset.
+ *
+ * Bytes. A `const uint8_t *` is lent for reading and a `uint8_t *` for reading and writing, for the time of the call, with its length in
+ * the argument behind it. The caller owns all memory; the library allocates none, keeps no pointer and has no state of its own, so
+ * calls on different buffers may run at the same time. The caller sees to it that
+ *   - each pointer is valid for its length and not NULL (also where the length is 0: any valid pointer will do there), and
+ *   - a buffer that is written overlaps no other buffer of the same call.
+ *
+ * Numbers. Controllers have the numbers 1 to n, calls 1 to 3t + 9 and rounds 1 to 3t + 8. Call c reads the messages of round c - 1 and
+ * writes those of round c. Every function has an answer for every number and every length; there is nothing to test before a call.
+ *
+ * Refusals. A function that answers a number answers 0 if it did what it says, and otherwise, in this order, the first of
+ *   1  n is not 4 to 16
+ *   2  t is 0, or 3t + 1 exceeds n
+ *   3  k is not 1 to 128
+ *   4  a controller's own number, or the number of a piece, is not 1 to n
+ *   5  the sender is not 1 to n
+ *   6  a lent length is not the one stated
+ * that it tries, as said below; step has two more, 7 and 8. Refused, it changes no byte, but for the state in potekawhi_start.
+ *
+ * Boxes. An inbox or outbox has n slots, slot j for controller j. A slot is one byte, 01 if a message is there, and then the message, whose
+ * length is potekawhi_message_length of the round; a slot whose first byte is not 01 is absent, its other bytes are not read. The slot that
+ * i writes for j in round c is to arrive in slot i of the inbox of j's call c + 1; where nothing arrived in time the slot's first byte is
+ * to be 00. A controller's slot for itself arrives too. */
+#ifndef POTEKAWHI_H
+#define POTEKAWHI_H
+
+#include <stddef.h>
+#include <stdint.h>
+
+#ifdef __cplusplus
+extern "C" {
+#endif
+
+/* The length of a state in bytes. */
+#define POTEKAWHI_STATE_LENGTH 115
+
+/* The length of the rows of a matrix in bytes, and of the sets of a star. */
+#define POTEKAWHI_ROWS_LENGTH 32
+#define POTEKAWHI_SETS_LENGTH 8
+
+/* Refusals. */
+#define POTEKAWHI_OK 0
+#define POTEKAWHI_BAD_N 1
+#define POTEKAWHI_BAD_T 2
+#define POTEKAWHI_BAD_K 3
+#define POTEKAWHI_BAD_NUMBER 4
+#define POTEKAWHI_BAD_SENDER 5
+#define POTEKAWHI_BAD_LENGTH 6
+#define POTEKAWHI_BAD_STATE 7
+#define POTEKAWHI_FINISHED 8
+
+/* What potekawhi_decode answers where no block is close enough to the slots. */
+#define POTEKAWHI_BEYOND 9
+
+/* Outcomes: what potekawhi_outcome and potekawhi_final_block answer. */
+#define POTEKAWHI_OUTCOME_OPEN 0   /* the run is not at its end */
+#define POTEKAWHI_OUTCOME_AGREED 1 /* the final block is the one agreed on */
+#define POTEKAWHI_OUTCOME_NONE 2   /* all agreed that the sender is faulty; the final block is zeros */
+#define POTEKAWHI_OUTCOME_BEYOND 3 /* more than t controllers are faulty; the final block is zeros */
+
+/* Begins the run of one controller. `block` is the sender's block, k * (t + 1) bytes; every other controller lends bytes of that length,
+ * whatever they are. It is neither read nor changed here. `state` is POTEKAWHI_STATE_LENGTH bytes, whatever they are; the caller keeps it
+ * for the whole run.
+ * Answers 6 and changes nothing if `state` has another length; else the first of 1 to 6, in order. Refused by one of these, it writes the
+ * zero state, all bytes 00, of which every step answers 7. */
+uint8_t potekawhi_start(size_t n, size_t t, size_t k, size_t own, size_t sender, const uint8_t *block, size_t block_length,
+                        uint8_t *state, size_t state_length);
+
+/* Makes the next call of the run. `state` is what potekawhi_start or the step before wrote; `block` is the controller's block, which the
+ * caller keeps for the whole run and which step overwrites in calls 2 and 3t + 9; `inbox` and `outbox` are as long as
+ * potekawhi_inbox_length and potekawhi_outbox_length say of the call, and all of `outbox` is written.
+ * Answers 6 if `state` has another length than POTEKAWHI_STATE_LENGTH; else 7 if it has settings that are refused or a next call that is
+ * not 1 to 3t + 10; else 8 if the run is at its end; else 6 if another lent length is wrong. Refused, nothing changes, and the step can
+ * be made again. Every buffer of POTEKAWHI_STATE_LENGTH bytes is a state, damaged or not: step has an answer for it. */
+uint8_t potekawhi_step(uint8_t *state, size_t state_length, uint8_t *block, size_t block_length, const uint8_t *inbox, size_t inbox_length,
+                       uint8_t *outbox, size_t outbox_length);
+
+/* The number of the next call that `state` stands before: 1 to 3t + 9, or 3t + 10 at the end; 0 if `state` has another length than
+ * POTEKAWHI_STATE_LENGTH. */
+size_t potekawhi_next_call(const uint8_t *state, size_t state_length);
+
+/* The outcome in `state`: one of POTEKAWHI_OUTCOME_..; 6 if `state` has another length than POTEKAWHI_STATE_LENGTH. */
+uint8_t potekawhi_outcome(const uint8_t *state, size_t state_length);
+
+/* The outcome, and the block with which the run ended: copies `block` to `final_block`, if the run is at its end; while it is open,
+ * `final_block` does not change. Both are potekawhi_block_length bytes of the state's settings. Answers the outcome; or 6, and nothing
+ * changes, if `state` has another length than POTEKAWHI_STATE_LENGTH or one of the blocks has another length. */
+uint8_t potekawhi_final_block(const uint8_t *state, size_t state_length, const uint8_t *block, size_t block_length, uint8_t *final_block,
+                              size_t final_block_length);
+
+/* The message in slot `j` of an inbox of messages of `length` bytes: answers its length and writes to `*offset` where in the inbox it
+ * starts; 0 and 0 if the slot is absent, j is 0, or the inbox does not hold the slot whole. */
+size_t potekawhi_message(const uint8_t *inbox, size_t inbox_length, size_t length, size_t j, size_t *offset);
+
+/* Piece `number` of the coding of `block`, which has k * (t + 1) bytes, to `piece`, which has k. Tries 1, 2, 3, 4, 6. */
+uint8_t potekawhi_encode(size_t n, size_t t, size_t k, size_t number, const uint8_t *block, size_t block_length, uint8_t *piece,
+                         size_t piece_length);
+
+/* The block whose coding agrees, in each stripe, with the pieces in `slots` in at least n - t places, to `block`. `slots` is n slots of
+ * messages of k bytes; an absent one counts as a piece of zeros. `block` has k * (t + 1) bytes. Answers 0 and the block; POTEKAWHI_BEYOND
+ * and zeros if there is no such block; or the first of 1, 2, 3, 6, and nothing changes. */
+uint8_t potekawhi_decode(size_t n, size_t t, size_t k, const uint8_t *slots, size_t slots_length, uint8_t *block, size_t block_length);
+
+/* The star of the neighbour graph of `rows`, 16 rows of marks of two bytes each, low byte first, of which the first n rows and of them the
+ * lowest n bits are read: i and j are neighbours if each marks the other. Writes the sets C, D, F and E, of which E is the core, to `sets`,
+ * two bytes each, low byte first; all zero if no core is found. `rows` has POTEKAWHI_ROWS_LENGTH bytes and `sets` POTEKAWHI_SETS_LENGTH.
+ * Answers 6 if one of them has another length, else tries 1, 2; refused, nothing changes. */
+uint8_t potekawhi_star(size_t n, size_t t, const uint8_t *rows, size_t rows_length, uint8_t *sets, size_t sets_length);
+
+/* Lengths in bytes, 0 outside the settings: of a block; of a message of round c; of the inbox and of the outbox of call c (0 for the inbox
+ * of the first call and the outbox of the last). */
+size_t potekawhi_block_length(size_t n, size_t t, size_t k);
+size_t potekawhi_message_length(size_t n, size_t t, size_t k, size_t c);
+size_t potekawhi_inbox_length(size_t n, size_t t, size_t k, size_t c);
+size_t potekawhi_outbox_length(size_t n, size_t t, size_t k, size_t c);
+
+/* How many calls a run has: 3t + 9; 0 if t is not 1 to 5. */
+size_t potekawhi_calls(size_t t);
+
+#ifdef __cplusplus
+}
+#endif
+
+#endif
