@@ -1,0 +1,193 @@
+-- The fields of a state stay within their bounds. The main laws: `start-words` and `step-words`, for every start and step, refused ones too.
+use mathlib.Core.Path.{_≡_, refl, sym, ap, subst, _∙_}
+use mathlib.Core.List.{List}
+use mathlib.Core.Logic.{⊎-elim}
+use Prim.Native.Nat.{ℕ, zero, suc, _+_, _*_, _^_, _≤_, _<_}
+use native.Mathlib.Nat.{lt-of-lt-of-le}
+use native.Mathlib.Omega.{arith}
+use lib.Dec.{lit<}
+use lib.ListN.{length, getD, replicate}
+use lib.Pow.{pow-mono}
+use Rattle.lists.proofs.Parts.{all-zeros}
+use Rattle.lists.proofs.Tests.{same-or-not}
+use Rattle.settings.specs.Valid.{Valid}
+use Rattle.wire.specs.declared.Call.{Call}
+use Rattle.wire.specs.declared.Call.the-variants.{Send, Receive, Compare, Collect, Tally, Hold, Settle, Core, Choose, Finish, Outside}
+use Rattle.wire.specs.Round.{callKind}
+use Rattle.phase_king.specs.Matrix.{firstMatrix, heldOf, weakOf, settledOf}
+use Rattle.phase_king.proofs.Laws.{length-first, length-held, length-weak, length-settled, first-below, held-below, weak-below, settled-below}
+use Rattle.star.specs.Star.{starOf}
+use Rattle.star.proofs.Laws.{e-below}
+use Rattle.reconstruction.specs.declared.Outcome.{Outcome}
+use Rattle.reconstruction.specs.declared.Outcome.the-variants.{Open}
+use Rattle.reconstruction.specs.Reconstruction.{finished}
+use Rattle.protocol.specs.declared.State.{State}
+use Rattle.protocol.specs.declared.Started.{Started}
+use Rattle.protocol.specs.State.{settingsOf, zeroState, freshState, advanced, withMatrix, withVotes, withCore}
+use Rattle.protocol.specs.Calls.{Carried, inboxLen, readPhase, coreOf, settledMatrix, callOf}
+use Rattle.protocol.specs.Step.{startRefusal, startOf, stepRefusal, After, stepOf}
+use Rattle.protocol.proofs.Laws.{
+  start-0,
+  start-number,
+  start-found,
+  start-refused,
+  refused,
+  performed,
+  ready-of,
+  of-send,
+  of-receive,
+  of-compare,
+  of-collect,
+  of-tally,
+  of-hold,
+  of-settle,
+  of-core,
+  of-choose,
+  of-finish,
+  of-outside,
+}
+use Rattle.state_bytes.specs.State.{numbersOf, Words}
+
+-- ---- the states that are built
+-- six numbers below 2 ^ 64; there is no seventh
+numbers-below : (s : State) → s .n < 2 ^ 64 → s .t < 2 ^ 64 → s .k < 2 ^ 64 → s .own < 2 ^ 64 → s .sender < 2 ^ 64 → s .next < 2 ^ 64
+    → (i : ℕ) → getD (numbersOf s) i 0 < 2 ^ 64
+numbers-below s n t k own sender next zero = n
+numbers-below s n t k own sender next (suc zero) = t
+numbers-below s n t k own sender next (suc (suc zero)) = k
+numbers-below s n t k own sender next (suc (suc (suc zero))) = own
+numbers-below s n t k own sender next (suc (suc (suc (suc zero)))) = sender
+numbers-below s n t k own sender next (suc (suc (suc (suc (suc zero))))) = next
+numbers-below s n t k own sender next (suc (suc (suc (suc (suc (suc i)))))) = omega arith
+
+-- with a matrix, a weak matrix and a core of zeros
+zeros-words : (s : State) → ((i : ℕ) → getD (numbersOf s) i 0 < 2 ^ 64) → s .matrix ≡ replicate 16 0 → s .weak ≡ replicate 16 0 → s .core ≡ 0 → Words s
+zeros-words s h m w c = record {
+  numbers = h;
+  matrix-length = ap length m;
+  matrix-rows = λ i. rw m (all-zeros (λ x. x < 2 ^ 16) (lit< tt) 16 i);
+  weak-length = ap length w;
+  weak-rows = λ i. rw w (all-zeros (λ x. x < 2 ^ 16) (lit< tt) 16 i);
+  core-row = rw c (lit< tt);
+}
+
+zero-words : Words zeroState
+zero-words = zeros-words zeroState (numbers-below zeroState (lit< tt) (lit< tt) (lit< tt) (lit< tt) (lit< tt) (lit< tt)) refl refl refl
+
+fresh-words : (n t k own sender : ℕ) → Valid (record { n = n; t = t; k = k; number = own; sender = sender }) → Words (freshState n t k own sender)
+fresh-words n t k own sender v =
+    let q = v .coded .quorum in
+    zeros-words (freshState n t k own sender)
+    (numbers-below (freshState n t k own sender) (omega (arith, q .n-most)) (omega (arith, q .n-most, q .t-most)) (omega (arith, v .coded .k-most))
+    (omega (arith, q .n-most, v .number .most)) (omega (arith, q .n-most, v .sender .most)) (lit< tt))
+    refl
+    refl
+    refl
+
+pub start-words : (n t k own sender b : ℕ) → Words (startOf n t k own sender b .state)
+start-words n t k own sender b =
+    ⊎-elim
+    (λ (z : startRefusal n t k own sender b ≡ 0).
+    subst (λ (a : Started). Words (a .state)) (sym (start-found n t k own sender b (startRefusal n t k own sender b) refl z))
+    (fresh-words n t k own sender (start-0 n t k own sender b (start-number n t k own sender b ∙ z) .0)))
+    (λ (z : startRefusal n t k own sender b ≡ 0 → ⊥).
+    subst (λ (a : Started). Words (a .state)) (sym (start-refused n t k own sender b (startRefusal n t k own sender b) refl z)) zero-words)
+    (same-or-not (startRefusal n t k own sender b) 0)
+
+-- ---- the changes of a call
+advanced-words : (s : State) (w : Outcome) → Words s → s .next ≤ 24 → Words (advanced s w)
+advanced-words s w h l = record {
+  numbers = numbers-below (advanced s w) (h .numbers 0) (h .numbers 1) (h .numbers 2) (h .numbers 3) (h .numbers 4) (omega arith);
+  matrix-length = h .matrix-length;
+  matrix-rows = h .matrix-rows;
+  weak-length = h .weak-length;
+  weak-rows = h .weak-rows;
+  core-row = h .core-row;
+}
+
+matrix-words : (s : State) (m : List ℕ) → Words s → length m ≡ 16 → ((i : ℕ) → getD m i 0 < 2 ^ 16) → Words (withMatrix s m)
+matrix-words s m h l r = record {
+  numbers = h .numbers;
+  matrix-length = l;
+  matrix-rows = r;
+  weak-length = h .weak-length;
+  weak-rows = h .weak-rows;
+  core-row = h .core-row;
+}
+
+votes-words : (s : State) (m w : List ℕ) → Words s → length m ≡ 16 → ((i : ℕ) → getD m i 0 < 2 ^ 16) → length w ≡ 16 → ((i : ℕ) → getD w i 0 < 2 ^ 16)
+    → Words (withVotes s m w)
+votes-words s m w h l r l′ r′ = record {
+  numbers = h .numbers;
+  matrix-length = l;
+  matrix-rows = r;
+  weak-length = l′;
+  weak-rows = r′;
+  core-row = h .core-row;
+}
+
+core-words : (s : State) (m : List ℕ) (e : ℕ) → Words s → length m ≡ 16 → ((i : ℕ) → getD m i 0 < 2 ^ 16) → e < 2 ^ 16 → Words (withCore s m e)
+core-words s m e h l r c = record {
+  numbers = h .numbers;
+  matrix-length = l;
+  matrix-rows = r;
+  weak-length = h .weak-length;
+  weak-rows = h .weak-rows;
+  core-row = c;
+}
+
+-- ---- each call
+module _ (s : State) (b i o : List ℕ) (h : Words s) (few : s .n ≤ 16) (l : s .next ≤ 24) where
+  open-words : Words (advanced s Open)
+  open-words = advanced-words s Open h l
+
+  settled : List ℕ
+  settled = settledMatrix s i
+
+  settled-length : length settled ≡ 16
+  unfolding settled
+  settled-length = length-settled (s .matrix) (s .weak) i (inboxLen s) (s .n) (readPhase s)
+
+  settled-rows : (r : ℕ) → getD settled r 0 < 2 ^ 16
+  unfolding settled
+  settled-rows r = settled-below (s .matrix) (s .weak) i (inboxLen s) (s .n) (readPhase s) r
+
+  core-below : coreOf settled (s .n) (s .t) < 2 ^ 16
+  core-below = lt-of-lt-of-le (e-below settled (s .n) (s .t)) (pow-mono few)
+
+  by : (c : Call) (a : Carried) → callOf c s b i o ≡ a → Words (a .state) → Words (callOf c s b i o .state)
+  by c a e w = subst (λ (x : Carried). Words (x .state)) (sym e) w
+
+  call-words : (c : Call) → Words (callOf c s b i o .state)
+  unfolding settled
+  call-words Send = by Send _ (of-send s b i o) open-words
+  call-words Receive = by Receive _ (of-receive s b i o) open-words
+  call-words Compare = by Compare _ (of-compare s b i o) open-words
+  call-words Collect =
+      by Collect _ (of-collect s b i o)
+      (matrix-words (advanced s Open) (firstMatrix i (inboxLen s) (s .n)) open-words (length-first i (inboxLen s) (s .n)) (first-below i (inboxLen s) (s .n)))
+  call-words Tally = by Tally _ (of-tally s b i o) open-words
+  call-words Hold =
+      by Hold _ (of-hold s b i o)
+      (votes-words (advanced s Open) (heldOf i (inboxLen s) (s .n) (s .t)) (weakOf i (inboxLen s) (s .n) (s .t)) open-words
+      (length-held i (inboxLen s) (s .n) (s .t)) (held-below i (inboxLen s) (s .n) (s .t)) (length-weak i (inboxLen s) (s .n) (s .t))
+      (weak-below i (inboxLen s) (s .n) (s .t)))
+  call-words Settle = by Settle _ (of-settle s b i o) (matrix-words (advanced s Open) settled open-words settled-length settled-rows)
+  call-words Core =
+      by Core _ (of-core s b i o) (core-words (advanced s Open) settled (coreOf settled (s .n) (s .t)) open-words settled-length settled-rows core-below)
+  call-words Choose = by Choose _ (of-choose s b i o) open-words
+  call-words Finish =
+      by Finish _ (of-finish s b i o) (advanced-words s (finished (s .n) (s .t) (s .k) (s .core) i b .outcome) h l)
+  call-words Outside = by Outside _ (of-outside s b i o) h
+
+pub step-words : (s : State) (b i o : List ℕ) → Words s → Words (stepOf s b i o .answer .state)
+step-words s b i o h =
+    let r = stepRefusal s (length b) (length i) (length o) in
+    ⊎-elim
+    (λ (z : r ≡ 0).
+    let ready = ready-of s (length b) (length i) (length o) z in
+    let q = ready .valid .coded .quorum in
+    subst (λ (a : After). Words (a .answer .state)) (sym (performed s b i o z))
+    (call-words s b i o h (q .n-most) (omega (arith, ready .next-most, q .t-most, q .n-most)) (callKind (s .t) (s .next))))
+    (λ (z : r ≡ 0 → ⊥). subst (λ (a : After). Words (a .answer .state)) (sym (refused s b i o z)) h)
+    (same-or-not r 0)

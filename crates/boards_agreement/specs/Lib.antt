@@ -1,0 +1,2 @@
+-- Runs through the exported functions.
+pub mod Library
