@@ -5,6 +5,7 @@
 --   sizeOf s        how many members s has
 --   inserted s i    s with i, which is below 16; else s
 --   removed s i     s without i
+--   intersection a b, difference a b, union a b   the members of both; of a and not of b; of either
 --   restricted s n  the members of s below n
 --   first n p       the least index below n that passes p; n where none does
 --   lowestOf s      the least member of s; 16 where it has none
@@ -27,6 +28,15 @@ inserted s i = setOf 16 (λ j. member s j || eqb j i)
 
 unfoldable pub removed : ℕ → ℕ → ℕ
 removed s i = setOf 16 (λ j. member s j && not (eqb j i))
+
+unfoldable pub intersection : ℕ → ℕ → ℕ
+intersection a b = setOf 16 (λ i. member a i && member b i)
+
+unfoldable pub difference : ℕ → ℕ → ℕ
+difference a b = setOf 16 (λ i. member a i && not (member b i))
+
+unfoldable pub union : ℕ → ℕ → ℕ
+union a b = setOf 16 (λ i. member a i || member b i)
 
 unfoldable pub restricted : ℕ → ℕ → ℕ
 restricted s n = setOf n (member s)

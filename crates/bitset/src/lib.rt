@@ -2,9 +2,9 @@
 // Every function is total: an index past 15 is in no set.
 ghost use mathlib.Core.Path.{_≡_};
 ghost use mathlib.Core.Bool.{true};
-ghost use Prim.Native.Nat.{_*_, _/_, _%_, _^_, _<_, _≤_, min};
+ghost use Prim.Native.Nat.{_*_, _/_, _%_, _^_, _<_, min};
 ghost use Rattle.lists.specs.Fill.{filled};
-ghost use Rattle.bitset.specs.Set.{member, setOf, sizeOf, inserted, removed, restricted, lowestOf};
+ghost use Rattle.bitset.specs.Set.{member, setOf, sizeOf, inserted, removed, intersection, difference, union, restricted, lowestOf};
 ghost use Rattle.bitset.specs.Row.{rowOf, rowByte};
 
 // Whether i is in the set s.
@@ -52,6 +52,27 @@ pub fn remove(s: u16, i: usize) -> u16
         return s - bit(i);
     }
     s
+}
+
+// The members of both sets. Shut out: a, b.
+pub fn intersection(a: u16, b: u16) -> u16
+    ensures { λ r. ⌜ r ≡ intersection a b ⌝ }
+{
+    a & b
+}
+
+// The members of a that are not in b. Shut out: the members of one of the two sets only, the members of b that are not in a.
+pub fn difference(a: u16, b: u16) -> u16
+    ensures { λ r. ⌜ r ≡ difference a b ⌝ }
+{
+    a ^ (a & b)
+}
+
+// The members of either set. Shut out: a, b.
+pub fn union(a: u16, b: u16) -> u16
+    ensures { λ r. ⌜ r ≡ union a b ⌝ }
+{
+    a | b
 }
 
 // How many members the set s has.

@@ -1,7 +1,6 @@
 -- What a crate above may know of the neighbour graph and its matchings besides the contracts.
 --   Sets
---     member-intersection, member-difference, size-difference   who is a member, and how many
---     in-lt, in-set, set-in, some-in                            members of a number of 16 digits, of the set of a test, of any set
+--     in-lt, in-set, set-in, some-in   members of a number of 16 digits, of the set of a test, of any set
 --   Graph
 --     neighbour-self     everyone is its own neighbour
 --     neighbour-sym      neighbours are so both ways
@@ -23,7 +22,7 @@
 --     any-in, any-of     a test that some pair passes
 --     pigeonhole         members that have a pair each, no two the same, are no more than the pairs
 --     one-each           pairs that have a member each are no more than the members
-pub use Rattle.matching.proofs.Sets.{member-intersection, member-difference, size-difference, intersection-lt, difference-lt, in-lt, in-set, set-in, some-in}
+pub use Rattle.matching.proofs.Sets.{in-lt, in-set, set-in, some-in}
 pub use Rattle.matching.proofs.Graph.{neighbour-self, neighbour-sym, neighbour-other, neighbour-same, complement-member}
 pub use Rattle.matching.proofs.First.{matching-first, one-matching, same-matching, matching-half}
 pub use Rattle.matching.proofs.Stored.{pairs-stored, stored-at, count-stored, pairs-none, pairs-suc}

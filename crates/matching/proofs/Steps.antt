@@ -11,13 +11,13 @@ use lib.ListN.{length, getD, set, replicate}
 use Rattle.lists.specs.Sum.{count}
 use Rattle.lists.proofs.Tests.{true≢false, bool-ext, same-or-not}
 use Rattle.lists.proofs.Sums.{below-suc, count-le}
-use Rattle.bitset.specs.Set.{member, sizeOf, inserted, removed, lowestOf}
+use Rattle.bitset.specs.Set.{member, sizeOf, inserted, removed, intersection, difference, union, lowestOf}
 use Rattle.bitset.proofs.Laws.{size-le, size-below, size-remove, insert-lt, remove-lt, lowest-member, lowest-least, lowest-some, member-over}
-use Rattle.matching.specs.Sets.{intersection, difference, union}
+use Rattle.bitset.proofs.Operations.{intersection-lt, difference-lt}
 use Rattle.matching.specs.Matching.{Pair}
 use Rattle.matching.specs.Steps.{In, Edge, Symmetric, Joined, Within, AtMost, NoneOfSize, FirstOfSize, Closed, Searched, Largest}
 use Rattle.matching.specs.First.{ends, stored}
-use Rattle.matching.proofs.Sets.{in-lt, not-in, in-intersection, intersection-in, difference-in, in-union, union-left, union-right, in-remove, remove-in, in-single, single-in, intersection-lt, difference-lt, difference-fewer}
+use Rattle.matching.proofs.Sets.{in-lt, not-in, in-intersection, intersection-in, difference-in, in-union, union-left, union-right, in-remove, remove-in, in-single, single-in, difference-fewer}
 use Rattle.matching.proofs.Pairs.{widen, each-map, two-each}
 use Rattle.matching.proofs.Sizes.{Minus, same-first, same-none, first-zero, none-empty, joined-map, step-found, step-drop, step-none, at-most-empty, take-out, split-off}
 use Rattle.matching.proofs.First.{fewer}

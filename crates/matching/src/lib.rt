@@ -1,41 +1,22 @@
 // The neighbour graph of rows of marks, and the first largest matching of the pairs that are not neighbours (document 01, 'Star
 // and core'). Index i stands for controller i + 1.
 use bitset::below;
+use bitset::difference;
 use bitset::insert;
+use bitset::intersection;
 use bitset::lowest;
 use bitset::member;
 use bitset::remove;
 use bitset::size;
+use bitset::union;
 ghost use mathlib.Core.Path.{_≡_};
 ghost use mathlib.Core.Bool.{true};
 ghost use mathlib.Core.List.{[]};
 ghost use Prim.Native.Nat.{_<_, _≤_, min};
 ghost use lib.ListN.{set};
-ghost use Rattle.matching.specs.Sets.{intersection, difference, union};
 ghost use Rattle.matching.specs.Graph.{neighbour, missing, complement};
 ghost use Rattle.matching.specs.First.{matchingOf, ends, stored};
 ghost use Rattle.matching.specs.Steps.{In, Symmetric, Within, AtMost, NoneOfSize, Closed, Searched, Largest};
-
-// The members of both sets. Shut out: a, b.
-pub fn intersection(a: u16, b: u16) -> u16
-    ensures { λ r. ⌜ r ≡ intersection a b ⌝ }
-{
-    a & b
-}
-
-// The members of a that are not in b. Shut out: the members of one of the two sets only, the members of b that are not in a.
-pub fn difference(a: u16, b: u16) -> u16
-    ensures { λ r. ⌜ r ≡ difference a b ⌝ }
-{
-    a ^ (a & b)
-}
-
-// The members of either set. Shut out: a, b.
-pub fn union(a: u16, b: u16) -> u16
-    ensures { λ r. ⌜ r ≡ union a b ⌝ }
-{
-    a | b
-}
 
 // n, or 16 where it is more.
 fn at_most_16(n: usize) -> usize

@@ -1,13 +1,13 @@
 // The star of a neighbour graph and its core (document 01, 'Star and core'). Index i stands for controller i + 1.
 use bitset::below;
+use bitset::difference;
 use bitset::insert;
+use bitset::intersection;
 use bitset::member;
 use bitset::remove;
 use bitset::size;
 use matching::Matching;
 use matching::complement;
-use matching::difference;
-use matching::intersection;
 use matching::largest;
 use settings::Entry;
 use settings::Settings;
@@ -16,8 +16,7 @@ ghost use mathlib.Core.Path.{_≡_};
 ghost use mathlib.Core.Bool.{not, _&&_};
 ghost use Prim.Native.Nat.{_^_, _<_, _≤_};
 ghost use lib.ListN.{getD};
-ghost use Rattle.bitset.specs.Set.{member, setOf, sizeOf, removed};
-ghost use Rattle.matching.specs.Sets.{intersection, difference};
+ghost use Rattle.bitset.specs.Set.{member, setOf, sizeOf, removed, intersection, difference};
 ghost use Rattle.matching.specs.Matching.{matched};
 ghost use Rattle.matching.specs.First.{pairsOf};
 ghost use Rattle.star.specs.Star.{setC, lacks, atLeast, setsFrom, noSets, isLarge, starOf};

@@ -14,7 +14,7 @@ use Rattle.matching.proofs.+first_of_size.Lts-first_of_size as lts
 use Rattle.bitset.proofs.lowest.Reads as lowest-reads
 use Rattle.bitset.proofs.member.Reads as member-reads
 use Rattle.bitset.proofs.remove.Reads as remove-reads
-use Rattle.matching.proofs.intersection.Reads as intersection-reads
+use Rattle.bitset.proofs.intersection.Reads as intersection-reads
 use Rattle.matching.proofs.is_hopeless.Reads as is-hopeless-reads
 use Rattle.matching.proofs.no_pair.Reads as no-pair-reads
 use Rattle.matching.proofs.with_pair.Reads as with-pair-reads

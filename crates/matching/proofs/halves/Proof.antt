@@ -1,9 +1,8 @@
 -- `matching::halves` meets its contract: one component after the other.
 use Rattle.matching.proofs.Steps.{Halving, lowest-in, halve-start, halve-less, halve-more, halve-done}
 use Rattle.matching.specs.Steps.{In}
-use Rattle.matching.specs.Sets.{difference}
 use Rattle.bitset.proofs.Laws.{size-le}
-use Rattle.bitset.specs.Set.{sizeOf, lowestOf}
+use Rattle.bitset.specs.Set.{sizeOf, difference, lowestOf}
 use native.Mathlib.Omega.{arith}
 use mathlib.Core.Path.{sym, ap, subst}
 use Prim.Native.Nat.{ℕ, _+_, _/_}
