@@ -3,7 +3,7 @@
 -- marks are read back), `marks-bytes` (they are sent as bytes).
 use mathlib.Core.Path.{_≡_, refl, sym, ap, subst, _∙_}
 use mathlib.Core.Logic.{⊎-elim}
-use mathlib.Core.Bool.{Bool, true, false, cond, not, _&&_}
+use mathlib.Core.Bool.{Bool, true, false, cond, not}
 use mathlib.Core.List.{List, _++_}
 use Prim.Native.Nat.{ℕ, zero, suc, _+_, _*_, _≤_, _<_}
 use native.Mathlib.Omega.{arith}
@@ -20,12 +20,12 @@ use Rattle.bitset.specs.Row.{rowOf}
 use Rattle.bitset.proofs.Laws.{restrict-lt}
 use Rattle.bitset.proofs.Rows.{row-pair, halves}
 use Rattle.settings.specs.Valid.{Coded, Numbered}
-use Rattle.settings.proofs.Laws.{0-encode}
 use Rattle.wire.specs.Length.{blockLength}
 use Rattle.wire.specs.Slot.{width, messageOf, bytes, slots, toAll, copied}
 use Rattle.wire.proofs.Laws.{to-all, length-message, message-all, copied-all, length-copied}
-use Rattle.reed_solomon.specs.Encode.{pieceOf}
-use Rattle.dispersal.specs.Dispersal.{isReady, sentBlock, receivedBlock, traded, sentPieces, isMarked, marksOf, marksMessage, sentMarks}
+use Rattle.reed_solomon.specs.Encode.{pieceOf, isReady}
+use Rattle.reed_solomon.proofs.Laws.{ready-of}
+use Rattle.dispersal.specs.Dispersal.{sentBlock, receivedBlock, traded, sentPieces, isMarked, marksOf, marksMessage, sentMarks}
 
 -- ---- call 1
 pub sent-block : (n own sender : ℕ) (b o : List ℕ) → own ≡ sender → length o ≡ n * width (length b)
@@ -70,10 +70,7 @@ module _ (inbox : List ℕ) (len sender : ℕ) (b : List ℕ) where
 -- ---- within the settings
 module _ (n t k own : ℕ) (b : List ℕ) (v : Coded n t k) (w : Numbered n own) (size : length b ≡ blockLength k t) where
   ready : (fits : Bool) → fits ≡ true → isReady n t k own b fits ≡ true
-  unfolding isReady
-  ready fits e =
-      eq-eqb _ 0 (0-encode (record { n = n; t = t; k = k; number = own; sender = 0 }) (eqb (length b) (blockLength k t) && fits) v w
-      (and-both (eqb (length b) (blockLength k t)) fits (eq-eqb (length b) (blockLength k t) size) e))
+  ready fits e = ready-of n t k own b fits (record { coded = v; number = w; size = size }) e
 
   -- round 2
   pub sent-pieces : (o : List ℕ) → length o ≡ n * width (2 * k) → sentPieces n t k own b o ≡ slots (2 * k) (traded k t own b) n

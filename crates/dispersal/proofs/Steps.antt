@@ -1,68 +1,28 @@
--- Laws that the proofs of the code share. The main ones: `ready-coding` (what the test of the settings shows) and `paired` (the message of the
--- own piece and piece j).
-use mathlib.Core.Path.{_≡_, sym, ap, ap₂, subst, _∙_}
+-- Laws that the proofs of the code share. The main one: `paired`, the message of the own piece and piece j.
+use mathlib.Core.Path.{_≡_, sym, ap, ap₂, _∙_}
 use mathlib.Core.Bool.{Bool, true, false, not, _&&_}
 use mathlib.Core.List.{List, _++_, append-nil}
 use Prim.Native.Nat.{ℕ, _+_, _-_, _*_, _≤_, _<_}
 use native.Mathlib.Nat.{le-of-eq}
 use native.Mathlib.Omega.{arith}
-use borrow.Author.Tests.{eq-eqb, ne-eqb, eqb-true}
+use borrow.Author.Tests.{eq-eqb, ne-eqb}
 use lib.Dec.{eqb}
 use lib.ListN.{length, take, drop, replicate, length-append, length-take, length-drop, drop-of-length-le}
 use lib.Seq.{take-all, take-at, drop-at, drop-drop, length-take-le}
 use Rattle.lists.specs.Same.{same}
-use Rattle.lists.proofs.Tests.{fails, bool-ext, and-left, and-right, and-no-left, and-tail, or-left, or-tail}
+use Rattle.lists.proofs.Tests.{fails, and-no-left, and-tail, or-left, or-tail}
 use Rattle.lists.proofs.Sames.{same-length}
-use Rattle.settings.specs.declared.Settings.{Settings}
 use Rattle.settings.specs.declared.Entry.the-variants.{Encode}
-use Rattle.settings.specs.Refusal.{refusalOf}
-use Rattle.settings.specs.Valid.{Coded}
-use Rattle.settings.proofs.Laws.{encode-0, 0-encode}
-use Rattle.wire.specs.Length.{blockLength, blockSize}
 use Rattle.wire.specs.Slot.{messageOf}
-use Rattle.wire.proofs.Laws.{block-size, Sized, sized-bytes}
-use Rattle.reed_solomon.specs.Encode.{pieceOf, Encoded, encoded, encodeOf}
-use Rattle.reed_solomon.proofs.Laws.{0-encoded, piece-length}
-use Rattle.dispersal.specs.Dispersal.{isReady, traded, isMarked}
-use Rattle.dispersal.specs.Steps.{Coding}
+use Rattle.wire.proofs.Laws.{Sized, sized-bytes}
+use Rattle.reed_solomon.specs.Encode.{pieceOf, Encoded, encoded, encodeOf, isReady, Coding}
+use Rattle.reed_solomon.proofs.Laws.{0-encoded, piece-length, ready-says}
+use Rattle.dispersal.specs.Dispersal.{traded, isMarked}
 use Rattle.dispersal.proofs.Laws.{traded-is}
 
 -- ---- the test of the settings
-abbrev asked : (n t k own : ℕ) → Settings
-asked n t k own = record { n = n; t = t; k = k; number = own; sender = 0 }
-
-module _ (n t k own : ℕ) where
-  -- tests of a length that agree within the settings
-  carried : (a b fits : Bool) → (Coded n t k → a ≡ b) → eqb (refusalOf Encode (asked n t k own) (a && fits)) 0 ≡ true
-      → eqb (refusalOf Encode (asked n t k own) (b && fits)) 0 ≡ true
-  carried a b fits h e =
-      let r = encode-0 (asked n t k own) (a && fits) (eqb-true (refusalOf Encode (asked n t k own) (a && fits)) 0 e) in
-      eq-eqb (refusalOf Encode (asked n t k own) (b && fits)) 0
-      (0-encode (asked n t k own) (b && fits) (r .0) (r .1) (subst (λ (x : Bool). (x && fits) ≡ true) (h (r .0)) (r .2)))
-
-  -- the block's length as it is computed, which is 0 outside the settings
-  pub ready-size : (block : List ℕ) (fits : Bool)
-      → eqb (refusalOf Encode (asked n t k own) (eqb (length block) (blockSize n t k) && fits)) 0 ≡ isReady n t k own block fits
-  unfolding isReady
-  ready-size block fits =
-      bool-ext _ _
-      (carried (eqb (length block) (blockSize n t k)) (eqb (length block) (blockLength k t)) fits (λ v. ap (eqb (length block)) (block-size v)))
-      (carried (eqb (length block) (blockLength k t)) (eqb (length block) (blockSize n t k)) fits (λ v. ap (eqb (length block)) (sym (block-size v))))
-
-  pub ready-coding : (block : List ℕ) (fits : Bool) → isReady n t k own block fits ≡ true → Coding n t k own block × (fits ≡ true)
-  unfolding isReady
-  ready-coding block fits e =
-      let r = encode-0 (asked n t k own) (eqb (length block) (blockLength k t) && fits) (eqb-true _ 0 e) in (
-        record {
-          coded = r .0;
-          number = r .1;
-          size = eqb-true (length block) (blockLength k t) (and-left (eqb (length block) (blockLength k t)) fits (r .2));
-        },
-        and-right (eqb (length block) (blockLength k t)) fits (r .2),
-      )
-
-  pub many-stripes : (block : List ℕ) (fits : Bool) → 128 < k → isReady n t k own block fits ≡ false
-  many-stripes block fits l = fails (isReady n t k own block fits) (λ e. omega (arith, ready-coding block fits e .0 .coded .k-most))
+pub many-stripes : (n t k own : ℕ) (block : List ℕ) (fits : Bool) → 128 < k → isReady n t k own block fits ≡ false
+many-stripes n t k own block fits l = fails (isReady n t k own block fits) (λ e. omega (arith, ready-says n t k own block fits e .0 .coded .k-most))
 
 -- ---- pieces
 -- piece j, coded into the part of m from a to e that was lent and came back as q

@@ -1,7 +1,6 @@
 -- Calls 1 to 3 (document 01, 'Rounds'): the sender's block, the pieces that are traded, the marks. Controllers are numbered from 1; own is
 -- the caller's own number. The functions are total: outside the settings, or with a block or an outbox of another length, nothing is
 -- written and nobody is marked.
---   isReady n t k own block fits     coding's rows of the refusal table let the settings, the own number and the lengths pass
 --   sentBlock n own sender b o       call 1: the sender's block to all; silence from everyone else
 --   receivedBlock inbox len sender b call 2: the block is the sender's message, or zeros if absent
 --   traded k t own b j               round 2, to j: the own piece, then piece j of the own coding
@@ -18,15 +17,8 @@ use lib.Dec.{eqb}
 use lib.ListN.{length, take, drop, replicate}
 use Rattle.lists.specs.Same.{same}
 use Rattle.bitset.specs.Set.{setOf, restricted}
-use Rattle.settings.specs.declared.Entry.the-variants.{Encode}
-use Rattle.settings.specs.Refusal.{refusalOf}
-use Rattle.wire.specs.Length.{blockLength}
 use Rattle.wire.specs.Slot.{width, messageOf, Sent, bytes, slots, toAll, copied}
-use Rattle.reed_solomon.specs.Encode.{pieceOf}
-
-unfoldable pub isReady : (n t k own : ℕ) → List ℕ → Bool → Bool
-isReady n t k own block fits =
-    eqb (refusalOf Encode (record { n = n; t = t; k = k; number = own; sender = 0 }) (eqb (length block) (blockLength k t) && fits)) 0
+use Rattle.reed_solomon.specs.Encode.{pieceOf, isReady}
 
 unfoldable pub sentBlock : (n own sender : ℕ) → List ℕ → List ℕ → List ℕ
 sentBlock n own sender block outbox = cond (eqb own sender) (toAll n block outbox) (replicate (length outbox) 0)

@@ -1,3 +1,2 @@
 -- What calls 1 to 3 make of the block and the inbox.
 pub mod Dispersal
-pub mod Steps

@@ -3,17 +3,12 @@ ghost use mathlib.Core.Path.{_≡_};
 ghost use mathlib.Core.Bool.{_&&_};
 ghost use mathlib.Core.List.{_++_};
 ghost use Prim.Native.Nat.{_+_, _*_, _/_, _%_, _≤_};
-ghost use lib.Dec.{eqb};
 ghost use lib.ListN.{length, take, drop};
 ghost use Rattle.lists.specs.Same.{same};
 ghost use Rattle.bitset.specs.Set.{setOf};
-ghost use Rattle.wire.specs.Length.{blockSize};
 ghost use Rattle.wire.specs.Slot.{width, slots};
-ghost use Rattle.reed_solomon.specs.Encode.{pieceOf};
-ghost use Rattle.dispersal.specs.Dispersal.{isReady, sentBlock, receivedBlock, traded, sentPieces, isMarked, marksOf, sentMarks};
-ghost use Rattle.dispersal.specs.Steps.{Coding};
-use settings::Entry;
-use settings::Settings;
+ghost use Rattle.reed_solomon.specs.Encode.{pieceOf, Coding};
+ghost use Rattle.dispersal.specs.Dispersal.{sentBlock, receivedBlock, traded, sentPieces, isMarked, marksOf, sentMarks};
 
 // Call 1: the sender's block to all; silence from everyone else.
 // Shut out: everyone but the sender sends; as many slots as the own number.
@@ -38,34 +33,6 @@ pub fn receive_block(inbox: &[u8], len: usize, sender: usize, block: &mut [u8])
         return;
     }
     wire::copy(block, m);
-}
-
-// Whether the block has the stated length, and `fits`.
-fn lengths_fit(n: usize, t: usize, k: usize, block: &[u8], fits: bool) -> bool
-    ensures { λ r. ⌜ r ≡ (eqb (length (now (block .entry))) (blockSize n t k) && fits) ⌝ }
-{
-    if !fits {
-        return false;
-    }
-    block.len() == wire::block_length(n, t, k)
-}
-
-// Whether coding's rows of the refusal table let the settings, the own number and the lengths pass.
-fn is_ready(n: usize, t: usize, k: usize, own: usize, block: &[u8], fits: bool) -> bool
-    ensures { λ r. ⌜ r ≡ isReady n t k own (now (block .entry)) fits ⌝ }
-{
-    settings::refusal(
-        Entry::Encode,
-        Settings {
-            n,
-            t,
-            k,
-            number: own,
-            sender: 0,
-        },
-        lengths_fit(n, t, k, block, fits),
-    )
-        == 0
 }
 
 // Piece j of the block's coding, into the k bytes of m from `at` on.
@@ -118,7 +85,7 @@ pub fn send_pieces(n: usize, t: usize, k: usize, own: usize, block: &[u8], outbo
         return;
     }
     let fits = wire::holds_exactly(outbox, n, 2 * k);
-    if is_ready(n, t, k, own, block, fits) {
+    if reed_solomon::is_ready(n, t, k, own, block, fits) {
         trade(n, t, k, own, block, outbox);
     }
 }
@@ -213,7 +180,7 @@ pub fn marks(
 ) -> u16
     ensures { λ r. ⌜ r ≡ marksOf n t k own (now (inbox .entry)) len (now (block .entry)) ⌝ }
 {
-    if is_ready(n, t, k, own, block, true) {
+    if reed_solomon::is_ready(n, t, k, own, block, true) {
         return mark(n, t, k, own, inbox, len, block);
     }
     0

@@ -8,12 +8,12 @@ use lib.ListN.{length, replicate}
 use Rattle.lists.proofs.Tests.{cond-yes, cond-no}
 use Rattle.bitset.specs.Set.{restricted}
 use Rattle.wire.specs.Slot.{width, slots}
-use Rattle.reed_solomon.specs.Encode.{pieceOf}
+use Rattle.reed_solomon.specs.Encode.{pieceOf, isReady}
 use Rattle.reed_solomon.specs.declared.Decoded.{Decoded}
 use Rattle.reed_solomon.specs.declared.Decoded.the-variants.{Block, Beyond, Refused}
 use Rattle.reed_solomon.specs.Decode.{answerOf, decodeOf}
 use Rattle.reconstruction.specs.declared.Outcome.{Outcome}
-use Rattle.reconstruction.specs.Reconstruction.{isReady, inCore, forwarded, chosenPiece, sentPiece, shared, finish, decodedOutcome, finished}
+use Rattle.reconstruction.specs.Reconstruction.{inCore, forwarded, chosenPiece, sentPiece, shared, finish, decodedOutcome, finished}
 use Rattle.reconstruction.proofs.Laws.{own-member, own-other, finished-else}
 use Rattle.reconstruction.proofs.Pieces.{pieces}
 

@@ -17,14 +17,14 @@ use Rattle.lists.proofs.Sames.{same-eq, eq-same}
 use Rattle.bitset.specs.Set.{member, restricted, first}
 use Rattle.bitset.proofs.Laws.{first-some, first-passes}
 use Rattle.settings.specs.Valid.{Coded, Numbered}
-use Rattle.settings.proofs.Laws.{0-encode}
 use Rattle.wire.specs.Length.{blockLength}
 use Rattle.wire.specs.Slot.{width, messageOf, bytes, slots, toAll}
 use Rattle.wire.proofs.Laws.{to-all, length-message, message-all}
-use Rattle.reed_solomon.specs.Encode.{pieceOf}
+use Rattle.reed_solomon.specs.Encode.{pieceOf, isReady}
+use Rattle.reed_solomon.proofs.Laws.{ready-of}
 use Rattle.reed_solomon.specs.Decode.{Answer, decodeOf}
 use Rattle.reconstruction.specs.declared.Outcome.the-variants.{None}
-use Rattle.reconstruction.specs.Reconstruction.{isReady, inCore, forwarded, votes, isChosen, chosenPiece, ownPiece, sentPiece, shared, finish, decodedOutcome, finished}
+use Rattle.reconstruction.specs.Reconstruction.{inCore, forwarded, votes, isChosen, chosenPiece, ownPiece, sentPiece, shared, finish, decodedOutcome, finished}
 
 -- membership by number
 pub in-core : (core j : ℕ) → 1 ≤ j → inCore core j ≡ member core (j - 1)
@@ -38,10 +38,7 @@ forwarded-other n t k own core b o e = cond-no (inCore core own) _ (replicate (l
 
 module _ (n t k own : ℕ) (b : List ℕ) (v : Coded n t k) (w : Numbered n own) (size : length b ≡ blockLength k t) where
   ready : (fits : Bool) → fits ≡ true → isReady n t k own b fits ≡ true
-  unfolding isReady
-  ready fits e =
-      eq-eqb _ 0 (0-encode (record { n = n; t = t; k = k; number = own; sender = 0 }) (eqb (length b) (blockLength k t) && fits) v w
-      (and-both (eqb (length b) (blockLength k t)) fits (eq-eqb (length b) (blockLength k t) size) e))
+  ready fits e = ready-of n t k own b fits (record { coded = v; number = w; size = size }) e
 
   -- call 3t + 7
   pub forwarded-member : (core : ℕ) (o : List ℕ) → inCore core own ≡ true → length o ≡ n * width k

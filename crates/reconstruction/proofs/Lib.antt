@@ -1,6 +1,5 @@
 -- `Laws` is for the crates above; the others are what the functions' proofs rest on.
 pub mod Laws
-mod Ready
 mod Choice
 mod Pieces
 mod Calls

@@ -1,7 +1,6 @@
 -- Calls 3t + 7 to 3t + 9 (document 01, 'Rounds'): core members give everyone its piece, everyone sends its piece, the block is decoded.
 -- Controllers are numbered from 1; own is the caller's own number; index i of the set core is controller i + 1. The functions are total:
 -- outside the settings, or with a block or an outbox of another length, nothing is written.
---   isReady n t k own block fits        coding's rows of the refusal table let the settings, the own number and the lengths pass
 --   inCore core j                       controller j is in the core
 --   forwarded n t k own core b o        call 3t + 7: a core member sends to j piece j of its own coding; others are silent
 --   votes n core inbox len m            how many core members sent the piece m, whole pieces compared
@@ -22,18 +21,11 @@ use lib.ListN.{length, replicate}
 use Rattle.lists.specs.Sum.{count}
 use Rattle.lists.specs.Same.{same}
 use Rattle.bitset.specs.Set.{member, restricted, first}
-use Rattle.settings.specs.declared.Entry.the-variants.{Encode}
-use Rattle.settings.specs.Refusal.{refusalOf}
-use Rattle.wire.specs.Length.{blockLength}
 use Rattle.wire.specs.Slot.{width, messageOf, bytes, slots, toAll}
-use Rattle.reed_solomon.specs.Encode.{pieceOf}
+use Rattle.reed_solomon.specs.Encode.{pieceOf, isReady}
 use Rattle.reed_solomon.specs.Decode.{Word, decoded, beyond, refused, decodeOf}
 use Rattle.reconstruction.specs.declared.Outcome.{Outcome}
 use Rattle.reconstruction.specs.declared.Outcome.the-variants.{Open, Agreed, None, Beyond}
-
-unfoldable pub isReady : (n t k own : ℕ) → List ℕ → Bool → Bool
-isReady n t k own block fits =
-    eqb (refusalOf Encode (record { n = n; t = t; k = k; number = own; sender = 0 }) (eqb (length block) (blockLength k t) && fits)) 0
 
 unfoldable pub inCore : ℕ → ℕ → Bool
 inCore core j = not (eqb j 0) && member core (j - 1)

@@ -11,10 +11,8 @@ ghost use Rattle.wire.specs.Length.{blockLength};
 ghost use Rattle.wire.specs.Slot.{width, messageOf, bytes, slots, putSlot};
 ghost use Rattle.reed_solomon.specs.Encode.{pieceOf};
 ghost use Rattle.reed_solomon.specs.Decode.{answerOf};
-ghost use Rattle.reconstruction.specs.Reconstruction.{isReady, inCore, forwarded, votes, isChosen, chosenPiece, sentPiece, shared, finish, decodedOutcome, finished};
+ghost use Rattle.reconstruction.specs.Reconstruction.{inCore, forwarded, votes, isChosen, chosenPiece, sentPiece, shared, finish, decodedOutcome, finished};
 use reed_solomon::Decoded;
-use settings::Entry;
-use settings::Settings;
 
 // How a run stands or ended (document 01, 'The house').
 pub enum Outcome {
@@ -22,27 +20,6 @@ pub enum Outcome {
     Agreed,
     None,
     Beyond,
-}
-
-// Whether coding's rows of the refusal table let the settings, the own number and the lengths pass; `fits` speaks of the outbox.
-fn is_ready(n: usize, t: usize, k: usize, own: usize, block: &[u8], fits: bool) -> bool
-    ensures { λ r. ⌜ r ≡ isReady n t k own (now (block .entry)) fits ⌝ }
-{
-    if block.len() != wire::block_length(n, t, k) {
-        return false;
-    }
-    settings::refusal(
-        Entry::Encode,
-        Settings {
-            n,
-            t,
-            k,
-            number: own,
-            sender: 0,
-        },
-        fits,
-    )
-        == 0
 }
 
 // Whether controller j is in the core.
@@ -102,7 +79,7 @@ pub fn forward(n: usize, t: usize, k: usize, own: usize, core: u16, block: &[u8]
         wire::silence(outbox);
         return;
     }
-    if is_ready(n, t, k, own, block, wire::holds_exactly(outbox, n, k)) {
+    if reed_solomon::is_ready(n, t, k, own, block, wire::holds_exactly(outbox, n, k)) {
         send_coding(n, t, k, block, outbox);
     }
 }
@@ -220,7 +197,7 @@ pub fn share(
 )
     ensures { λ _. ⌜ now (outbox .exit) ≡ shared n t k own core (now (inbox .entry)) len (now (block .entry)) (now (outbox .entry)) ⌝ }
 {
-    if !is_ready(n, t, k, own, block, wire::holds_exactly(outbox, n, k)) {
+    if !reed_solomon::is_ready(n, t, k, own, block, wire::holds_exactly(outbox, n, k)) {
         return;
     }
     if in_core(core, own) {

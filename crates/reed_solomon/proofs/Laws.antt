@@ -5,6 +5,7 @@
 --     piece-length          a piece has k bytes
 --     piece-bytes           all below 256
 --     piece-byte            byte s is the value of stripe s
+--     ready-says, ready-of  what `isReady` lets pass
 --     blocks-equal          two blocks whose codings have the same piece at t + 1 of the numbers 1 .. n are the same
 --   Decoding
 --     decode-0, 0-decoded   the number is 0 exactly within the settings, with the stated lengths; then it is what `rebuiltOf` says
@@ -28,6 +29,7 @@ use Rattle.polynomial.specs.Polynomial.{Bytes}
 use Rattle.reed_solomon.specs.Encode.{pieceOf, encoded, encodeOf}
 use Rattle.reed_solomon.specs.Decode.{Decodes, decoded, beyond, answer, rebuiltOf, decodeOf}
 use Rattle.reed_solomon.proofs.Rule.{encode-carried, valid-encode, decode-carried, valid-decode, rebuilt-decoded, rebuilt-cases}
+pub use Rattle.reed_solomon.proofs.Ready.{ready-says, ready-of}
 pub use Rattle.reed_solomon.proofs.Rule.{encode-valid as encode-0, encode-refused, piece-length, piece-bytes, piece-byte, blocks-equal}
 pub use Rattle.reed_solomon.proofs.Rule.{decode-valid as decode-0, decode-refused, decodes-unique, pieces-decode}
 

@@ -2,4 +2,5 @@
 mod Sizes
 mod Stripes
 mod Rule
+mod Ready
 pub mod Laws

@@ -5,6 +5,10 @@
 --   encodeRefusal n t k i block piece     the number of the refusal table's row, or 0 ('Turned down': coding tries 1, 2, 3, 4, 6)
 --   Encoded                               what a call leaves: the number that it returns, and the lent piece
 --   encodeOf n t k i block piece          refused: its number, nothing changes; else 0 and the piece
+--   isReady n t k i block fits            the rows that coding tries let the settings, the number i and the lengths pass; fits is the test of what is
+--                                         lent beside the block, for callers that code into a box
+--   Coding n t k i block                  what they then say: piece i of the block can be coded
+use mathlib.Core.Path.{_≡_}
 use mathlib.Core.Bool.{Bool, cond, _&&_}
 use mathlib.Core.List.{List}
 use Prim.Native.Nat.{ℕ, _+_, _*_}
@@ -13,6 +17,7 @@ use lib.ListN.{length, take, drop}
 use Rattle.lists.specs.Fill.{tabulate}
 use Rattle.settings.specs.declared.Entry.the-variants.{Encode}
 use Rattle.settings.specs.Refusal.{refusalOf}
+use Rattle.settings.specs.Valid.{Coded, Numbered}
 use Rattle.wire.specs.Length.{blockLength}
 use Rattle.polynomial.specs.Polynomial.{evaluate}
 
@@ -41,3 +46,12 @@ encodeOf n t k i block piece =
     cond (eqb (encodeRefusal n t k i block piece) 0)
     (encoded 0 (pieceOf k t block i))
     (encoded (encodeRefusal n t k i block piece) piece)
+
+unfoldable pub isReady : (n t k i : ℕ) → List ℕ → Bool → Bool
+isReady n t k i block fits =
+    eqb (refusalOf Encode (record { n = n; t = t; k = k; number = i; sender = 0 }) (eqb (length block) (blockLength k t) && fits)) 0
+
+pub record Coding (n t k i : ℕ) (block : List ℕ) : Type 0 where
+  pub coded : Coded n t k
+  pub number : Numbered n i
+  pub size : length block ≡ blockLength k t

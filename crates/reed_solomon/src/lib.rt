@@ -7,7 +7,7 @@ ghost use lib.ListN.{length};
 ghost use Rattle.settings.specs.Valid.{Coded};
 ghost use Rattle.wire.specs.Length.{blockLength};
 ghost use Rattle.interpolation.specs.Interpolation.{agreements};
-ghost use Rattle.reed_solomon.specs.Encode.{pieceOf, encodeFits, encoded, encodeOf};
+ghost use Rattle.reed_solomon.specs.Encode.{pieceOf, encodeFits, encoded, encodeOf, isReady};
 ghost use Rattle.reed_solomon.specs.Decode.{received, points, column, decodeFits, answerOf, rebuiltOf, decodeOf};
 ghost use Rattle.reed_solomon.specs.Steps.{Tried, Rebuilt};
 use settings::Entry;
@@ -243,4 +243,26 @@ pub fn encode(n: usize, t: usize, k: usize, number: usize, block: &[u8], piece: 
     }
     encode_piece(t, block, number as u8, piece);
     0
+}
+
+// Whether the rows that coding tries let the settings, the number and the lengths pass; `fits` is the test of what is lent beside the block.
+// Shut out: `fits` not asked; k for the number.
+pub fn is_ready(n: usize, t: usize, k: usize, number: usize, block: &[u8], fits: bool) -> bool
+    ensures { λ r. ⌜ r ≡ isReady n t k number (now (block .entry)) fits ⌝ }
+{
+    if !is_block(block, t, k) {
+        return false;
+    }
+    settings::refusal(
+        Entry::Encode,
+        Settings {
+            n,
+            t,
+            k,
+            number,
+            sender: 0,
+        },
+        fits,
+    )
+        == 0
 }

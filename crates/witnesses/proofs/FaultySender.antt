@@ -20,17 +20,17 @@ use Rattle.wire.specs.Round.{roundKind, callKind, phaseOf}
 use Rattle.wire.specs.Slot.{width, slotOf, holds, isPresent, messageOf, written, slots, copied}
 use Rattle.polynomial.specs.Polynomial.{Bytes, gsum, evaluate, horner, plus, scale, timesRoot}
 use Rattle.interpolation.specs.Interpolation.{wrongBy, combine, withRoot, start, advance, next, run, smaller, reduced, series, candidate}
-use Rattle.reed_solomon.specs.Encode.{stripe, pieceOf}
+use Rattle.reed_solomon.specs.Encode.{stripe, pieceOf, isReady}
 use Rattle.lists.specs.Join.{joined}
 use Rattle.reed_solomon.specs.Decode.{received, agreement as agreementOf, points, column, stripeOf, isFound, decodeRefusal, rebuiltOf, decodeOf}
-use Rattle.dispersal.specs.Dispersal.{isReady, sentBlock, receivedBlock, traded, sentPieces, isMarked, marksOf, marksMessage, sentMarks}
+use Rattle.dispersal.specs.Dispersal.{sentBlock, receivedBlock, traded, sentPieces, isMarked, marksOf, marksMessage, sentMarks}
 use Rattle.phase_king.specs.Bit.{zeroSeen, oneSeen, held, support, weak, settled}
 use Rattle.phase_king.specs.Matrix.{matrixOf, said, kingSays, firstMatrix, zerosOf, onesOf, heldOf, weakOf, settledOf, seenMessage}
 use Rattle.matching.specs.Graph.{neighbour}
 use Rattle.matching.specs.Matching.{matched}
 use Rattle.matching.specs.First.{firstFound, ofSize, upTo, matchingOf}
 use Rattle.star.specs.Star.{struck, setC, lacks, setD, atLeast, setF, setE, setsFrom, noSets, isLarge, starFrom, refusalFor, starOf}
-use Rattle.reconstruction.specs.Reconstruction.{isReady as isReadyToShare, inCore, forwarded, votes, isChosen, chosenPiece, ownPiece, sentPiece, shared, finished}
+use Rattle.reconstruction.specs.Reconstruction.{inCore, forwarded, votes, isChosen, chosenPiece, ownPiece, sentPiece, shared, finished}
 use Rattle.protocol.specs.Calls.{callOf}
 use Rattle.protocol.specs.Step.{startRefusal, startOf, lengthsFit, stepRefusal, stepOf}
 use Rattle.agreement.specs.Agreement.{System, Supposed, Holds}
@@ -92,7 +92,7 @@ unfolding faulty-sender stepsOf lents tabulate filled sum count same gadd gmul g
     outboxLength roundKind callKind phaseOf width slotOf holds isPresent messageOf written slots copied gsum evaluate stripe pieceOf isReady
     sentBlock receivedBlock traded sentPieces isMarked marksOf marksMessage sentMarks zeroSeen oneSeen held support weak settled matrixOf
     said kingSays firstMatrix zerosOf onesOf heldOf weakOf settledOf seenMessage neighbour matched firstFound ofSize upTo matchingOf struck
-    setC lacks setD atLeast setF setE setsFrom noSets isLarge starFrom refusalFor starOf isReadyToShare inCore forwarded votes isChosen
+    setC lacks setD atLeast setF setE setsFrom noSets isLarge starFrom refusalFor starOf inCore forwarded votes isChosen
     chosenPiece ownPiece sentPiece shared callOf startRefusal startOf lengthsFit stepRefusal stepOf
 faulty-sender-meets = record { tolerance = tt; few = tt; started = tt; finished = tt; arrives = tt }
 
@@ -107,7 +107,7 @@ unfolding faulty-sender stepsOf lents tabulate filled sum count same gadd gmul g
     outboxLength roundKind callKind phaseOf width slotOf holds isPresent messageOf written slots copied gsum evaluate stripe pieceOf isReady
     sentBlock receivedBlock traded sentPieces isMarked marksOf marksMessage sentMarks zeroSeen oneSeen held support weak settled matrixOf
     said kingSays firstMatrix zerosOf onesOf heldOf weakOf settledOf seenMessage neighbour matched firstFound ofSize upTo matchingOf struck
-    setC lacks setD atLeast setF setE setsFrom noSets isLarge starFrom refusalFor starOf isReadyToShare inCore forwarded votes isChosen
+    setC lacks setD atLeast setF setE setsFrom noSets isLarge starFrom refusalFor starOf inCore forwarded votes isChosen
     chosenPiece ownPiece sentPiece shared callOf startRefusal startOf lengthsFit stepRefusal stepOf ginv horner plus scale timesRoot wrongBy
     combine withRoot start advance next run smaller reduced series candidate received agreementOf points column stripeOf isFound joined
     decodeRefusal rebuiltOf decodeOf finished

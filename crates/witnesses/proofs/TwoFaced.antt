@@ -20,15 +20,15 @@ use Rattle.wire.specs.Length.{blockLength, rowLength, inSettings, messageLength
 use Rattle.wire.specs.Round.{roundKind, callKind, phaseOf}
 use Rattle.wire.specs.Slot.{width, slotOf, holds, isPresent, messageOf, written, slots, copied}
 use Rattle.polynomial.specs.Polynomial.{Bytes, gsum, evaluate}
-use Rattle.reed_solomon.specs.Encode.{stripe, pieceOf}
-use Rattle.dispersal.specs.Dispersal.{isReady, sentBlock, receivedBlock, traded, sentPieces, isMarked, marksOf, marksMessage, sentMarks}
+use Rattle.reed_solomon.specs.Encode.{stripe, pieceOf, isReady}
+use Rattle.dispersal.specs.Dispersal.{sentBlock, receivedBlock, traded, sentPieces, isMarked, marksOf, marksMessage, sentMarks}
 use Rattle.phase_king.specs.Bit.{zeroSeen, oneSeen, held, support, weak, settled}
 use Rattle.phase_king.specs.Matrix.{matrixOf, said, kingSays, firstMatrix, zerosOf, onesOf, heldOf, weakOf, settledOf, seenMessage}
 use Rattle.matching.specs.Graph.{neighbour}
 use Rattle.matching.specs.Matching.{matched}
 use Rattle.matching.specs.First.{firstFound, ofSize, upTo, matchingOf}
 use Rattle.star.specs.Star.{struck, setC, lacks, setD, atLeast, setF, setE, setsFrom, noSets, isLarge, starFrom, refusalFor, starOf}
-use Rattle.reconstruction.specs.Reconstruction.{isReady as isReadyToShare, inCore, forwarded, votes, isChosen, chosenPiece, ownPiece, sentPiece, shared}
+use Rattle.reconstruction.specs.Reconstruction.{inCore, forwarded, votes, isChosen, chosenPiece, ownPiece, sentPiece, shared}
 use Rattle.protocol.specs.Calls.{callOf}
 use Rattle.protocol.specs.Step.{startRefusal, startOf, lengthsFit, stepRefusal, stepOf}
 use Rattle.agreement.specs.Agreement.{System, Correct, Supposed, Concluded, Holds, atStart}
@@ -152,7 +152,7 @@ unfolding two-faced stepsOf from4-1 from4-2 from4-3 lents tabulate filled sum co
     boxLength inboxLength outboxLength roundKind callKind phaseOf width slotOf holds isPresent messageOf written slots copied gsum evaluate
     stripe pieceOf isReady sentBlock receivedBlock traded sentPieces isMarked marksOf marksMessage sentMarks zeroSeen oneSeen held support
     weak settled matrixOf said kingSays firstMatrix zerosOf onesOf heldOf weakOf settledOf seenMessage neighbour matched firstFound ofSize
-    upTo matchingOf struck setC lacks setD atLeast setF setE setsFrom noSets isLarge starFrom refusalFor starOf isReadyToShare inCore
+    upTo matchingOf struck setC lacks setD atLeast setF setE setsFrom noSets isLarge starFrom refusalFor starOf inCore
     forwarded votes isChosen chosenPiece ownPiece sentPiece shared callOf startRefusal startOf lengthsFit stepRefusal stepOf
 two-faced-meets = record { tolerance = tt; few = tt; started = tt; finished = tt; arrives = tt }
 

@@ -1,6 +1,7 @@
 -- `marks` meets its contract.
-use Rattle.dispersal.proofs.Steps.{ready-coding}
-use Rattle.dispersal.specs.Dispersal.{isReady, isMarked, marksOf}
+use Rattle.reed_solomon.specs.Encode.{isReady}
+use Rattle.reed_solomon.proofs.Laws.{ready-says}
+use Rattle.dispersal.specs.Dispersal.{isMarked, marksOf}
 use Rattle.bitset.specs.Set.{setOf}
 use Rattle.lists.proofs.Tests.{cond-yes, cond-no}
 use Prim.Native.Nat.{_+_}
@@ -16,7 +17,7 @@ is-ready-requires c κs = search needs
 mark-requires : tie.Need-mark-requires
 mark-requires c κs =
     let a = c .before .before .before .before .args in
-    ready-coding (a .n) (a .t) (a .k) (a .own) (a .block .now) true (sym (c .before .is-ready .ensures) ∙ c .if1 .taken) .0
+    ready-says (a .n) (a .t) (a .k) (a .own) (a .block .now) true (sym (c .before .is-ready .ensures) ∙ c .if1 .taken) .0
 
 returns : tie.Need-returns
 unfolding marksOf

@@ -1,6 +1,8 @@
 -- `send_pieces` meets its contract.
-use Rattle.dispersal.proofs.Steps.{ready-coding, many-stripes}
-use Rattle.dispersal.specs.Dispersal.{isReady, traded, sentPieces}
+use Rattle.reed_solomon.specs.Encode.{isReady}
+use Rattle.reed_solomon.proofs.Laws.{ready-says}
+use Rattle.dispersal.proofs.Steps.{many-stripes}
+use Rattle.dispersal.specs.Dispersal.{traded, sentPieces}
 use Rattle.wire.specs.Slot.{width, slots}
 use Rattle.lists.proofs.Tests.{cond-yes, cond-no}
 use lib.ListN.{length}
@@ -34,7 +36,7 @@ trade-requires c κs =
     let R = c .before .before in
     let H = R .before in
     let a = H .before .before .before .before .before .args in
-    let r = ready-coding (a .n) (a .t) (a .k) (a .own) (a .block .now) (H .holds-exactly .result) (sym (R .is-ready .ensures) ∙ c .before .if2 .taken) in
+    let r = ready-says (a .n) (a .t) (a .k) (a .own) (a .block .now) (H .holds-exactly .result) (sym (R .is-ready .ensures) ∙ c .before .if2 .taken) in
     (r .0, eqb-true (length (a .outbox .now)) (a .n * width (2 * a .k)) (sym (H .holds-exactly .ensures) ∙ r .1))
 
 same-length : tie.Need-same-length

@@ -1,6 +1,6 @@
 -- `forward` meets its contract.
 use Rattle.reconstruction.proofs.Calls.{forwarded-other, forwarded-sent, forwarded-kept}
-use Rattle.reconstruction.proofs.Ready.{ready-says}
+use Rattle.reed_solomon.proofs.Laws.{ready-says}
 use borrow.Author.Tests.{not-true, not-false, eqb-true}
 use mathlib.Core.Path.{sym, _∙_}
 use borrow.Author.Needs.{needs}
@@ -34,7 +34,7 @@ send-coding-requires c κs =
     let H = c .before .before .before in
     let a = H .before .before .before .before .before .before .args in
     let r = ready-says (a .n) (a .t) (a .k) (a .own) (a .block .now) (H .holds-exactly .result) (sym (c .before .before .is-ready .ensures) ∙ c .before .if2 .taken) in
-    (r .coded, r .size, eqb-true _ _ (sym (H .holds-exactly .ensures) ∙ r .fitting))
+    (r .0 .coded, r .0 .size, eqb-true _ _ (sym (H .holds-exactly .ensures) ∙ r .1))
 
 same-length-2 : tie.Need-same-length-2
 same-length-2 c = search needs

@@ -1,6 +1,6 @@
 -- `share` meets its contract.
 use Rattle.reconstruction.proofs.Calls.{shared-kept, shared-own, shared-chosen}
-use Rattle.reconstruction.proofs.Ready.{ready-says}
+use Rattle.reed_solomon.proofs.Laws.{ready-says}
 use borrow.Author.Tests.{not-true, not-false}
 use mathlib.Core.Path.{sym, _∙_}
 use borrow.Author.Needs.{needs}
@@ -32,7 +32,7 @@ share-own-requires c κs =
     let H = I .before .before in
     let a = H .before .before .before .before .before .args in
     let r = ready-says (a .n) (a .t) (a .k) (a .own) (a .block .now) (H .holds-exactly .result) (sym (I .before .is-ready .ensures) ∙ not-false _ (I .if1 .left)) in
-    (r .coded, r .numbered, r .size)
+    (r .0 .coded, r .0 .number, r .0 .size)
 
 same-length-2 : tie.Need-same-length-2
 same-length-2 c = search needs
@@ -53,7 +53,7 @@ share-chosen-requires c κs =
     let H = I .before .before in
     let a = H .before .before .before .before .before .args in
     let r = ready-says (a .n) (a .t) (a .k) (a .own) (a .block .now) (H .holds-exactly .result) (sym (I .before .is-ready .ensures) ∙ not-false _ (I .if1 .left)) in
-    r .coded .quorum
+    r .0 .coded .quorum
 
 same-length-3 : tie.Need-same-length-3
 same-length-3 c = search needs
