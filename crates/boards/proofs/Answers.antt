@@ -1,10 +1,9 @@
 -- The answers of the exported functions, case by case, from what the functions of the crates below ensure. The main ones: `step-carried` and
 -- `step-refused`.
 use mathlib.Core.Path.{_≡_, refl, sym, ap, ap₂, _∙_}
-use mathlib.Core.Bool.{Bool, true, false, cond, _&&_}
+use mathlib.Core.Bool.{Bool, false, cond, _&&_}
 use mathlib.Core.List.{List}
 use Prim.Native.Nat.{ℕ, _*_, min}
-use native.Mathlib.Nat.{le-of-eq}
 use native.Mathlib.Omega.{arith}
 use borrow.Author.Tests.{eq-eqb, ne-eqb}
 use lib.Dec.{eqb}
@@ -17,13 +16,13 @@ use Rattle.wire.specs.Slot.{copied}
 use Rattle.wire.proofs.Laws.{copied-all}
 use Rattle.reed_solomon.specs.declared.Decoded.{Decoded}
 use Rattle.reed_solomon.specs.declared.Decoded.the-variants.{Block, Beyond, Refused}
-use Rattle.reed_solomon.specs.Decode.{Answer, answerOf, decodeOf}
+use Rattle.reed_solomon.specs.Decode.{answerOf, decodeOf}
 use Rattle.star.specs.declared.Sets.{Sets}
 use Rattle.star.specs.Star.{starOf}
 use Rattle.protocol.specs.declared.Started.{Started}
 use Rattle.protocol.specs.declared.State.{State}
 use Rattle.protocol.specs.declared.Stepped.{Stepped}
-use Rattle.protocol.specs.Step.{After, after, startOf, stepOf}
+use Rattle.protocol.specs.Step.{after, startOf, stepOf}
 use Rattle.state_bytes.specs.State.{stateLength, bytesOf, stateOf, outcomeNumber}
 use Rattle.boards.specs.Boards.{
   badLength,
@@ -31,7 +30,6 @@ use Rattle.boards.specs.Boards.{
   written,
   startWritten,
   startBytes,
-  Left,
   left,
   leftOf,
   stepLeft,

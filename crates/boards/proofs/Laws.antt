@@ -1,6 +1,6 @@
 -- Laws for the crates above: what the exported functions answer of a state that was written as bytes. The main one: `step-bytes`, a step through
 -- the library is a step of the controller.
-use mathlib.Core.Path.{_≡_, refl, sym, ap, ap₂, subst, _∙_}
+use mathlib.Core.Path.{_≡_, refl, sym, ap, _∙_}
 use mathlib.Core.Bool.{cond, _&&_}
 use mathlib.Core.List.{List}
 use mathlib.Core.Logic.{⊎-elim}
@@ -11,13 +11,12 @@ use lib.ListN.{length}
 use Rattle.lists.proofs.Tests.{same-or-not, cond-yes, cond-no, and-both}
 use Rattle.wire.specs.Length.{blockSize}
 use Rattle.protocol.specs.declared.State.{State}
-use Rattle.protocol.specs.Step.{After, startOf, stepRefusal, stepOf}
+use Rattle.protocol.specs.Step.{After, startOf, stepOf}
 use Rattle.protocol.proofs.Laws.{step-number, refused}
 use Rattle.state_bytes.specs.State.{stateLength, bytesOf, stateOf, outcomeNumber, Words}
 use Rattle.state_bytes.proofs.Laws.{length-bytes, read-written}
 use Rattle.boards.specs.Boards.{
   badLength,
-  Written,
   written,
   startWritten,
   startBytes,

@@ -2,7 +2,7 @@
 use mathlib.Core.Path.{_≡_, refl, sym, ap, subst, _∙_}
 use mathlib.Core.List.{List}
 use mathlib.Core.Logic.{⊎-elim}
-use Prim.Native.Nat.{ℕ, zero, suc, _+_, _*_, _^_, _≤_, _<_}
+use Prim.Native.Nat.{ℕ, zero, suc, _^_, _≤_, _<_}
 use native.Mathlib.Nat.{lt-of-lt-of-le}
 use native.Mathlib.Omega.{arith}
 use lib.Dec.{lit<}
@@ -14,16 +14,15 @@ use Rattle.settings.specs.Valid.{Valid}
 use Rattle.wire.specs.declared.Call.{Call}
 use Rattle.wire.specs.declared.Call.the-variants.{Send, Receive, Compare, Collect, Tally, Hold, Settle, Core, Choose, Finish, Outside}
 use Rattle.wire.specs.Round.{callKind}
-use Rattle.phase_king.specs.Matrix.{firstMatrix, heldOf, weakOf, settledOf}
+use Rattle.phase_king.specs.Matrix.{firstMatrix, heldOf, weakOf}
 use Rattle.phase_king.proofs.Laws.{length-first, length-held, length-weak, length-settled, first-below, held-below, weak-below, settled-below}
-use Rattle.star.specs.Star.{starOf}
 use Rattle.star.proofs.Laws.{e-below}
 use Rattle.reconstruction.specs.declared.Outcome.{Outcome}
 use Rattle.reconstruction.specs.declared.Outcome.the-variants.{Open}
 use Rattle.reconstruction.specs.Reconstruction.{finished}
 use Rattle.protocol.specs.declared.State.{State}
 use Rattle.protocol.specs.declared.Started.{Started}
-use Rattle.protocol.specs.State.{settingsOf, zeroState, freshState, advanced, withMatrix, withVotes, withCore}
+use Rattle.protocol.specs.State.{zeroState, freshState, advanced, withMatrix, withVotes, withCore}
 use Rattle.protocol.specs.Calls.{Carried, inboxLen, readPhase, coreOf, settledMatrix, callOf}
 use Rattle.protocol.specs.Step.{startRefusal, startOf, stepRefusal, After, stepOf}
 use Rattle.protocol.proofs.Laws.{

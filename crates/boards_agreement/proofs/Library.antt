@@ -8,19 +8,19 @@ use native.Mathlib.Omega.{arith}
 use lib.ListN.{length}
 use Rattle.lists.proofs.Tests.{same-or-not}
 use Rattle.wire.specs.Round.{callKind}
-use Rattle.wire.specs.Length.{blockLength, blockSize}
+use Rattle.wire.specs.Length.{blockSize}
 use Rattle.wire.proofs.Laws.{block-size}
 use Rattle.protocol.specs.declared.State.{State}
-use Rattle.protocol.specs.Step.{After, stepRefusal, startOf}
+use Rattle.protocol.specs.Step.{After, stepRefusal}
 use Rattle.protocol.proofs.Laws.{start-0, start-state, refused, performed, ready-of, call-keeps, call-inside}
 use Rattle.agreement.specs.Run.{Lent, Held, stepped, left, ends, begun}
-use Rattle.agreement.specs.Agreement.{System, Correct, Supposed, atStart, atEnd, outcomeOf, blockOf}
+use Rattle.agreement.specs.Agreement.{System, Correct, Supposed, atStart, atEnd}
 use Rattle.agreement.proofs.Agreement.{agreement}
 use Rattle.state_bytes.specs.State.{stateLength, bytesOf, outcomeNumber, Words}
 use Rattle.state_bytes.proofs.Laws.{number-agreed}
-use Rattle.boards.specs.Boards.{Left, leftOf, written, Written, startBytes, outcomeIn, finalBytes}
+use Rattle.boards.specs.Boards.{Left, leftOf, written, Written, outcomeIn, finalBytes}
 use Rattle.boards.proofs.Laws.{start-bytes, step-bytes, outcome-bytes, final-bytes, final-same}
-use Rattle.boards_agreement.specs.Library.{Kept, makes, kept, keptAfter, keptFrom, LibraryRuns, keptAt, OneOutcome, LibraryAgrees}
+use Rattle.boards_agreement.specs.Library.{Kept, makes, kept, keptAfter, keptFrom, LibraryRuns, keptAt, LibraryAgrees}
 use Rattle.boards_agreement.proofs.Bounds.{start-words, step-words}
 
 -- what is held, with the state as bytes

@@ -1,23 +1,21 @@
 -- Laws for the crates above. The main ones: `read-written` (what was written is read back), `length-bytes` (the bytes of a state have the
 -- stated length) and `state-words` (every list of bytes is a state whose fields are within their bounds).
-use mathlib.Core.Path.{_≡_, refl, sym, ap, ap₂, subst, _∙_}
-use mathlib.Core.Bool.{true, false}
+use mathlib.Core.Path.{_≡_, refl, sym, ap, _∙_}
 use mathlib.Core.Logic.{⊎-elim}
 use mathlib.Core.List.{List, [], _∷_, _++_}
 use Prim.Native.Nat.{ℕ, zero, suc, _+_, _-_, _*_, _/_, _%_, _^_, _≤_, _<_}
 use native.Mathlib.Nat.{le-of-eq, zero-lt-suc, pow-le-pow-right, lt-of-lt-of-le}
 use native.Mathlib.Omega.{arith}
 use borrow.Author.Tests.{eq-eqb}
-use lib.Dec.{eqb, lit<}
+use lib.Dec.{eqb}
 use lib.ListN.{length, getD, take, drop, length-append, length-drop, length-take, List·getD-eq-default}
-use lib.Seq.{length-take-le, take-at, drop-at, drop-drop, take-append-le, drop-append-le, take-all}
+use lib.Seq.{take-at, drop-at, drop-drop, take-append-le, drop-append-le, take-all}
 use Rattle.lists.specs.Fill.{tabulate}
 use Rattle.lists.specs.Join.{joined, part}
 use Rattle.lists.proofs.Fills.{length-tabulate, getD-tabulate, tabulate-ext, tabulate-getD}
 use Rattle.lists.proofs.Joins.{part-joined, part-take}
 use Rattle.lists.proofs.Parts.{all-take, all-drop}
-use Rattle.lists.proofs.Tests.{either, cond-yes, cond-no, lt-or-le}
-use Rattle.bitset.specs.Set.{restricted}
+use Rattle.lists.proofs.Tests.{cond-yes, lt-or-le}
 use Rattle.bitset.specs.Row.{rowOf, rowsOf}
 use Rattle.bitset.proofs.Laws.{restrict-below}
 use Rattle.bitset.proofs.Rows.{length-rows, row-lt, row-read, row-pair}

@@ -7,7 +7,6 @@ ghost use lib.ListN.{length, getD};
 ghost use Rattle.lists.specs.Fill.{tabulate};
 ghost use Rattle.lists.specs.Join.{joined, part};
 ghost use Rattle.bitset.specs.Row.{rowOf};
-ghost use Rattle.protocol.specs.State.{zeroState};
 ghost use Rattle.state_bytes.specs.State.{littleEndian, numberOf, outcomeNumber, outcomeOf, stateLength, bytesOf, fieldsOf, stateOf};
 use protocol::State;
 use reconstruction::Outcome;

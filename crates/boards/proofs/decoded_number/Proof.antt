@@ -3,7 +3,6 @@ use Rattle.boards.specs.Boards.{decodeNumber}
 use Rattle.reed_solomon.specs.Decode.{answerOf}
 use Rattle.reed_solomon.specs.declared.Decoded.{Decoded}
 use mathlib.Core.Path.{sym, ap}
-use denote.Ref.{now}
 use borrow.Author.Needs.{needs}
 use Rattle.boards.proofs.decoded_number.Statement.{statement}
 use Rattle.boards.proofs.decoded_number.Tie as tie

@@ -1,7 +1,6 @@
 -- `boards::potekawhi_message` meets its contract.
 use mathlib.Core.Path.{ap}
 use lib.ListN.{length}
-use denote.Ref.{now}
 use borrow.Author.Needs.{needs}
 use Rattle.boards.proofs.potekawhi_message.Statement.{statement}
 use Rattle.boards.proofs.potekawhi_message.Tie as tie

@@ -1,7 +1,6 @@
 -- `boards::potekawhi_next_call` meets its contract.
 use Rattle.protocol.specs.declared.State.{State}
 use mathlib.Core.Path.{ap}
-use denote.Ref.{now}
 use borrow.Author.Needs.{needs}
 use Rattle.boards.proofs.potekawhi_next_call.Statement.{statement}
 use Rattle.boards.proofs.potekawhi_next_call.Tie as tie

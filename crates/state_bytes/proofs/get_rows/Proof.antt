@@ -1,11 +1,10 @@
 -- `state_bytes::get_rows` meets its contract: the loop reads row after row.
-use Rattle.lists.specs.Fill.{tabulate, filled}
-use Rattle.lists.proofs.Fills.{filled-none, filled-all, fill-more, length-filled}
+use Rattle.lists.specs.Fill.{filled}
+use Rattle.lists.proofs.Fills.{filled-none, filled-all, fill-more}
 use Rattle.bitset.specs.Row.{rowOf}
-use lib.ListN.{length, replicate, length-replicate}
+use lib.ListN.{replicate}
 use denote.Ref.{now}
 use native.Mathlib.Omega.{arith}
-use mathlib.Core.List.{List}
 use mathlib.Core.Path.{_≡_, refl, sym, ap, _∙_}
 use Prim.Native.Nat.{ℕ, _-_, _≤_}
 use borrow.Author.Needs.{needs}

@@ -1,5 +1,4 @@
 -- `state_bytes::number_at` meets its contract.
-use Rattle.lists.specs.Join.{part}
 use Rattle.lists.proofs.Joins.{part-take}
 use Rattle.state_bytes.specs.State.{numberOf}
 use lib.ListN.{take, drop}
