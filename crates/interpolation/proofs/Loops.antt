@@ -1,13 +1,13 @@
--- Loops that fill a list from the front, in the place of what they read, and loops that use up a list. The main laws: `fill-end`, the list
--- after the last turn, and `unread`, what a turn still finds.
-use mathlib.Core.Path.{_≡_, refl, sym, ap, _∙_}
+-- Loops that fill a list from the front, in the place of what they read, and loops that use up a list. The main law: `unread`, what a
+-- turn still finds.
+use mathlib.Core.Path.{_≡_, sym, ap, _∙_}
 use mathlib.Core.List.{List, [], _∷_, _++_, append-assoc, append-nil}
 use Prim.Native.Nat.{ℕ, _+_, _≤_, _<_}
 use native.Mathlib.Numerals.{add-one}
 use lib.ListN.{length, take, drop, getD, set}
 use lib.Seq.{take-suc-set, drop-cons, take-all}
-use Rattle.lists.specs.Fill.{tabulate, filled}
-use Rattle.lists.proofs.Fills.{length-filled, getD-filled-past, filled-over, filled-all}
+use Rattle.lists.specs.Fill.{filled}
+use Rattle.lists.proofs.Fills.{length-filled, getD-filled-past}
 
 module _ (f : ℕ → ℕ) (n : ℕ) (d xs : List ℕ) (e : xs ≡ filled f n d) where
   pub filled-length : length xs ≡ length d
@@ -16,9 +16,6 @@ module _ (f : ℕ → ℕ) (n : ℕ) (d xs : List ℕ) (e : xs ≡ filled f n d)
   -- the places from n on are as they were
   pub unread : (j : ℕ) → n ≤ j → getD xs j 0 ≡ getD d j 0
   unread j h = ap (λ l. getD l j 0) e ∙ getD-filled-past f n d j 0 h
-
-  pub fill-end : length d ≤ n → xs ≡ tabulate f (length d)
-  fill-end h = e ∙ filled-over f n d h ∙ filled-all f (length d) d refl
 
 -- a place more of a list that is used up from the front
 pub left-cons : (p : List ℕ) (i : ℕ) → i < length p → drop i p ≡ getD p i 0 ∷ drop (i + 1) p

@@ -1,6 +1,6 @@
 -- Laws of `tabulate` and `filled`. The main ones: `fill-more`, a turn of a loop that fills a list from the front, and `tabulate-front`, the first
 -- element and the others.
-use mathlib.Core.Path.{_≡_, refl, ap, ap₂}
+use mathlib.Core.Path.{_≡_, refl, ap, ap₂, _∙_}
 use mathlib.Core.List.{List, [], _∷_, _++_}
 use Prim.Native.Nat.{ℕ, zero, suc, _+_, _≤_, _<_}
 use native.Mathlib.Nat.{le-of-suc-le-suc}
@@ -117,3 +117,7 @@ module _ {A : Type 0} where
   filled-over f zero (x ∷ d) h = absurd (omega arith)
   filled-over f (suc n) [] h = refl
   filled-over f (suc n) (x ∷ d) h = ap (λ r. f 0 ∷ r) (filled-over (λ i. f (suc i)) n d (le-of-suc-le-suc h))
+
+  -- the list after the last turn of a loop that fills
+  pub fill-end : (f : ℕ → A) (n : ℕ) (d xs : List A) → xs ≡ filled f n d → length d ≤ n → xs ≡ tabulate f (length d)
+  fill-end f n d xs e h = e ∙ filled-over f n d h ∙ filled-all f (length d) d refl

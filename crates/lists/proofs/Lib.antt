@@ -6,3 +6,4 @@ pub mod Fills
 pub mod Table
 pub mod Sames
 pub mod Joins
+pub mod Zeros

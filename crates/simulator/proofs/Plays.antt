@@ -1,9 +1,9 @@
 -- All calls. The main law: `held-next`, what each controller holds after one call more.
-use mathlib.Core.Path.{_≡_, refl, sym, ap, subst, _∙_}
+use mathlib.Core.Path.{_≡_, sym, ap, subst, _∙_}
 use mathlib.Core.Bool.{true, false}
 use mathlib.Core.List.{List, [], _++_}
 use mathlib.Core.Logic.{⊎-elim}
-use Prim.Native.Nat.{ℕ, zero, suc, _+_, _-_, _*_, _≤_, _<_}
+use Prim.Native.Nat.{ℕ, suc, _+_, _-_, _*_, _≤_, _<_}
 use native.Mathlib.Nat.{mul-le-mul}
 use native.Mathlib.Numerals.{add-one}
 use native.Mathlib.Omega.{arith}
@@ -22,9 +22,9 @@ use Rattle.protocol.specs.declared.State.{State}
 use Rattle.protocol.specs.State.{zeroState}
 use Rattle.protocol.specs.Step.{startOf}
 use Rattle.system_file.specs.Table.{textOf, placeIn}
-use Rattle.simulation.specs.Run.{Scenario, Playing, called, played}
+use Rattle.simulation.specs.Run.{Scenario, Playing, played}
 use Rattle.simulation.proofs.Laws.{called-ext, called-other, played-correct, played-faulty}
-use Rattle.simulator.specs.Steps.{Small, Rooms, Calling, Called, Held, Playable, tableScenario, nowOf}
+use Rattle.simulator.specs.Steps.{Small, Rooms, Calling, Called, Held, tableScenario, nowOf}
 use Rattle.simulator.proofs.Running.{lent-length, inbox-most, outbox-most}
 
 -- a run finds what each call finds

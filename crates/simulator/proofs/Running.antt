@@ -8,28 +8,28 @@ use native.Mathlib.Omega.{arith}
 use borrow.Author.Tests.{eq-eqb, ne-eqb}
 use native.Mathlib.Nat.{suc-mul, zero-mul, mul-le-mul}
 use lib.Dec.{eqb}
-use lib.ListN.{length, take, drop, replicate, length-drop, length-replicate, drop-of-length-le, replicate-append-replicate}
-use lib.Seq.{length-take-le, take-all, take-at, drop-at}
+use lib.ListN.{length, take, drop, replicate, length-drop, drop-of-length-le}
+use lib.Seq.{length-take-le, take-all}
 use Rattle.lists.specs.Join.{joined, part}
 use Rattle.lists.proofs.Tests.{cond-yes, cond-no, either, same-or-not}
 use Rattle.lists.proofs.Parts.{slot-within}
+use Rattle.lists.proofs.Zeros.{length-zeros, drop-zeros, zeros-split}
 use Rattle.lists.proofs.Joins.{part-take, joined-none, joined-more, length-joined, length-part}
 use Rattle.bitset.specs.Set.{member}
 use Rattle.text.specs.Read.{bytesOf}
 use Rattle.text.proofs.Laws.{length-bytesOf}
-use Rattle.settings.specs.Valid.{Coded, Quorum}
 use Rattle.wire.specs.declared.Round.{Round}
 use Rattle.wire.specs.declared.Round.the-variants.{Block, Pieces, Marks, Matrix, Seen, King, Forward, Rebuild, Outside}
 use Rattle.wire.specs.Round.{roundKind}
 use Rattle.wire.specs.Length.{blockLength, rowLength, messageLength, inboxLength, outboxLength}
-use Rattle.wire.specs.Slot.{width, slotOf, Sent, silence, bytes, written, putSlot, relayed}
-use Rattle.wire.proofs.Laws.{width-most, length-of, block-length, length-block, length-pieces, length-marks, length-matrix, length-seen, length-king, length-forward, length-rebuild, length-outside, length-pos, outbox-of, inbox-of, first-inbox, last-outbox, Sized, sized-silence, sized-bytes, slot-length, silent-slot, put-into, relay-into}
+use Rattle.wire.specs.Slot.{width, slotOf, bytes, written, putSlot, relayed}
+use Rattle.wire.proofs.Laws.{width-most, length-of, block-length, length-block, length-pieces, length-marks, length-matrix, length-seen, length-king, length-forward, length-rebuild, length-outside, length-pos, outbox-of, inbox-of, first-inbox, last-outbox, sized-bytes, slot-length, silent-slot, put-into, relay-into}
 use Rattle.protocol.specs.declared.State.{State}
 use Rattle.system_file.specs.Table.{textOf, placeIn}
 use Rattle.system_file.proofs.Laws.{text-none, text-some}
 use Rattle.simulation.specs.Run.{Scenario, Playing, spoken, slotTo, inboxOf}
 use Rattle.simulation.proofs.Laws.{slot-faulty, slot-correct, inbox-first, inbox-later}
-use Rattle.simulator.specs.Steps.{Small, Rooms, Filling, Making, Parted, tableScenario, sentBy}
+use Rattle.simulator.specs.Steps.{Small, Filling, Making, Parted, tableScenario, sentBy}
 
 -- the digits of a message that stands in the file, read into m
 pub read-text : (input m : List ℕ) (len place : ℕ) → (place ≡ 0 → ⊥) → length m ≡ len → place + 2 * len ≤ length input
@@ -63,14 +63,8 @@ spoken-some (x ∷ m) l = refl
 abbrev zeros : ℕ → List ℕ
 zeros m = replicate m 0
 
-zeros-split : (w m : ℕ) → zeros (w + m) ≡ zeros w ++ zeros m
-zeros-split w m = sym (replicate-append-replicate w m 0)
-
-length-zeros : (m : ℕ) → length (zeros m) ≡ m
-length-zeros m = length-replicate {A = ℕ} m 0
-
-drop-zeros : (w m : ℕ) → drop w (zeros (w + m)) ≡ zeros m
-drop-zeros w m = ap (drop w) (zeros-split w m) ∙ drop-at (zeros w) (zeros m) w (length-zeros w)
+rest-zeros : (w m : ℕ) → drop w (zeros (w + m)) ≡ zeros m
+rest-zeros w m = let e : w + m - w ≡ m = omega arith in drop-zeros w (w + m) ∙ ap zeros e
 
 -- slot x of the inbox, counted from 0, and the inbox after j slots
 abbrev pub slotAt : (input places : List ℕ) (faulty n t k c i o : ℕ) (sent : List ℕ) → ℕ → List ℕ
@@ -153,7 +147,7 @@ module _ (input places : List ℕ) (faulty n t k c i o : ℕ) (sent m₀ inbox�
         → joined slot j ++ (v ++ drop (width (messageLength n t k c)) (zeros ((n - j) * width (messageLength n t k c)))) ≡ filled (j + 1)
     goes-on v e =
         ap₂ (λ (x y : List ℕ). joined slot j ++ (x ++ y)) (sym e)
-        (ap (λ (y : ℕ). drop (width (messageLength n t k c)) (zeros y)) rest-is ∙ drop-zeros (width (messageLength n t k c)) ((n - (j + 1)) * width (messageLength n t k c)))
+        (ap (λ (y : ℕ). drop (width (messageLength n t k c)) (zeros y)) rest-is ∙ rest-zeros (width (messageLength n t k c)) ((n - (j + 1)) * width (messageLength n t k c)))
         ∙ sym (append-assoc (joined slot j) (slot j) (zeros ((n - (j + 1)) * width (messageLength n t k c))))
         ∙ ap (λ (x : List ℕ). x ++ zeros ((n - (j + 1)) * width (messageLength n t k c))) (sym (joined-more slot j))
 
@@ -175,7 +169,7 @@ module _ (input places : List ℕ) (faulty n t k c i o : ℕ) (sent m₀ inbox�
         ∙ ap (λ (x : List ℕ). joined slot j ++ x)
         (ap (λ (y : ℕ). zeros y) rest-is ∙ zeros-split (width (messageLength n t k c)) ((n - (j + 1)) * width (messageLength n t k c))
         ∙ ap (λ (x : List ℕ). zeros (width (messageLength n t k c)) ++ x)
-        (sym (ap (λ (y : ℕ). drop (width (messageLength n t k c)) (zeros y)) rest-is ∙ drop-zeros (width (messageLength n t k c)) ((n - (j + 1)) * width (messageLength n t k c)))))
+        (sym (ap (λ (y : ℕ). drop (width (messageLength n t k c)) (zeros y)) rest-is ∙ rest-zeros (width (messageLength n t k c)) ((n - (j + 1)) * width (messageLength n t k c)))))
         ∙ goes-on (zeros (width (messageLength n t k c))) (at-silent j f z))
         (λ (z : placeIn places c (j + 1) i ≡ 0 → ⊥).
         e ∙ cond-yes (member faulty j) _ _ f ∙ cond-no (eqb (placeIn places c (j + 1) i) 0) _ _ (ne-eqb (placeIn places c (j + 1) i) 0 z)
@@ -288,12 +282,6 @@ making-filling input places n t k c i sent m inbox h some =
       message-is = h .message-is;
       cleared = h .cleared ∙ ap zeros (sym size);
     }
-
--- the front of a cleared buffer, and what comes back in it
-pub front-zeros : (size m : ℕ) → size ≤ m → take size (zeros m) ≡ zeros size
-front-zeros size m l =
-    let e : m ≡ size + (m - size) = omega arith in
-    ap (λ (x : ℕ). take size (zeros x)) e ∙ ap (take size) (zeros-split size (m - size)) ∙ take-at (zeros size) (zeros (m - size)) size (length-zeros size)
 
 -- ---- one call
 pub part-room : (n w w′ i m : ℕ) → w ≡ w′ → n * w′ ≤ m → i < n → i * w + w ≤ m

@@ -1,7 +1,7 @@
 -- The place of a message in the table: `place-inside` says what `placeIn` is within the ranges of rounds and numbers, `place-ranges` that it is 0
 -- outside.
 use mathlib.Core.Path.{_≡_}
-use mathlib.Core.Bool.{Bool, true, false, cond, _&&_}
+use mathlib.Core.Bool.{Bool, true, false, _&&_}
 use mathlib.Core.List.{List}
 use mathlib.Core.Logic.{⊎-elim}
 use Prim.Native.Nat.{ℕ, _≤_, _<_}

@@ -3,14 +3,15 @@
 use mathlib.Core.Path.{_≡_, sym, ap, ap₂, _∙_}
 use mathlib.Core.List.{List, [], _++_, append-assoc}
 use mathlib.Core.Logic.{⊎-elim}
-use Prim.Native.Nat.{ℕ, zero, suc, _+_, _-_, _*_, _/_, _%_, _≤_, _<_}
-use native.Mathlib.Nat.{sub-zero, zero-sub}
+use Prim.Native.Nat.{ℕ, suc, _+_, _-_, _*_, _/_, _%_, _≤_, _<_}
+use native.Mathlib.Nat.{sub-zero}
 use native.Mathlib.Numerals.{add-one}
 use native.Mathlib.Omega.{arith}
 use borrow.Author.Tests.{le-leb, lt-leb}
-use lib.ListN.{length, getD, set, take, drop, replicate, length-append, length-drop, length-replicate}
+use lib.ListN.{length, getD, set, take, drop, replicate, length-append, length-drop}
 use lib.Seq.{take-length, take-append-seam, drop-append-add, length-take-le, paste, paste-suc}
 use Rattle.lists.proofs.Tests.{lt-or-le, cond-yes, cond-no}
+use Rattle.lists.proofs.Zeros.{length-zeros, drop-zeros}
 use Rattle.text.specs.Write.{hexByte, hexadecimal, fits, appended, endOf, padded}
 use Rattle.text.specs.Steps.{placed}
 use Rattle.text.proofs.Digits.{length-hexadecimal, getD-high, getD-low}
@@ -92,28 +93,16 @@ module _ (p s r : List ℕ) (h : length s ≤ length r) where
   end-behind = end-room (length p) s (p ++ r) behind-room
 
 -- ---- text with zeros after it
-zeros : ℕ → List ℕ
+abbrev zeros : ℕ → List ℕ
 zeros n = replicate n 0
-
-length-zeros : (n : ℕ) → length (zeros n) ≡ n
-unfolding zeros
-length-zeros n = length-replicate {A = ℕ} n 0
-
-drop-zeros : (k n : ℕ) → drop k (zeros n) ≡ zeros (n - k)
-unfolding zeros
-drop-zeros zero n = ap zeros (sym (sub-zero n))
-drop-zeros (suc k) zero = ap zeros (sym (zero-sub (suc k)))
-drop-zeros (suc k) (suc n) =
-    let e : n - k ≡ suc n - suc k = omega arith in
-    drop-zeros k n ∙ ap zeros e
 
 -- nothing is written yet
 pub padded-none : (m : ℕ) → padded m [] ≡ replicate m 0
-unfolding padded zeros
+unfolding padded
 padded-none m = ap zeros (sub-zero m)
 
 pub length-padded : (m : ℕ) (x : List ℕ) → length x ≤ m → length (padded m x) ≡ m
-unfolding padded zeros
+unfolding padded
 length-padded m x h = length-append x (zeros (m - length x)) ∙ omega (arith, length-zeros (m - length x))
 
 -- s behind x
@@ -122,12 +111,12 @@ module _ (m : ℕ) (x s : List ℕ) (h : length x + length s ≤ m) where
   zeros-left = omega (arith, length-zeros (m - length x))
 
   pub append-padded : appended (length x) s (padded m x) ≡ padded m (x ++ s)
-  unfolding padded zeros
+  unfolding padded
   append-padded =
       let e : m - length x - length s ≡ m - length (x ++ s) = omega (arith, length-append x s) in
       append-behind x s (zeros (m - length x)) zeros-left
       ∙ ap (λ (r : List ℕ). (x ++ s) ++ r) (drop-zeros (length s) (m - length x) ∙ ap zeros e)
 
   pub end-padded : endOf (length x) s (padded m x) ≡ length (x ++ s)
-  unfolding padded zeros
+  unfolding padded
   end-padded = end-behind x s (zeros (m - length x)) zeros-left ∙ sym (length-append x s)

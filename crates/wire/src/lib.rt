@@ -1,8 +1,8 @@
 // Rounds and calls, message lengths, and the slots of inboxes and outboxes (document 01, 'The house' and 'Rounds').
 // Every function is total: no number or length makes a sum or a product overflow.
 ghost use mathlib.Core.Path.{_≡_};
-ghost use mathlib.Core.Bool.{cond, _&&_};
-ghost use Prim.Native.Nat.{_+_, _-_, _*_, _≤_, _<_};
+ghost use mathlib.Core.Bool.{cond};
+ghost use Prim.Native.Nat.{_+_, _-_, _*_, _<_};
 ghost use lib.Dec.{eqb};
 ghost use lib.ListN.{length, replicate};
 ghost use Rattle.lists.specs.Same.{same};

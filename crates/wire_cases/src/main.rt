@@ -3,7 +3,7 @@
 use libc::STDOUT_FILENO;
 use wire::Call;
 use wire::Round;
-ghost use Prim.Native.Nat.{_≤_, _<_};
+ghost use Prim.Native.Nat.{_<_};
 
 // A space and a number.
 fn number(x: usize) {

@@ -1,5 +1,5 @@
 -- `recover` meets its contract.
-use Rattle.interpolation.proofs.Zeros.{take-zeros, length-zeros}
+use Rattle.lists.proofs.Zeros.{take-zeros, length-front}
 use lib.ListN.{length}
 use native.Mathlib.Omega.{arith}
 use Prim.Native.Nat.{_+_}
@@ -18,25 +18,25 @@ array-borrow-prefix-qa : tie.Need-array-borrow-prefix-qa
 array-borrow-prefix-qa c = search needs
 
 slice-aggregate-solve : tie.Need-slice-aggregate-solve
-slice-aggregate-solve c = sym (length-zeros 22 (length (c .before .before .before .before .args .xs .now) + c .before .before .before .before .args .t + 1) (c .before .before .before .before .pre .1))
+slice-aggregate-solve c = sym (length-front 22 (length (c .before .before .before .before .args .xs .now) + c .before .before .before .before .args .t + 1) (c .before .before .before .before .pre .1))
 
 array-borrow-prefix-ea : tie.Need-array-borrow-prefix-ea
 array-borrow-prefix-ea c = search needs
 
 slice-aggregate-solve-2 : tie.Need-slice-aggregate-solve-2
-slice-aggregate-solve-2 c = sym (length-zeros 22 (length (c .before .before .before .before .before .args .xs .now) + c .before .before .before .before .before .args .t + 1) (c .before .before .before .before .before .pre .1))
+slice-aggregate-solve-2 c = sym (length-front 22 (length (c .before .before .before .before .before .args .xs .now) + c .before .before .before .before .before .args .t + 1) (c .before .before .before .before .before .pre .1))
 
 array-borrow-prefix-qb : tie.Need-array-borrow-prefix-qb
 array-borrow-prefix-qb c = search needs
 
 slice-aggregate-solve-3 : tie.Need-slice-aggregate-solve-3
-slice-aggregate-solve-3 c = sym (length-zeros 22 (length (c .before .before .before .before .before .before .args .xs .now) + c .before .before .before .before .before .before .args .t + 1) (c .before .before .before .before .before .before .pre .1))
+slice-aggregate-solve-3 c = sym (length-front 22 (length (c .before .before .before .before .before .before .args .xs .now) + c .before .before .before .before .before .before .args .t + 1) (c .before .before .before .before .before .before .pre .1))
 
 array-borrow-prefix-eb : tie.Need-array-borrow-prefix-eb
 array-borrow-prefix-eb c = search needs
 
 slice-aggregate-solve-4 : tie.Need-slice-aggregate-solve-4
-slice-aggregate-solve-4 c = sym (length-zeros 22 (length (c .before .before .before .before .before .before .before .args .xs .now) + c .before .before .before .before .before .before .before .args .t + 1) (c .before .before .before .before .before .before .before .pre .1))
+slice-aggregate-solve-4 c = sym (length-front 22 (length (c .before .before .before .before .before .before .before .args .xs .now) + c .before .before .before .before .before .before .before .args .t + 1) (c .before .before .before .before .before .before .before .pre .1))
 
 solve-requires : tie.Need-solve-requires
 solve-requires c κs =

@@ -1,8 +1,8 @@
 -- `reduce` meets its contract. The invariant: the first i places are done.
-use Rattle.interpolation.proofs.Loops.{unread, fill-end}
+use Rattle.interpolation.proofs.Loops.{unread}
 use Rattle.interpolation.proofs.Laws.{reduced-filled}
 use Rattle.polynomial.proofs.Laws.{past-end}
-use Rattle.lists.proofs.Fills.{filled-none, fill-more}
+use Rattle.lists.proofs.Fills.{filled-none, fill-more, fill-end}
 use Rattle.lists.specs.Fill.{filled}
 use Rattle.gf256.proofs.Laws.{gadd-self, gmul-zero-r}
 use Rattle.gf256.specs.Field.{gadd, gmul}

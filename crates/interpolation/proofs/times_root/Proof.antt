@@ -1,7 +1,7 @@
 -- `times_root` meets its contract. The invariant: the first i places are done, and `before` is the coefficient before place i.
-use Rattle.interpolation.proofs.Loops.{unread, fill-end}
+use Rattle.interpolation.proofs.Loops.{unread}
 use Rattle.polynomial.proofs.Laws.{root-filled}
-use Rattle.lists.proofs.Fills.{filled-none, fill-more}
+use Rattle.lists.proofs.Fills.{filled-none, fill-more, fill-end}
 use Rattle.lists.specs.Fill.{filled}
 use Rattle.gf256.specs.Field.{gadd, gmul}
 use lib.ListN.{length, getD, length-set}

@@ -1,5 +1,5 @@
 -- `decode_stripe` meets its contract.
-use Rattle.interpolation.proofs.Zeros.{length-zeros}
+use Rattle.lists.proofs.Zeros.{length-front}
 use lib.ListN.{length}
 use mathlib.Core.Path.{sym}
 use borrow.Author.Needs.{needs}
@@ -10,10 +10,10 @@ array-borrow-prefix-ys : tie.Need-array-borrow-prefix-ys
 array-borrow-prefix-ys c = search needs
 
 slice-aggregate-decode-column : tie.Need-slice-aggregate-decode-column
-slice-aggregate-decode-column c = sym (length-zeros 16 (length (c .before .before .before .before .args .xs .now)) (c .before .before .before .before .pre .0))
+slice-aggregate-decode-column c = sym (length-front 16 (length (c .before .before .before .before .args .xs .now)) (c .before .before .before .before .pre .0))
 
 decode-column-requires : tie.Need-decode-column-requires
-decode-column-requires c κs = (length-zeros 16 (length (c .before .before .before .before .before .args .xs .now)) (c .before .before .before .before .before .pre .0), c .before .before .before .before .before .pre .0, c .before .before .before .before .before .pre .1, c .before .before .before .before .before .pre .2)
+decode-column-requires c κs = (length-front 16 (length (c .before .before .before .before .before .args .xs .now)) (c .before .before .before .before .before .pre .0), c .before .before .before .before .before .pre .0, c .before .before .before .before .before .pre .1, c .before .before .before .before .before .pre .2)
 
 same-length : tie.Need-same-length
 same-length c = search needs

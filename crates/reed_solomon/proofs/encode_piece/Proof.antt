@@ -1,9 +1,8 @@
 -- `encode_piece` meets its contract. The invariant: the values of the first s stripes are written.
-use Rattle.interpolation.proofs.Loops.{fill-end}
 use Rattle.reed_solomon.specs.Encode.{stripe, pieceOf}
 use Rattle.polynomial.specs.Polynomial.{evaluate}
 use Rattle.lists.proofs.Parts.{slot-within}
-use Rattle.lists.proofs.Fills.{filled-none, fill-more}
+use Rattle.lists.proofs.Fills.{filled-none, fill-more, fill-end}
 use Rattle.lists.specs.Fill.{filled}
 use lib.ListN.{length, take, drop, length-set}
 use native.Mathlib.Omega.{arith}

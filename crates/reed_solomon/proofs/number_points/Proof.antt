@@ -1,7 +1,6 @@
 -- `number_points` meets its contract. The invariant: the first i points are written.
-use Rattle.interpolation.proofs.Loops.{fill-end}
 use Rattle.reed_solomon.specs.Decode.{points}
-use Rattle.lists.proofs.Fills.{filled-none, fill-more}
+use Rattle.lists.proofs.Fills.{filled-none, fill-more, fill-end}
 use Rattle.lists.specs.Fill.{filled}
 use lib.ListN.{length, length-set}
 use native.Mathlib.Omega.{arith}

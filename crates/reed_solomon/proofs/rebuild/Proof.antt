@@ -3,7 +3,7 @@ use Rattle.wire.specs.Length.{blockLength}
 use lib.Seq.{take-length, drop-length}
 use mathlib.Core.List.{_++_, append-nil}
 use Rattle.reed_solomon.proofs.Rule.{rebuilt-yes, rebuilt-no}
-use Rattle.interpolation.proofs.Zeros.{length-zeros}
+use Rattle.lists.proofs.Zeros.{length-front}
 use Rattle.reed_solomon.specs.Steps.{Rebuilt}
 use Rattle.reed_solomon.specs.Decode.{answer, beyond}
 use Rattle.wire.proofs.Laws.{block-length}
@@ -23,13 +23,13 @@ array-borrow-prefix-xs : tie.Need-array-borrow-prefix-xs
 array-borrow-prefix-xs c = omega (arith, c .before .before .pre .0 .quorum .n-most)
 
 slice-aggregate-decode-points : tie.Need-slice-aggregate-decode-points
-slice-aggregate-decode-points c = sym (length-zeros 16 (c .before .before .before .args .n) (c .before .before .before .pre .0 .quorum .n-most))
+slice-aggregate-decode-points c = sym (length-front 16 (c .before .before .before .args .n) (c .before .before .before .pre .0 .quorum .n-most))
 
 decode-points-requires : tie.Need-decode-points-requires
 decode-points-requires c κs =
     let a = c .before .before .before .before .args in
     let v = c .before .before .before .before .pre .0 in (
-      subst (λ n. n ≤ 16) (sym (length-zeros 16 (a .n) (v .quorum .n-most))) (v .quorum .n-most),
+      subst (λ n. n ≤ 16) (sym (length-front 16 (a .n) (v .quorum .n-most))) (v .quorum .n-most),
       omega (arith, v .quorum .n-most, v .quorum .t-most),
       v .k-most,
       c .before .before .before .before .pre .1 ∙ block-length (a .k) (a .t),
@@ -45,7 +45,7 @@ returns c =
     sym
     (rebuilt-yes (a .n) (a .t) (a .k) (a .slots .now) (d .last .1 .1 .1 .1 .0)
     (subst (λ r. Rebuilt (a .n) (a .t) (a .k) (a .slots .now) r (d .last .1 .1 .1 .1 .0)) (c .if1 .taken)
-    (subst (λ n. Rebuilt n (a .t) (a .k) (a .slots .now) (d .result) (d .last .1 .1 .1 .1 .0)) (length-zeros 16 (a .n) (c .before .before .before .before .before .before .before .before .before .pre .0 .quorum .n-most)) (d .ensures))))
+    (subst (λ n. Rebuilt n (a .t) (a .k) (a .slots .now) (d .result) (d .last .1 .1 .1 .1 .0)) (length-front 16 (a .n) (c .before .before .before .before .before .before .before .before .before .pre .0 .quorum .n-most)) (d .ensures))))
 
 slice-relend-prefix-silence : tie.Need-slice-relend-prefix-silence
 slice-relend-prefix-silence c = search needs
@@ -70,7 +70,7 @@ returns-2 c =
     ∙ sym
     (rebuilt-no (a .n) (a .t) (a .k) (a .slots .now) b
     (subst (λ r. Rebuilt (a .n) (a .t) (a .k) (a .slots .now) r b) (c .before .before .before .before .if1 .left)
-    (subst (λ n. Rebuilt n (a .t) (a .k) (a .slots .now) (d .result) b) (length-zeros 16 (a .n) (c .before .before .before .before .before .before .before .before .before .before .before .before .before .pre .0 .quorum .n-most)) (d .ensures))))
+    (subst (λ n. Rebuilt n (a .t) (a .k) (a .slots .now) (d .result) b) (length-front 16 (a .n) (c .before .before .before .before .before .before .before .before .before .before .before .before .before .pre .0 .quorum .n-most)) (d .ensures))))
 
 pub rebuild-spec : {M : Type 1} → statement M
 rebuild-spec =

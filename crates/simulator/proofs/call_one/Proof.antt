@@ -1,6 +1,7 @@
 -- `call_one` meets its contract: the fronts of two cleared arrays are lent.
-use Rattle.simulator.proofs.Running.{message-most, inbox-most, front-zeros}
-use lib.ListN.{length, replicate, length-replicate}
+use Rattle.simulator.proofs.Running.{message-most, inbox-most}
+use Rattle.lists.proofs.Zeros.{take-zeros, length-front}
+use lib.ListN.{replicate}
 use native.Mathlib.Omega.{arith}
 use mathlib.Core.Path.{sym, ap, _∙_}
 use Prim.Native.Nat.{ℕ}
@@ -28,7 +29,7 @@ slice-aggregate-call-with c =
     let S = c .before .before .before .before .before .before .before .before .before .before in
     let a = S .args in
     let n = c .before .before .before .before .message-length .result in
-    sym (ap length (front-zeros n 192 (omega (arith, c .before .before .before .before .message-length .ensures, message-most (S .pre .0 .small) (a .c)))) ∙ length-replicate n 0)
+    sym (length-front 192 n (omega (arith, c .before .before .before .before .message-length .ensures, message-most (S .pre .0 .small) (a .c))))
 
 array-borrow-prefix-inbox : tie.Need-array-borrow-prefix-inbox
 array-borrow-prefix-inbox c =
@@ -41,7 +42,7 @@ slice-aggregate-call-with-2 c =
     let S = c .before .before .before .before .before .before .before .before .before .before .before in
     let a = S .args in
     let n = c .before .before .before .before .inbox-length .result in
-    sym (ap length (front-zeros n 3088 (omega (arith, c .before .before .before .before .inbox-length .ensures, inbox-most (S .pre .0 .small) (a .c) (S .pre .0 .calls-most)))) ∙ length-replicate n 0)
+    sym (length-front 3088 n (omega (arith, c .before .before .before .before .inbox-length .ensures, inbox-most (S .pre .0 .small) (a .c) (S .pre .0 .calls-most))))
 
 call-with-requires : tie.Need-call-with-requires
 call-with-requires c κs =
@@ -51,8 +52,8 @@ call-with-requires c κs =
     let size = c .before .before .before .before .inbox-length .result in (
       S .pre .0,
       S .pre .1,
-      ap length (front-zeros len 192 (omega (arith, c .before .before .before .before .before .message-length .ensures, message-most (S .pre .0 .small) (a .c)))) ∙ length-replicate len 0 ∙ c .before .before .before .before .before .message-length .ensures,
-      front-zeros size 3088 (omega (arith, c .before .before .before .before .inbox-length .ensures, inbox-most (S .pre .0 .small) (a .c) (S .pre .0 .calls-most))) ∙ ap (λ (x : ℕ). replicate x 0) (c .before .before .before .before .inbox-length .ensures),
+      length-front 192 len (omega (arith, c .before .before .before .before .before .message-length .ensures, message-most (S .pre .0 .small) (a .c))) ∙ c .before .before .before .before .before .message-length .ensures,
+      take-zeros 3088 size (omega (arith, c .before .before .before .before .inbox-length .ensures, inbox-most (S .pre .0 .small) (a .c) (S .pre .0 .calls-most))) ∙ ap (λ (x : ℕ). replicate x 0) (c .before .before .before .before .inbox-length .ensures),
     )
 
 same-length : tie.Need-same-length

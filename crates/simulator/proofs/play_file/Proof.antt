@@ -1,5 +1,5 @@
 -- `play_file` meets its contract: the arrays are lent to the run.
-use Rattle.simulator.proofs.Whole.{FileRun, file-run}
+use Rattle.simulator.proofs.Whole.{file-run}
 use Rattle.text.specs.Write.{padded}
 use lib.ListN.{length}
 use mathlib.Core.Path.{sym, ap, _∙_}

@@ -1,5 +1,4 @@
 -- `wire::message` meets its contract: the part of the inbox that starts at the message's offset, and no number overflows.
-use Rattle.wire.specs.Slot.{messageOf, offsetOf}
 use Rattle.wire.proofs.Slots.{no-message, placed}
 use denote.Ref.{now}
 use native.Mathlib.Omega.{arith}

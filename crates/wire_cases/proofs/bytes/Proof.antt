@@ -1,7 +1,6 @@
 -- `wire_cases::bytes` is safe and ends.
 use borrow.Author.Needs.{needs}
 use lib.ListN.{length}
-use native.Mathlib.Omega.{arith}
 use Prim.Native.Nat.{_-_, _≤_}
 use Rattle.wire_cases.proofs.bytes.Statement.{statement}
 use Rattle.wire_cases.proofs.bytes.Tie as tie

@@ -1,6 +1,5 @@
 -- `wire_cases::table` is safe and ends.
 use borrow.Author.Needs.{needs}
-use native.Mathlib.Omega.{arith}
 use Prim.Native.Nat.{_-_, _≤_}
 use Rattle.wire_cases.proofs.table.Statement.{statement}
 use Rattle.wire_cases.proofs.table.Tie as tie
