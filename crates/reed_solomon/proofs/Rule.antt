@@ -18,13 +18,13 @@ use Rattle.settings.proofs.Laws.{encode-0, 0-encode, decode-0, 0-decode}
 use Rattle.wire.specs.Length.{blockLength}
 use Rattle.wire.specs.Slot.{width, messageOf}
 use Rattle.wire.proofs.Laws.{block-length}
-use Rattle.polynomial.specs.Polynomial.{evaluate, Bytes}
+use Rattle.polynomial.specs.Polynomial.{evaluate, Bytes, Points}
 use Rattle.polynomial.proofs.Laws.{evaluate-lt, equal-of-values, past-end}
 use Rattle.interpolation.specs.Interpolation.{agreements, candidate}
-use Rattle.interpolation.proofs.Laws.{recovers}
+use Rattle.interpolation.proofs.Laws.{Units, recovers}
 use Rattle.reed_solomon.specs.Encode.{stripe, pieceOf, encodeFits, encodeRefusal, encoded, encodeOf}
 use Rattle.reed_solomon.specs.Decode.{received, agreement, Decodes, points, column, stripeOf, isFound, decodeFits, decodeRefusal, decoded, beyond, refused, answer, rebuiltOf, decodeOf}
-use Rattle.reed_solomon.specs.Steps.{Tried, Rebuilt}
+use Rattle.reed_solomon.specs.Steps.{Pointed, Tried, Rebuilt}
 use Rattle.reed_solomon.proofs.Stripes.{length-points, agreement-points, units-points, points-points, different-numbers, length-stripe, bytes-stripe, length-found, bytes-found, stripe-joined, block-joined}
 use Rattle.lists.specs.Join.{joined}
 use Rattle.lists.proofs.Joins.{joined-ext, length-joined, all-joined}
@@ -216,3 +216,13 @@ pieces-decode n t k slots b right l h true-piece many = record {
             (sym (piece-byte k t b (i + 1) s g) ∙ ap (λ p. getD p s 0) (sym (true-piece i u e)))),
       );
 }
+
+-- ---- a guess
+-- bytes that agree with all but t of the values are the candidate, however they were found
+pub guessed : (t : ℕ) (xs ys m : List ℕ) → Pointed t xs → Bytes m → length m ≡ t + 1 → leb (length xs - t) (agreements xs ys m) ≡ true → m ≡ candidate t xs ys
+guessed t xs ys m p hm lm many =
+    let few : length xs < 256 = omega (arith, p .most) in
+    sym
+    (recovers t xs ys m (subst Units (sym (p .is)) (units-points (length xs) few))
+    (subst (λ (l : List ℕ). Points (length l) (λ i. getD l i 0)) (sym (p .is)) (points-points (length xs) few)) hm lm
+    (omega (arith, p .least, leb-true (length xs - t) (agreements xs ys m) many)))

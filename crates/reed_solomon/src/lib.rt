@@ -9,7 +9,8 @@ ghost use Rattle.wire.specs.Length.{blockLength};
 ghost use Rattle.interpolation.specs.Interpolation.{agreements};
 ghost use Rattle.reed_solomon.specs.Encode.{pieceOf, encodeFits, encoded, encodeOf, isReady};
 ghost use Rattle.reed_solomon.specs.Decode.{received, points, column, decodeFits, answerOf, rebuiltOf, decodeOf};
-ghost use Rattle.reed_solomon.specs.Steps.{Tried, Rebuilt};
+ghost use Rattle.reed_solomon.specs.Steps.{Pointed, Tried, Rebuilt};
+ghost use Rattle.polynomial.specs.Polynomial.{Bytes};
 use settings::Entry;
 use settings::Settings;
 
@@ -73,7 +74,83 @@ fn number_points(xs: &mut [u8])
     }
 }
 
-// The bytes of stripe s from the values at the points xs, into m, by way of ys; whether their code agrees with all but t of the values.
+// The differences of order j of the values in m at the points xs, divided by the distance of their points (Newton's divided differences).
+fn divide_differences(xs: &[u8], m: &mut [u8], j: usize)
+    requires { ⌜ (length (now m) ≤ length (now xs)) × (1 ≤ j) ⌝ }
+{
+    let mut i = m.len();
+    while j < i {
+        i -= 1;
+        let d = gf256::add(xs[i], xs[i - j]);
+        m[i] = gf256::mul(gf256::add(m[i], m[i - 1]), gf256::inv(d));
+    }
+}
+
+// From Newton's form to coefficients, a point at a time.
+fn expand(xs: &[u8], m: &mut [u8], j: usize)
+    requires { ⌜ (length (now m) ≤ length (now xs)) × (j ≤ length (now m)) ⌝ }
+{
+    let mut i = j;
+    while i + 1 < m.len() {
+        m[i] = gf256::add(m[i], gf256::mul(xs[j], m[i + 1]));
+        i += 1;
+    }
+}
+
+// A byte as it is.
+fn byte(x: u8) -> u8
+    ensures { λ r. ⌜ r < 256 ⌝ }
+{
+    x
+}
+
+// Each byte as it is.
+fn as_bytes(m: &mut [u8])
+    ensures { λ _. ⌜ Bytes (now (m .exit)) ⌝ }
+{
+    let mut i: usize = 0;
+    while i < m.len() {
+        m[i] = byte(m[i]);
+        i += 1;
+    }
+}
+
+// Newton's form of the polynomial through the values in m, into m.
+fn newton(xs: &[u8], m: &mut [u8])
+    requires { ⌜ length (now m) ≤ length (now xs) ⌝ }
+{
+    let mut j: usize = 1;
+    while j < m.len() {
+        divide_differences(xs, m, j);
+        j += 1;
+    }
+}
+
+// Its coefficients, into m.
+fn coefficients(xs: &[u8], m: &mut [u8])
+    requires { ⌜ length (now m) ≤ length (now xs) ⌝ }
+{
+    let mut j = m.len();
+    while 0 < j {
+        j -= 1;
+        expand(xs, m, j);
+    }
+}
+
+// A guess: the polynomial through the first values, into m. It is the right one if these are true; whether it is, is told by the number of
+// agreements, whatever is written here.
+fn guess(xs: &[u8], ys: &[u8], m: &mut [u8])
+    requires { ⌜ length (now m) ≤ length (now xs) ⌝ }
+    ensures { λ _. ⌜ Bytes (now (m .exit)) ⌝ }
+{
+    wire::copy(m, ys);
+    newton(xs, m);
+    coefficients(xs, m);
+    as_bytes(m);
+}
+
+// The bytes of stripe s from the values at the points xs, into m, by way of ys; whether their code agrees with all but t of the values. First
+// the guess is tried.
 fn decode_column(
     slots: &[u8],
     t: usize,
@@ -83,17 +160,21 @@ fn decode_column(
     ys: &mut [u8],
     m: &mut [u8],
 ) -> bool
-    requires { ⌜ (length (now ys) ≡ length (now xs)) × (length (now xs) ≤ 16) × (t ≤ 5) × (length (now m) ≡ t + 1) ⌝ }
+    requires { ⌜ (length (now ys) ≡ length (now xs)) × Pointed t (now xs) × (length (now m) ≡ t + 1) ⌝ }
     ensures { λ r. ⌜ Tried t (now (xs .entry)) (column k (now (slots .entry)) s (now (xs .entry))) r (now (m .exit)) ⌝ }
 {
     gather(slots, k, s, xs, ys);
+    guess(xs, ys, m);
+    if enough(xs.len(), t, agreements(xs, ys, m)) {
+        return true;
+    }
     interpolation::candidate(xs, ys, m);
     enough(xs.len(), t, agreements(xs, ys, m))
 }
 
 // The same, with bytes of its own for the values.
 fn decode_stripe(slots: &[u8], t: usize, k: usize, s: usize, xs: &[u8], m: &mut [u8]) -> bool
-    requires { ⌜ (length (now xs) ≤ 16) × (t ≤ 5) × (length (now m) ≡ t + 1) ⌝ }
+    requires { ⌜ Pointed t (now xs) × (length (now m) ≡ t + 1) ⌝ }
     ensures { λ r. ⌜ Tried t (now (xs .entry)) (column k (now (slots .entry)) s (now (xs .entry))) r (now (m .exit)) ⌝ }
 {
     let n = xs.len();
@@ -113,7 +194,7 @@ fn enough(n: usize, t: usize, count: usize) -> bool
 
 // The stripes of a block, one after the other, from the values at the points xs; whether each was found. The rest of the block stays.
 fn decode_stripes(slots: &[u8], t: usize, k: usize, xs: &[u8], block: &mut [u8]) -> bool
-    requires { ⌜ (now xs ≡ points (length (now xs))) × (length (now xs) ≤ 16) × (t ≤ 5) × (k ≤ 128) × (length (now block) ≡ k * (t + 1)) ⌝ }
+    requires { ⌜ Pointed t (now xs) × (k ≤ 128) × (length (now block) ≡ k * (t + 1)) ⌝ }
     ensures { λ r. ⌜ Rebuilt (length (now (xs .entry))) t k (now (slots .entry)) r (now (block .exit)) ⌝ }
 {
     let mut s: usize = 0;
@@ -130,7 +211,7 @@ fn decode_stripes(slots: &[u8], t: usize, k: usize, xs: &[u8], block: &mut [u8])
 
 // The same at the points 1, 2, .., which are written to xs.
 fn decode_points(slots: &[u8], t: usize, k: usize, xs: &mut [u8], block: &mut [u8]) -> bool
-    requires { ⌜ (length (now xs) ≤ 16) × (t ≤ 5) × (k ≤ 128) × (length (now block) ≡ k * (t + 1)) ⌝ }
+    requires { ⌜ (length (now xs) ≤ 16) × (3 * t + 1 ≤ length (now xs)) × (k ≤ 128) × (length (now block) ≡ k * (t + 1)) ⌝ }
     ensures { λ r. ⌜ Rebuilt (length (now (xs .entry))) t k (now (slots .entry)) r (now (block .exit)) ⌝ }
 {
     number_points(xs);

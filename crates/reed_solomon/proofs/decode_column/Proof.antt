@@ -1,11 +1,13 @@
--- `decode_column` meets its contract.
+-- `decode_column` meets its contract: a guess that agrees with enough values is the candidate.
+use Rattle.reed_solomon.proofs.Rule.{guessed}
 use Rattle.interpolation.proofs.Laws.{into-candidate}
 use Rattle.interpolation.specs.Interpolation.{candidate, agreements}
 use lib.ListN.{length}
 use lib.Dec.{leb}
 use native.Mathlib.Omega.{arith}
 use Prim.Native.Nat.{_-_}
-use mathlib.Core.Path.{ap, _∙_}
+use mathlib.Core.Bool.{true}
+use mathlib.Core.Path.{_≡_, sym, ap, _∙_}
 use borrow.Author.Needs.{needs}
 use Rattle.reed_solomon.proofs.decode_column.Statement.{statement}
 use Rattle.reed_solomon.proofs.decode_column.Tie as tie
@@ -13,8 +15,8 @@ use Rattle.reed_solomon.proofs.decode_column.Tie as tie
 gather-requires : tie.Need-gather-requires
 gather-requires c κs = search needs
 
-candidate-requires : tie.Need-candidate-requires
-candidate-requires c κs = search needs
+guess-requires : tie.Need-guess-requires
+guess-requires c κs = search needs
 
 agreements-requires : tie.Need-agreements-requires
 agreements-requires c κs = search needs
@@ -30,17 +32,49 @@ same-length-2 c = search needs
 
 returns : tie.Need-returns
 returns c =
-    let a = c .before .before .before .before .before .before .before .before .before .before .before .before .before .before .before .before .before .args in
-    let h = c .before .before .before .before .before .before .before .before .before .before .before .before .before .before .before .before .before .pre in
+    let S = c .before .before .before .before .before .before .before .before .before .before .before .before .before .before .before .before .before .before in
+    let a = S .args in
     let xs = a .xs .now in
-    let g = c .before .before .before .before .before .before .before .before .before .before .before .gather in
+    let g = c .before .before .before .before .before .before .before .before .before .before .before .before .gather in
+    let d = c .before .before .before .before .before .before .before .guess in
+    let m = d .last .1 .1 .0 in
+    let is : c .before .enough .result ≡ leb (length xs - a .t) (agreements xs (g .last .1 .1 .1 .1 .0) m)
+    = c .before .enough .ensures ∙ ap (leb (length xs - a .t)) (c .before .before .agreements .ensures) in
+    let many : leb (length xs - a .t) (agreements xs (g .last .1 .1 .1 .1 .0) m) ≡ true = sym is ∙ c .if1 .taken in
+    record {
+      message =
+          guessed (a .t) xs (g .last .1 .1 .1 .1 .0) m (S .pre .1) (d .ensures) (d .kept .1 .1 .0 ∙ S .pre .2) many ∙ ap (candidate (a .t) xs) (g .ensures);
+      enough = sym many ∙ ap (λ ys. leb (length xs - a .t) (agreements xs ys m)) (g .ensures);
+    }
+
+candidate-requires : tie.Need-candidate-requires
+candidate-requires c κs = search needs
+
+agreements-requires-2 : tie.Need-agreements-requires-2
+agreements-requires-2 c κs = search needs
+
+enough-requires-2 : tie.Need-enough-requires-2
+enough-requires-2 c κs = search needs
+
+same-length-3 : tie.Need-same-length-3
+same-length-3 c = search needs
+
+same-length-4 : tie.Need-same-length-4
+same-length-4 c = search needs
+
+returns-2 : tie.Need-returns-2
+returns-2 c =
+    let S = c .before .before .before .before .before .before .before .before .before .before .before .before .before .before .before .before .before .before .before .before .before .before .before .before .before .before .before in
+    let a = S .args in
+    let xs = a .xs .now in
+    let g = c .before .before .before .before .before .before .before .before .before .before .before .before .before .before .before .before .before .before .before .before .before .gather in
     let m = c .before .before .before .before .before .before .candidate .last .1 .1 .0 in
     record {
       message =
           c .before .before .before .before .before .before .candidate .ensures
-          ∙ into-candidate xs (g .last .1 .1 .1 .1 .0) (a .m .now) (a .t) (g .kept .1 .1 .1 .1 .0 ∙ h .0) (h .3) (omega arith)
+          ∙ into-candidate xs (g .last .1 .1 .1 .1 .0) (c .before .before .before .before .before .before .before .before .before .before .before .before .before .before .before .before .guess .last .1 .1 .0) (a .t) (g .kept .1 .1 .1 .1 .0 ∙ S .pre .0) (c .before .before .before .before .before .before .before .before .before .before .before .before .before .before .before .before .guess .kept .1 .1 .0 ∙ S .pre .2) (omega (arith, S .pre .1 .most, S .pre .1 .least))
           ∙ ap (candidate (a .t) xs) (g .ensures);
-      enough = c .enough .ensures ∙ ap (leb (length xs - a .t)) (c .before .agreements .ensures ∙ ap (λ ys. agreements xs ys m) (g .ensures));
+      enough = c .enough2 .ensures ∙ ap (leb (length xs - a .t)) (c .before .agreements2 .ensures ∙ ap (λ ys. agreements xs ys m) (g .ensures));
     }
 
 pub decode-column-spec : {M : Type 1} → statement M
@@ -48,9 +82,15 @@ decode-column-spec =
     tie.close
     (tie.spec
     gather-requires
-    candidate-requires
+    guess-requires
     agreements-requires
     enough-requires
     same-length
     same-length-2
-    returns)
+    returns
+    candidate-requires
+    agreements-requires-2
+    enough-requires-2
+    same-length-3
+    same-length-4
+    returns-2)

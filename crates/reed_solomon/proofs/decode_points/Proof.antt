@@ -2,7 +2,7 @@
 use Rattle.reed_solomon.specs.Steps.{Rebuilt}
 use Rattle.reed_solomon.specs.Decode.{points}
 use mathlib.Core.Path.{sym, ap, subst, _∙_}
-use Prim.Native.Nat.{_≤_}
+use Prim.Native.Nat.{_+_, _*_, _≤_}
 use borrow.Author.Needs.{needs}
 use Rattle.reed_solomon.proofs.decode_points.Statement.{statement}
 use Rattle.reed_solomon.proofs.decode_points.Tie as tie
@@ -12,8 +12,16 @@ number-points-requires c κs = search needs
 
 decode-stripes-requires : tie.Need-decode-stripes-requires
 decode-stripes-requires c κs =
-    let kept = c .before .before .before .before .number-points .kept .0 in
-    (c .before .before .before .before .number-points .ensures ∙ ap points (sym kept), subst (λ n. n ≤ 16) (sym kept) (c .before .before .before .before .before .before .before .before .before .pre .0), c .before .before .before .before .before .before .before .before .before .pre .1, c .before .before .before .before .before .before .before .before .before .pre .2, c .before .before .before .before .before .before .before .before .before .pre .3)
+    let S = c .before .before .before .before .before .before .before .before .before in
+    let kept = c .before .before .before .before .number-points .kept .0 in (
+      record {
+        is = c .before .before .before .before .number-points .ensures ∙ ap points (sym kept);
+        most = subst (λ n. n ≤ 16) (sym kept) (S .pre .0);
+        least = subst (λ n. 3 * S .args .t + 1 ≤ n) (sym kept) (S .pre .1);
+      },
+      S .pre .2,
+      S .pre .3,
+    )
 
 same-length : tie.Need-same-length
 same-length c = search needs

@@ -10,16 +10,20 @@ array-borrow-prefix-ys : tie.Need-array-borrow-prefix-ys
 array-borrow-prefix-ys c = search needs
 
 slice-aggregate-decode-column : tie.Need-slice-aggregate-decode-column
-slice-aggregate-decode-column c = sym (length-front 16 (length (c .before .before .before .before .args .xs .now)) (c .before .before .before .before .pre .0))
+slice-aggregate-decode-column c =
+    let S = c .before .before .before .before in
+    sym (length-front 16 (length (S .args .xs .now)) (S .pre .0 .most))
 
 decode-column-requires : tie.Need-decode-column-requires
-decode-column-requires c κs = (length-front 16 (length (c .before .before .before .before .before .args .xs .now)) (c .before .before .before .before .before .pre .0), c .before .before .before .before .before .pre .0, c .before .before .before .before .before .pre .1, c .before .before .before .before .before .pre .2)
+decode-column-requires c κs =
+    let S = c .before .before .before .before .before in
+    (length-front 16 (length (S .args .xs .now)) (S .pre .0 .most), S .pre .0, S .pre .1)
 
 same-length : tie.Need-same-length
 same-length c = search needs
 
 returns : tie.Need-returns
-returns c = c .before .before .before .decode-column .ensures
+returns c = search needs
 
 pub decode-stripe-spec : {M : Type 1} → statement M
 decode-stripe-spec =

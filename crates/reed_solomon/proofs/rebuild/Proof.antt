@@ -9,7 +9,7 @@ use Rattle.reed_solomon.specs.Decode.{answer, beyond}
 use Rattle.wire.proofs.Laws.{block-length}
 use lib.ListN.{length, replicate}
 use native.Mathlib.Omega.{arith}
-use Prim.Native.Nat.{_≤_}
+use Prim.Native.Nat.{_+_, _*_, _≤_}
 use mathlib.Core.Path.{sym, ap, ap₂, subst, _∙_}
 use borrow.Author.Needs.{needs}
 use Rattle.reed_solomon.proofs.rebuild.Statement.{statement}
@@ -30,7 +30,7 @@ decode-points-requires c κs =
     let a = c .before .before .before .before .args in
     let v = c .before .before .before .before .pre .0 in (
       subst (λ n. n ≤ 16) (sym (length-front 16 (a .n) (v .quorum .n-most))) (v .quorum .n-most),
-      omega (arith, v .quorum .n-most, v .quorum .t-most),
+      subst (λ n. 3 * a .t + 1 ≤ n) (sym (length-front 16 (a .n) (v .quorum .n-most))) (v .quorum .t-most),
       v .k-most,
       c .before .before .before .before .pre .1 ∙ block-length (a .k) (a .t),
     )
