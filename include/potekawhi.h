@@ -86,8 +86,8 @@ size_t potekawhi_next_call(const uint8_t *state, size_t state_length);
 /* The outcome in `state`: one of POTEKAWHI_OUTCOME_..; 6 if `state` has another length than POTEKAWHI_STATE_LENGTH. */
 uint8_t potekawhi_outcome(const uint8_t *state, size_t state_length);
 
-/* The outcome, and the block with which the run ended: copies `block` to `final_block`, if the run is at its end; while it is open,
- * `final_block` does not change. Both are potekawhi_block_length bytes of the state's settings. Answers the outcome; or 6, and nothing
+/* The outcome, and the block with which the run ended: copies `block` to `final_block` if the outcome is not POTEKAWHI_OUTCOME_OPEN; while it
+ * is open, `final_block` does not change. Both are potekawhi_block_length bytes of the state's settings. Answers the outcome; or 6, and nothing
  * changes, if `state` has another length than POTEKAWHI_STATE_LENGTH or one of the blocks has another length. */
 uint8_t potekawhi_final_block(const uint8_t *state, size_t state_length, const uint8_t *block, size_t block_length, uint8_t *final_block,
                               size_t final_block_length);
