@@ -8,7 +8,7 @@ use std::cmp::Reverse;
 type Graph = [u16; 16];
 
 const SEED: u64 = 424242;
-/// With so many rounds the last graph printed is the second one of crates/benchmarks.
+/// With so many rounds the last graph printed is the second one that `bench/benchmark` measures.
 const ROUNDS: u64 = 420;
 /// A climb ends after so many changes in a row that do not raise the count.
 const PATIENCE: u32 = 400;

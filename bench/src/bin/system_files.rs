@@ -2,7 +2,10 @@
 //! it writes data/NAME.txt for each file, args (the names, one to a line) and stdout (for each file its name, then its output). What a file
 //! is meant to give is written here and compared with the reference.
 use bench::reference::code::encode;
-use bench::reference::simulator::{hex, simulate, Controller, Run, System, EXAMPLE, LONGEST, MESSAGE_NAMES, OUTCOME_NAMES, SETTINGS_NAMES};
+use bench::reference::simulator::{
+    hex, simulate, Controller, Run, System, EXAMPLE, LONGEST, MESSAGE_NAMES, OUTCOME_NAMES,
+    SETTINGS_NAMES,
+};
 use bench::reference::wire::round_row;
 use std::collections::{BTreeMap, BTreeSet};
 use std::{env, fs, path::Path};
@@ -22,12 +25,20 @@ impl Files {
         let name = format!("{name}.txt");
         assert!(self.0.iter().all(|file| file.name != name), "{name}");
         assert!(self.0.iter().all(|file| file.input != input), "{name}");
-        self.0.push(File { name, input, output });
+        self.0.push(File {
+            name,
+            input,
+            output,
+        });
     }
 
     /// A file whose first wrong or missing line is `line`.
     fn wrong(&mut self, name: &str, input: impl AsRef<[u8]>, line: usize) {
-        self.add(&format!("bad_{name}"), input.as_ref().to_vec(), &format!("bad,{line}\n"));
+        self.add(
+            &format!("bad_{name}"),
+            input.as_ref().to_vec(),
+            &format!("bad,{line}\n"),
+        );
     }
 
     /// A file of a system in which the correct controllers are the given ones, with outcome and block.
@@ -36,7 +47,11 @@ impl Files {
             .iter()
             .map(|(i, outcome, block)| format!("{i},{outcome},{}\n", hex(block)))
             .collect();
-        self.add(name, input.into_bytes(), &format!("{OUTCOME_NAMES}\n{rows}"));
+        self.add(
+            name,
+            input.into_bytes(),
+            &format!("{OUTCOME_NAMES}\n{rows}"),
+        );
     }
 
     /// A file in which all the given ones agree on a block.
@@ -79,7 +94,9 @@ fn system(n: usize, t: usize, sender: usize, block: &[u8], faulty: &[usize]) -> 
 
 /// Lines 1 to 3.
 fn head(system: &System) -> String {
-    let &System { n, t, k, sender, .. } = system;
+    let &System {
+        n, t, k, sender, ..
+    } = system;
     let block = hex(&system.block);
     format!("{SETTINGS_NAMES}\n{n},{t},{k},{sender},{block}\n{MESSAGE_NAMES}\n")
 }
@@ -126,7 +143,9 @@ impl Choice<'_> {
         let place = (self.round * 17 + self.from) * 17 + self.to;
         let mut x = seed.wrapping_mul(0x9e37_79b9_7f4a_7c15) ^ place as u64;
         let mut byte = || {
-            x = x.wrapping_mul(6_364_136_223_846_793_005).wrapping_add(1_442_695_040_888_963_407);
+            x = x
+                .wrapping_mul(6_364_136_223_846_793_005)
+                .wrapping_add(1_442_695_040_888_963_407);
             (x >> 40) as u8
         };
         byte();
@@ -348,12 +367,14 @@ fn beyond_t(files: &mut Files) {
 /// More than t are faulty, three of seven, the kings of all phases. The sender is correct, and yet the last king gives 6 a matrix
 /// without a core, and the pieces that 7 gets are false.
 fn beyond_t_outcomes(files: &mut Files) {
-    let system = with_choices(system(7, 2, 5, &BLOCK, &[1, 2, 3]), |c| match (c.kind, c.to) {
-        (_, 1..=3) => None,
-        (6, _) if c.king() && c.from == 3 => Some(vec![if c.to == 6 { 0 } else { 0xff }; 14]),
-        (8, 4 | 5) => Some(c.by_block(&BLOCK)),
-        (8, 7) => Some(c.noise(2)),
-        _ => None,
+    let system = with_choices(system(7, 2, 5, &BLOCK, &[1, 2, 3]), |c| {
+        match (c.kind, c.to) {
+            (_, 1..=3) => None,
+            (6, _) if c.king() && c.from == 3 => Some(vec![if c.to == 6 { 0 } else { 0xff }; 14]),
+            (8, 4 | 5) => Some(c.by_block(&BLOCK)),
+            (8, 7) => Some(c.noise(2)),
+            _ => None,
+        }
     });
     let rows = [
         (4, "agreed", &BLOCK[..]),
@@ -433,7 +454,9 @@ fn cut_to(system: &System, size: usize) -> String {
     keys.retain(|key| row(key.0) == 5);
     // all rounds, senders and receivers in turn
     keys.sort_by_key(|&(round, from, to)| ((7 * round + 3 * from + 5 * to) % 11, to, round, from));
-    let line = |&(c, i, j): &(usize, usize, usize)| message_line(c, i, j, &system.messages[&(c, i, j)]).len();
+    let line = |&(c, i, j): &(usize, usize, usize)| {
+        message_line(c, i, j, &system.messages[&(c, i, j)]).len()
+    };
     let lengths: Vec<usize> = keys.iter().map(line).collect();
     for i in subset(&lengths, text(&system).len() - size) {
         system.messages.remove(&keys[i]);
@@ -456,10 +479,19 @@ fn sixteen_largest(files: &mut Files) {
         _ => Some(falsified(c, 5)),
     });
     let correct: Vec<usize> = (6..=16).collect();
-    files.agreed("sixteen_largest", cut_to(&system, LONGEST), &correct, &block);
+    files.agreed(
+        "sixteen_largest",
+        cut_to(&system, LONGEST),
+        &correct,
+        &block,
+    );
     let longer = cut_to(&system, LONGEST + 1);
     files.wrong("too_long_right", &longer, 0);
-    files.wrong("too_long_wrong", longer.replace("controllers,", "Controllers,"), 0);
+    files.wrong(
+        "too_long_wrong",
+        longer.replace("controllers,", "Controllers,"),
+        0,
+    );
     let lines = longer.lines().count();
     files.wrong("longest_tail", &longer[..LONGEST], lines);
 }
@@ -474,11 +506,21 @@ fn edges(files: &mut Files) {
     files.right("ok_all_faulty", small.clone() + &all, &[]);
     let lines = "1,4,0,ffff\n6,4,0,ffffffffffffffff\n9,4,1,ffffffffffffffff\n";
     files.agreed("ok_not_sending", small.clone() + lines, &[1, 2, 3], block);
-    files.agreed("ok_to_itself", small.clone() + "3,2,2,0000\n", &[1, 3, 4], block);
+    files.agreed(
+        "ok_to_itself",
+        small.clone() + "3,2,2,0000\n",
+        &[1, 3, 4],
+        block,
+    );
     let lines = "11,3,4,00\n10,3,4,00\n";
     files.agreed("ok_last_rounds", small.clone() + lines, &[1, 2, 4], block);
     // a sender that sends nothing that is read: all others hold zeros
-    files.agreed("ok_silent_sender", small.clone() + "11,1,1,00\n", &[2, 3, 4], &[0; 2]);
+    files.agreed(
+        "ok_silent_sender",
+        small.clone() + "11,1,1,00\n",
+        &[2, 3, 4],
+        &[0; 2],
+    );
     let lines: Vec<&str> = EXAMPLE.split_inclusive('\n').skip(3).collect();
     let unsorted: String = lines.into_iter().rev().collect();
     files.agreed("ok_unsorted", small + &unsorted, &[2, 3, 4], block);
@@ -495,7 +537,12 @@ fn larger_edges(files: &mut Files) {
     let others: Vec<usize> = (1..=16).filter(|&i| i != 7).collect();
     let start = head(&system(16, 1, 16, &[0x0a, 0x14], &[]));
     let lines = message_line(3, 7, 0, &[0; 2]) + &message_line(4, 7, 16, &[0xff; 32]);
-    files.agreed("ok_sixteen_tolerance_1", start + &lines, &others, &[0x0a, 0x14]);
+    files.agreed(
+        "ok_sixteen_tolerance_1",
+        start + &lines,
+        &others,
+        &[0x0a, 0x14],
+    );
     let start = head(&system(16, 5, 1, &BLOCK, &[]));
     let others: Vec<usize> = (1..=15).collect();
     files.agreed("ok_two_digits", start + "23,16,16,00\n", &others, &BLOCK);
@@ -504,7 +551,12 @@ fn larger_edges(files: &mut Files) {
         .map(|&(round, length)| message_line(round, 7, 0, &vec![0; length]))
         .collect();
     let start = head(&system(7, 2, 1, &LENGTHS_BLOCK, &[]));
-    files.agreed("ok_lengths", start + &lines, &[1, 2, 3, 4, 5, 6], &LENGTHS_BLOCK);
+    files.agreed(
+        "ok_lengths",
+        start + &lines,
+        &[1, 2, 3, 4, 5, 6],
+        &LENGTHS_BLOCK,
+    );
 }
 
 // Wrong files.
@@ -513,10 +565,26 @@ fn larger_edges(files: &mut Files) {
 const LINES: &[(&str, usize, &str)] = &[
     // names
     ("names_1_short", 1, "controllers,tolerance,stripes,sender"),
-    ("names_1_upper_case", 1, "Controllers,tolerance,stripes,sender,block"),
-    ("names_1_space", 1, "controllers,tolerance,stripes,sender,block "),
-    ("names_1_carriage_return", 1, "controllers,tolerance,stripes,sender,block\r"),
-    ("names_1_nul", 1, "controllers,tolerance,stripes,sender,block\0"),
+    (
+        "names_1_upper_case",
+        1,
+        "Controllers,tolerance,stripes,sender,block",
+    ),
+    (
+        "names_1_space",
+        1,
+        "controllers,tolerance,stripes,sender,block ",
+    ),
+    (
+        "names_1_carriage_return",
+        1,
+        "controllers,tolerance,stripes,sender,block\r",
+    ),
+    (
+        "names_1_nul",
+        1,
+        "controllers,tolerance,stripes,sender,block\0",
+    ),
     ("names_1_blank", 1, ""),
     ("names_3_short", 3, "round,from,to"),
     ("names_3_space", 3, "round, from,to,message"),
@@ -555,14 +623,42 @@ const LINES: &[(&str, usize, &str)] = &[
     ("settings_sender_0", 2, "4,1,1,0,0a14"),
     ("settings_sender_5", 2, "4,1,1,5,0a14"),
     // 2 to the 64, which is 0 of 64 bits, and the numbers after it
-    ("settings_huge_0_controllers", 2, "18446744073709551616,1,1,1,0a14"),
-    ("settings_huge_4_controllers", 2, "18446744073709551620,1,1,1,0a14"),
-    ("settings_huge_0_tolerance", 2, "4,18446744073709551616,1,1,0a"),
-    ("settings_huge_1_tolerance", 2, "4,18446744073709551617,1,1,0a14"),
+    (
+        "settings_huge_0_controllers",
+        2,
+        "18446744073709551616,1,1,1,0a14",
+    ),
+    (
+        "settings_huge_4_controllers",
+        2,
+        "18446744073709551620,1,1,1,0a14",
+    ),
+    (
+        "settings_huge_0_tolerance",
+        2,
+        "4,18446744073709551616,1,1,0a",
+    ),
+    (
+        "settings_huge_1_tolerance",
+        2,
+        "4,18446744073709551617,1,1,0a14",
+    ),
     ("settings_huge_0_stripes", 2, "4,1,18446744073709551616,1,"),
-    ("settings_huge_1_stripes", 2, "4,1,18446744073709551617,1,0a14"),
-    ("settings_huge_0_sender", 2, "4,1,1,18446744073709551616,0a14"),
-    ("settings_huge_1_sender", 2, "4,1,1,18446744073709551617,0a14"),
+    (
+        "settings_huge_1_stripes",
+        2,
+        "4,1,18446744073709551617,1,0a14",
+    ),
+    (
+        "settings_huge_0_sender",
+        2,
+        "4,1,1,18446744073709551616,0a14",
+    ),
+    (
+        "settings_huge_1_sender",
+        2,
+        "4,1,1,18446744073709551617,0a14",
+    ),
     // message lines: their form, at the first, a middle one and the last
     ("leading_zero_first_round", 4, "01,1,2,0a14"),
     ("leading_zero_middle_from", 7, "2,01,2,1e22"),
@@ -627,7 +723,11 @@ const LINES: &[(&str, usize, &str)] = &[
     ("huge_0_to", 9, "3,1,18446744073709551616,0700"),
     ("huge_1_to", 7, "2,1,18446744073709551617,1e22"),
     // 2 to the 128, plus 1
-    ("huge_of_39_digits", 4, "340282366920938463463374607431768211457,1,2,0a14"),
+    (
+        "huge_of_39_digits",
+        4,
+        "340282366920938463463374607431768211457,1,2,0a14",
+    ),
     // given twice
     ("twice_first", 5, "1,1,2,0a14"),
     ("twice_middle_other_message", 7, "1,1,2,0b14"),
@@ -638,14 +738,26 @@ const LINES: &[(&str, usize, &str)] = &[
 ];
 
 /// The length of each kind of round where n is 7, t 2, k 3 (document 01, 'Rounds').
-const LENGTHS: [(usize, usize); 8] = [(1, 9), (2, 6), (3, 2), (4, 14), (5, 28), (6, 14), (13, 3), (14, 3)];
+const LENGTHS: [(usize, usize); 8] = [
+    (1, 9),
+    (2, 6),
+    (3, 2),
+    (4, 14),
+    (5, 28),
+    (6, 14),
+    (13, 3),
+    (14, 3),
+];
 const LENGTHS_BLOCK: [u8; 9] = [1, 2, 3, 4, 5, 6, 7, 8, 9];
 
 /// Document 01's example with line `number` changed.
 fn changed(number: usize, line: &[u8]) -> Vec<u8> {
     let mut lines: Vec<&[u8]> = EXAMPLE.lines().map(str::as_bytes).collect();
     lines[number - 1] = line;
-    lines.iter().flat_map(|line| [line, &b"\n"[..]].concat()).collect()
+    lines
+        .iter()
+        .flat_map(|line| [line, &b"\n"[..]].concat())
+        .collect()
 }
 
 /// The first lines of the example.
@@ -664,7 +776,11 @@ fn wrong_lines(files: &mut Files) {
     files.wrong("byte_ff_last", changed(9, b"3,1,0,0700\xff"), 9);
     let block = "0a".repeat(66);
     let stripes = format!("4,1,33,1,{block}");
-    files.wrong("settings_stripes_33", lines(3).replace("4,1,1,1,0a14", &stripes), 2);
+    files.wrong(
+        "settings_stripes_33",
+        lines(3).replace("4,1,1,1,0a14", &stripes),
+        2,
+    );
     let start = head(&system(7, 2, 1, &LENGTHS_BLOCK, &[]));
     for (round, length) in LENGTHS {
         let line = |length| start.clone() + &message_line(round, 7, 0, &vec![0; length]);
@@ -690,7 +806,11 @@ fn wrong_files(files: &mut Files) {
     files.wrong("one_after_all_last", lines(9) + "3,1,1,0000\n", 10);
     files.wrong("all_twice", lines(9) + "3,1,0,0000\n", 10);
     // of two wrong lines the first counts
-    let two = |first, second| EXAMPLE.replace("1,1,3,0a14", first).replace("2,1,3,1e36", second);
+    let two = |first, second| {
+        EXAMPLE
+            .replace("1,1,3,0a14", first)
+            .replace("2,1,3,1e36", second)
+    };
     files.wrong("two_form_twice", two("1,1,3,0a1", "2,1,2,1e22"), 5);
     files.wrong("two_twice_form", two("1,1,2,0a14", "2,1,3,1E36"), 5);
     let cut = EXAMPLE.replace("4,1,1,1,", "4,1,1,9,");

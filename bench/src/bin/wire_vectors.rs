@@ -3,7 +3,11 @@ use bench::reference::wire::*;
 
 fn line(n: u128, t: u128, k: u128, c: u128) {
     let phase = if c == 0 { 0 } else { (c - 1) / 3 };
-    let inbox = if c == 0 { 0 } else { box_length(n, t, k, c - 1) };
+    let inbox = if c == 0 {
+        0
+    } else {
+        box_length(n, t, k, c - 1)
+    };
     println!(
         "c {c} {} {} {phase} {} {inbox} {}",
         round_row(t, c),
@@ -17,7 +21,10 @@ fn table(n: u128, t: u128, k: u128, last: u128) {
     let known = (1..=5).contains(&t);
     let rounds = if known { 3 * t + 8 } else { 0 };
     let calls = if known { 3 * t + 9 } else { 0 };
-    println!("settings {n} {t} {k} {rounds} {calls} {}", block_length(n, t, k));
+    println!(
+        "settings {n} {t} {k} {rounds} {calls} {}",
+        block_length(n, t, k)
+    );
     for c in 0..last {
         line(n, t, k, c);
     }

@@ -15,7 +15,7 @@ pub struct Star {
 pub fn refusal(n: usize, t: usize) -> u8 {
     if !(4..=16).contains(&n) {
         1
-    } else if t == 0 || 3 * t + 1 > n {
+    } else if t == 0 || 3 * t as u128 + 1 > n as u128 {
         2
     } else {
         0
