@@ -111,11 +111,18 @@ uint8_t potekawhi_decode(size_t n, size_t t, size_t k, const uint8_t *slots, siz
  * Answers 6 if one of them has another length, else tries 1, 2; refused, nothing changes. */
 uint8_t potekawhi_star(size_t n, size_t t, const uint8_t *rows, size_t rows_length, uint8_t *sets, size_t sets_length);
 
-/* Lengths in bytes, 0 outside the settings: of a block; of a message of round c; of the inbox and of the outbox of call c (0 for the inbox
- * of the first call and the outbox of the last). */
+/* The lengths in bytes that a call states. All are 0 where n, t or k would be refused with 1, 2 or 3, and where there is no such round or call. */
+
+/* The length of a block: k * (t + 1). */
 size_t potekawhi_block_length(size_t n, size_t t, size_t k);
+
+/* The length of a message of round c, 1 to 3t + 8, without the byte in front of it in a slot. */
 size_t potekawhi_message_length(size_t n, size_t t, size_t k, size_t c);
+
+/* The length of the inbox of call c, which has the slots of round c - 1; 0 for the first call. */
 size_t potekawhi_inbox_length(size_t n, size_t t, size_t k, size_t c);
+
+/* The length of the outbox of call c, which has the slots of round c; 0 for the last call. */
 size_t potekawhi_outbox_length(size_t n, size_t t, size_t k, size_t c);
 
 /* How many calls a run has: 3t + 9; 0 if t is not 1 to 5. */
