@@ -86,9 +86,9 @@ size_t potekawhi_next_call(const uint8_t *state, size_t state_length);
 /* The outcome in `state`: one of POTEKAWHI_OUTCOME_..; 6 if `state` has another length than POTEKAWHI_STATE_LENGTH. */
 uint8_t potekawhi_outcome(const uint8_t *state, size_t state_length);
 
-/* The outcome, and the block with which the run ended: copies `block` to `final_block` if the outcome is not POTEKAWHI_OUTCOME_OPEN; while it
- * is open, `final_block` does not change. Both are potekawhi_block_length bytes of the state's settings. Answers the outcome; or 6, and nothing
- * changes, if `state` has another length than POTEKAWHI_STATE_LENGTH or one of the blocks has another length. */
+/* The outcome, and the block with which the run ended: copies `block` to `final_block` if the outcome is not POTEKAWHI_OUTCOME_OPEN; while
+ * it is open, `final_block` does not change. Both are potekawhi_block_length bytes of the state's settings. Answers the outcome; or 6, and
+ * nothing changes, if `state` has another length than POTEKAWHI_STATE_LENGTH or one of the blocks has another length. */
 uint8_t potekawhi_final_block(const uint8_t *state, size_t state_length, const uint8_t *block, size_t block_length, uint8_t *final_block,
                               size_t final_block_length);
 
@@ -111,7 +111,8 @@ uint8_t potekawhi_decode(size_t n, size_t t, size_t k, const uint8_t *slots, siz
  * Answers 6 if one of them has another length, else tries 1, 2; refused, nothing changes. */
 uint8_t potekawhi_star(size_t n, size_t t, const uint8_t *rows, size_t rows_length, uint8_t *sets, size_t sets_length);
 
-/* The lengths in bytes that a call states. All are 0 where n, t or k would be refused with 1, 2 or 3, and where there is no such round or call. */
+/* The lengths in bytes that a call states. All are 0 where n, t or k would be refused with 1, 2 or 3, and where there is no such round or
+ * call. */
 
 /* The length of a block: k * (t + 1). */
 size_t potekawhi_block_length(size_t n, size_t t, size_t k);
