@@ -3,9 +3,12 @@
 --   Correct S i            controller i is one of 1 .. n, and correct (document 01: it follows the steps)
 --   atStart, callsOf, atEnd   what a controller holds at its start, its calls, and what it holds after all its steps
 --   last S                 the number of the last call
---   call S i c             call c of controller i; past its calls one with nothing in it
+--   noCall                 a call with nothing in it
+--   call S i c             call c of controller i; past its calls `noCall`
 --   Arrives S i j c        the message from i to j arrives unchanged in round c
 --   Supposed S             what is supposed
+--   lastCore, lastInbox    the core before the last call, and the inbox lent to it
+--   outcomeOf, blockOf     the outcome and the block at the end
 --   SetByLast S i          outcome and block at the end are those that the last call sets
 --   Finished S i           every later step is refused with 8 and leaves both
 --   Concluded S            what is concluded

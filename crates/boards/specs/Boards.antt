@@ -2,18 +2,23 @@
 -- refused with 6, which is tried first.
 --   badLength                       6, row 6 of the refusal table
 --   beyondNumber                    what decoding answers where no block meets the rule: 9, since rows 1 to 8 are refusals
---   Written                         a number answered, and the lent bytes as the call leaves them
---   startBytes n t k own sender b state   start: the number, and the state that it returns; b is the length of the lent block
---   Left                            what a step leaves: its number, the state, the block and the outbox
+--   Written, written r bytes        a number answered, and the lent bytes as the call leaves them
+--   startWritten a                  an answer of `start`, with the state as bytes
+--   startBytes n t k own sender b state   start to a lent state; b is the length of the lent block
+--   Left, left r state b o          what a step leaves: its number, the state, the block and the outbox
 --   leftOf a                        an answer of `step`, with the state as bytes
---   stepBytes state b i o           step on the state that the bytes stand for; refused, the state stays byte for byte
+--   stepLeft state a                the same where it was carried out; refused, the state stays byte for byte
+--   stepBytes state b i o           step on the state that the bytes stand for
 --   outcomeIn state                 the number of the outcome in a state
---   finalFits, finalBytes           the lent blocks have the length of the state's settings; the outcome and the final block, which is the
---                                   block as it is once the run is at its end
---   decodeNumber a                  the number for an answer of decoding
+--   finalSize state                 the length of a block by the state's settings
+--   finalFits state block final     both lent blocks have it
+--   finalBytes state block final    the outcome, and the final block: the block as it is, once the outcome is set
+--   wordNumber w r, decodeNumber a  the number for an answer of decoding
+--   decodeWritten a                 an answer of decoding
 --   decodeBytes n t k slots block   decoding
 --   setRows s                       the sets C, D, F and E as the first of 16 rows of marks
 --   setBytes s                      the bytes of these four rows
+--   starWritten s sets              an answer of the star; refused, the lent bytes stay
 --   starBytes n t rows sets         the star of the rows in 32 bytes, to 8 bytes
 use mathlib.Core.Bool.{Bool, cond, _&&_}
 use mathlib.Core.List.{List, _∷_}

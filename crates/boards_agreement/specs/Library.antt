@@ -9,8 +9,8 @@
 --   LibraryRuns           every step of every list of steps through the library is that of the run of `agreement`: its number, block and
 --                         outbox, and the state as bytes
 --   keptAt S buffers i    what controller i keeps after all its steps, with a buffer of its own
---   LibraryAgrees         of every system that `agreement` supposes, run through the library: one outcome and one block; one final block; with
---                         a correct sender the outcome agreed, 1, and the sender's block
+--   OneOutcome S buffers  one outcome and one block; one final block; with a correct sender the outcome agreed, 1, and the sender's block
+--   LibraryAgrees         that holds of every system that `agreement` supposes, run through the library
 use mathlib.Core.Path.{_≡_}
 use mathlib.Core.List.{List, [], _∷_}
 use Prim.Native.Nat.{ℕ}

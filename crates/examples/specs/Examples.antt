@@ -2,6 +2,7 @@
 --   code i               what encoding gives controller i of the block 0a14, at n 4, t 1, k 1
 --   decode a b c d       what decoding gives from four present pieces, at n 4, t 1, k 1
 --   graph a b c d        16 rows of marks, of which the first four are given; mark i of a row has the value 2^(i - 1)
+--   Examples             the table, a to j
 use mathlib.Core.Path.{_≡_}
 use mathlib.Core.Bool.{true, false}
 use mathlib.Core.List.{List, [], _∷_}

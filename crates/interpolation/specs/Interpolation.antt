@@ -2,10 +2,13 @@
 -- right for one point after the other (Kötter). A pair Q, E is right at x, where y was received, when Q(x) = y E(x). Its weighted degree
 -- is the larger of the degree of Q and t more than that of E. What the result is worth is said by the laws `recovers` and `unique`.
 --   agreements xs ys m   the number of points of the list xs at which m takes the value that the list ys has
+--   Pair, pair q e       a pair Q, E
 --   wrongBy y P x        Q(x) - y E(x)
 --   combine a B b A      a B + b A
 --   withRoot x A         X + x times A
---   State                two pairs and bounds of their weighted degrees
+--   State, state         two pairs and bounds of their weighted degrees
+--   swapped s            the other pair first
+--   constant w c         the polynomial c, in w coefficients
 --   start w t            1, 0 and 0, 1, in w coefficients
 --   advance x y s        a point more, where A has the smaller bound: if A is right there, it stays, and B gets the root x; else A gets it, and
 --                        B is made right there by A

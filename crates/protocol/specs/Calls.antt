@@ -1,11 +1,13 @@
 -- The calls (document 01, 'Rounds'): what each leaves of the state, the block and the outbox. Call c reads the inbox of round c - 1 and fills
 -- the outbox of round c. Every call but the last sets the outcome to open.
---   Carried                     the state, the block and the outbox after a call carried out
+--   Carried, carried s b o      the state, the block and the outbox after a call carried out
 --   inboxLen s                  the length of a message in the inbox of the next call
 --   readPhase s, writePhase s   the phase of the round that the next call reads, and of the round that it fills
 --   coreOf rows n t             the core: E of the star of the matrix
 --   matrixToAll, silent         outboxes: the matrix to all; every byte 00
---   sendCall .. finishCall      the calls, in their order
+--   sendCall, receiveCall, compareCall, collectCall, tallyCall, holdCall, settleCall, coreCall, chooseCall, finishCall
+--                               the calls, in their order
+--   settledMatrix s i           the matrix after round 3p + 3, in two of them
 --   callOf kind s b i o         the call of a kind on the state s, the block b, the inbox i and the outbox o
 use mathlib.Core.Bool.{cond}
 use mathlib.Core.List.{List}

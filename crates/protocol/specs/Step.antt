@@ -3,7 +3,8 @@
 --   startOf n t k own sender b          the answer; refused, the zero state. Start neither reads nor changes the block
 --   lengthsFit s b i o                  the lent block, inbox and outbox are as long as the next call states
 --   stepRefusal s b i o                 a step tries 7, 8, 6
---   After                               the answer of a step with the block and the outbox as it leaves them
+--   After, after a b o                  the answer of a step with the block and the outbox as it leaves them
+--   done c                              that of a call carried out
 --   stepOf s b i o                      a step; refused, it hands the state back as given and changes no lent byte
 --   Ready s b i o                       what no row of the table names: the state and the lent lengths of a step that is carried out
 use mathlib.Core.Path.{_≡_}

@@ -11,7 +11,8 @@
 --   sentPiece n m o                     the piece to all; silence where there is none
 --   shared n t k own core inbox len b o call 3t + 8
 --   outcomeWord w                       document 01's word for each outcome
---   Finished                            what the last call sets: the outcome, and the block
+--   Finished, finish w b                what the last call sets: the outcome, and the block
+--   decodedOutcome w                    the outcome for each word of decoding
 --   finished n t k core inbox b         the last call: no core: none and zeros; else decoding: agreed and the block, or beyond and zeros
 use mathlib.Core.Bool.{Bool, cond, not, _&&_}
 use mathlib.Core.List.{List, [], _∷_}

@@ -9,7 +9,8 @@
 --   isFound n t k slots s              whether it has
 --   decodeFits n t k slots block       the lent lengths are the stated ones: n slots of messages of k bytes, and a block
 --   decodeRefusal n t k slots block    the number of the refusal table's row, or 0 ('Turned down': decoding tries 1, 2, 3, 6)
---   Answer                             what a call leaves: word and number of document 01, and the lent block
+--   Word                               document 01's words for the answers
+--   Answer, answer w r block           what a call leaves: word and number, and the lent block
 --   answerOf r block                   word and number for each answer of the function
 --   rebuiltOf n t k slots              some stripe has none: beyond and a block of zeros; else the block
 --   decodeOf n t k slots block         refused: its number, nothing changes; else what `rebuiltOf` says

@@ -8,6 +8,8 @@
 --   stateLength          how many bytes a state takes
 --   bytesOf s            the bytes of a state: six numbers of 8 bytes, the outcome in one, matrix and weak matrix in 16 rows of marks each,
 --                        and the core as one more row
+--   partFrom bytes a w   the w bytes from a on
+--   fieldsOf bytes       the state whose fields stand in the bytes
 --   stateOf bytes        the state that the bytes stand for: every list of that length is a state; the zero state where it has another length
 --   Words s              the bounds of a state's fields: numbers below 2 ^ 64, and rows of 16 bits
 use mathlib.Core.Path.{_≡_}

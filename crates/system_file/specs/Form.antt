@@ -13,6 +13,7 @@
 --   clashes m m′                   both give the same (round, from, to); `to` 0 gives all
 --   isRepeated ms m                m clashes with one of ms
 --   Contents                       what a file says: settings, block, messages (the last line first)
+--   withMessage c m                with a message more
 --   Read                           the first wrong or missing line, 0 for a file that is too long; or what the file says
 --   readFrom fuel input c a line   the message lines from byte a on, the first of which is line number `line`, after the contents c
 --   settingsOf l                   what the settings line says
