@@ -2,7 +2,7 @@
 use mathlib.Core.Path.{_≡_, refl, sym, ap, subst, _∙_}
 use mathlib.Core.List.{List}
 use mathlib.Core.Logic.{⊎-elim}
-use Prim.Native.Nat.{ℕ, zero, suc, _^_, _≤_, _<_}
+use Prim.Native.Nat.{ℕ, _^_, _≤_, _<_}
 use native.Mathlib.Nat.{lt-of-lt-of-le}
 use native.Mathlib.Omega.{arith}
 use lib.Dec.{lit<}
@@ -46,19 +46,9 @@ use Rattle.protocol.proofs.Laws.{
   of-outside,
 }
 use Rattle.state_bytes.specs.State.{numbersOf, Words}
+use Rattle.state_bytes.proofs.Laws.{numbers-below}
 
 -- ---- the states that are built
--- six numbers below 2 ^ 64; there is no seventh
-numbers-below : (s : State) → s .n < 2 ^ 64 → s .t < 2 ^ 64 → s .k < 2 ^ 64 → s .own < 2 ^ 64 → s .sender < 2 ^ 64 → s .next < 2 ^ 64
-    → (i : ℕ) → getD (numbersOf s) i 0 < 2 ^ 64
-numbers-below s n t k own sender next zero = n
-numbers-below s n t k own sender next (suc zero) = t
-numbers-below s n t k own sender next (suc (suc zero)) = k
-numbers-below s n t k own sender next (suc (suc (suc zero))) = own
-numbers-below s n t k own sender next (suc (suc (suc (suc zero)))) = sender
-numbers-below s n t k own sender next (suc (suc (suc (suc (suc zero))))) = next
-numbers-below s n t k own sender next (suc (suc (suc (suc (suc (suc i)))))) = omega arith
-
 -- with a matrix, a weak matrix and a core of zeros
 zeros-words : (s : State) → ((i : ℕ) → getD (numbersOf s) i 0 < 2 ^ 64) → s .matrix ≡ replicate 16 0 → s .weak ≡ replicate 16 0 → s .core ≡ 0 → Words s
 zeros-words s h m w c = record {

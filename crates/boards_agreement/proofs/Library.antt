@@ -2,19 +2,16 @@
 -- as bytes) and `library-agrees` (one outcome, one block and one final block).
 use mathlib.Core.Path.{_≡_, refl, sym, ap, ap₂, subst, _∙_}
 use mathlib.Core.List.{List, [], _∷_}
-use mathlib.Core.Logic.{⊎-elim}
-use Prim.Native.Nat.{ℕ}
+use Prim.Native.Nat.{ℕ, _+_}
 use native.Mathlib.Omega.{arith}
 use lib.ListN.{length}
-use Rattle.lists.proofs.Tests.{same-or-not}
-use Rattle.wire.specs.Round.{callKind}
 use Rattle.wire.specs.Length.{blockSize}
-use Rattle.wire.proofs.Laws.{block-size}
+use Rattle.wire.proofs.Laws.{block-size as stated-size}
 use Rattle.protocol.specs.declared.State.{State}
-use Rattle.protocol.specs.Step.{After, stepRefusal}
-use Rattle.protocol.proofs.Laws.{start-0, start-state, refused, performed, ready-of, call-keeps, call-inside}
 use Rattle.agreement.specs.Run.{Lent, Held, stepped, left, ends, begun}
-use Rattle.agreement.specs.Agreement.{System, Correct, Supposed, atStart, atEnd}
+use Rattle.agreement.specs.Agreement.{System, Correct, Supposed, atStart, atEnd, last}
+use Rattle.agreement.proofs.Run.{At}
+use Rattle.agreement.proofs.System.{coded, block-size, call-at, call-last}
 use Rattle.agreement.proofs.Agreement.{agreement}
 use Rattle.state_bytes.specs.State.{stateLength, bytesOf, outcomeNumber, Words}
 use Rattle.state_bytes.proofs.Laws.{number-agreed}
@@ -64,34 +61,6 @@ library-runs n t k own sender b buffer size ls l =
     ap (λ (c : Kept). makes c l) (run-same n t k own sender b buffer size ls)
     ∙ makes-same (ends (begun n t k own sender b) ls) (ends-words (begun n t k own sender b) ls (begun-words n t k own sender b buffer size)) l
 
--- ---- the settings stay
-pub record Alike (s s′ : State) : Type 0 where
-  pub n-same : s′ .n ≡ s .n
-  pub t-same : s′ .t ≡ s .t
-  pub k-same : s′ .k ≡ s .k
-
-left-alike : (h : Held) (l : Lent) → Alike (h .state) (left h l .state)
-left-alike h l =
-    let r = stepRefusal (h .state) (length (h .block)) (length (l .inbox)) (length (l .outbox)) in
-    ⊎-elim
-    (λ (z : r ≡ 0).
-    let ready = ready-of (h .state) (length (h .block)) (length (l .inbox)) (length (l .outbox)) z in
-    let keeps = call-keeps (callKind (h .state .t) (h .state .next)) (h .state) (h .block) (l .inbox) (l .outbox)
-    (call-inside (h .state .t) (h .state .next) (ready .next-least) (ready .next-most)) in
-    subst (λ (a : After). Alike (h .state) (a .answer .state)) (sym (performed (h .state) (h .block) (l .inbox) (l .outbox) z))
-    (record { n-same = keeps .n; t-same = keeps .t; k-same = keeps .k }))
-    (λ (z : r ≡ 0 → ⊥).
-    subst (λ (a : After). Alike (h .state) (a .answer .state)) (sym (refused (h .state) (h .block) (l .inbox) (l .outbox) z))
-    (record { n-same = refl; t-same = refl; k-same = refl }))
-    (same-or-not r 0)
-
-ends-alike : (h : Held) (ls : List Lent) → Alike (h .state) (ends h ls .state)
-ends-alike h [] = record { n-same = refl; t-same = refl; k-same = refl }
-ends-alike h (l ∷ ls) =
-    let a = left-alike h l in
-    let e = ends-alike (left h l) ls in
-    record { n-same = e .n-same ∙ a .n-same; t-same = e .t-same ∙ a .t-same; k-same = e .k-same ∙ a .k-same }
-
 -- ---- systems
 module _ (S : System) (supposed : Supposed S) (buffers : ℕ → List ℕ) (sizes : (i : ℕ) → length (buffers i) ≡ stateLength) where
   at : (i : ℕ) → keptAt S buffers i ≡ asKept (atEnd S i)
@@ -100,21 +69,12 @@ module _ (S : System) (supposed : Supposed S) (buffers : ℕ → List ℕ) (size
   end-words : (i : ℕ) → Words (atEnd S i .state)
   end-words i = ends-words (atStart S i) (S .steps i) (begun-words (S .n) (S .t) (S .k) i (S .sender) (S .block i) (buffers i) (sizes i))
 
-  -- the block's length, by the settings with which each correct controller started
+  -- the settings at the end are the system's
   end-size : (i : ℕ) → Correct S i → blockSize (atEnd S i .state .n) (atEnd S i .state .t) (atEnd S i .state .k) ≡ blockSize (S .n) (S .t) (S .k)
   end-size i c =
-      let a = ends-alike (atStart S i) (S .steps i) in
-      let f = start-state (S .n) (S .t) (S .k) i (S .sender) (length (S .block i)) (supposed .started i c) in
-      rw (
-        a .n-same ∙ ap (λ (s : State). s .n) f,
-        a .t-same ∙ ap (λ (s : State). s .t) f,
-        a .k-same ∙ ap (λ (s : State). s .k) f,
-      ) refl
-
-  block-length : (i : ℕ) → Correct S i → length (S .block i) ≡ blockSize (S .n) (S .t) (S .k)
-  block-length i c =
-      let z = start-0 (S .n) (S .t) (S .k) i (S .sender) (length (S .block i)) (supposed .started i c) in
-      z .1 ∙ sym (block-size (z .0 .coded))
+      let a = subst (At (S .n) (S .t) (S .k) i (S .sender) (last S + 1)) (call-last S supposed i c)
+      (call-at S supposed i c (last S) (omega arith) (omega arith) .after-at) in
+      rw (a .n-is, a .t-is, a .k-is) refl
 
   one-outcome : (i j : ℕ) → Correct S i → Correct S j → outcomeIn (keptAt S buffers i .state) ≡ outcomeIn (keptAt S buffers j .state)
   unfolding asKept
@@ -147,7 +107,7 @@ module _ (S : System) (supposed : Supposed S) (buffers : ℕ → List ℕ) (size
       let b = agreement S supposed .sender-block i cs ci in
       let r : outcomeNumber (atEnd S i .state .outcome) ≡ 1 = ap outcomeNumber o ∙ number-agreed in
       let size : length (S .block (S .sender)) ≡ blockSize (atEnd S i .state .n) (atEnd S i .state .t) (atEnd S i .state .k)
-      = block-length (S .sender) cs ∙ sym (end-size i ci) in
+      = block-size S supposed (S .sender) cs ∙ sym (stated-size (coded S supposed (S .sender) cs)) ∙ sym (end-size i ci) in
       ap (λ (c : Kept). finalBytes (c .state) (c .block) out) (at i)
       ∙ final-bytes (atEnd S i .state) (end-words i) (atEnd S i .block) out (ap length b ∙ size) (e ∙ size) (λ z. omega (arith, r, z))
       ∙ ap₂ written r b

@@ -172,6 +172,17 @@ read-written s w =
     ∙ sym (fields-back s w)
 
 -- ---- every list of bytes is a state
+-- six numbers below 2 ^ 64; there is no seventh
+pub numbers-below : (s : State) → s .n < 2 ^ 64 → s .t < 2 ^ 64 → s .k < 2 ^ 64 → s .own < 2 ^ 64 → s .sender < 2 ^ 64 → s .next < 2 ^ 64
+    → (i : ℕ) → getD (numbersOf s) i 0 < 2 ^ 64
+numbers-below s n t k own sender next zero = n
+numbers-below s n t k own sender next (suc zero) = t
+numbers-below s n t k own sender next (suc (suc zero)) = k
+numbers-below s n t k own sender next (suc (suc (suc zero))) = own
+numbers-below s n t k own sender next (suc (suc (suc (suc zero)))) = sender
+numbers-below s n t k own sender next (suc (suc (suc (suc (suc zero))))) = next
+numbers-below s n t k own sender next (suc (suc (suc (suc (suc (suc i)))))) = omega arith
+
 module _ (l : List ℕ) (bytes : (i : ℕ) → getD l i 0 < 256) where
   -- 8 bytes are a number below 2 ^ 64
   number-bound : (i : ℕ) → numberOf (part 8 l i) < 2 ^ 64
@@ -182,16 +193,10 @@ module _ (l : List ℕ) (bytes : (i : ℕ) → getD l i 0 < 256) where
       let power : 256 ^ length t ≤ 256 ^ 8 = pow-le-pow-right (zero-lt-suc 255) size in
       rw (part-take 8 l i) (lt-of-lt-of-le (number-lt t small) power)
 
-  -- the six numbers; there is no seventh
   numbers-bound : (i : ℕ) → getD (numbersOf (fieldsOf l)) i 0 < 2 ^ 64
   unfolding fieldsOf
-  numbers-bound zero = number-bound 0
-  numbers-bound (suc zero) = number-bound 1
-  numbers-bound (suc (suc zero)) = number-bound 2
-  numbers-bound (suc (suc (suc zero))) = number-bound 3
-  numbers-bound (suc (suc (suc (suc zero)))) = number-bound 4
-  numbers-bound (suc (suc (suc (suc (suc zero))))) = number-bound 5
-  numbers-bound (suc (suc (suc (suc (suc (suc i)))))) = omega arith
+  numbers-bound =
+      numbers-below (fieldsOf l) (number-bound 0) (number-bound 1) (number-bound 2) (number-bound 3) (number-bound 4) (number-bound 5)
 
   rows-bound : (m : List ℕ) (i : ℕ) → getD (tabulate (rowOf 16 m) 16) i 0 < 2 ^ 16
   rows-bound m i =
