@@ -67,7 +67,8 @@ pub fn log(a: u8) -> u8
     EXPONENTS[a as usize]
 }
 
-// The product: exponents add up, modulo 255. Shut out: 01 where a is 00; a times a; and must-fail/exponents_modulo_254.
+// The product: exponents add up, modulo 255; the sum of two is below 510, so 255 is subtracted at most once (document 02, U5). Shut out: 01
+// where a is 00; and must-fail/subtracts_254, must-fail/exponent_added_twice.
 pub fn mul(a: u8, b: u8) -> u8
     ensures { λ r. ⌜ r ≡ gmul a b ⌝ }
 {
@@ -77,8 +78,11 @@ pub fn mul(a: u8, b: u8) -> u8
     if b == 0 {
         return 0;
     }
-    let e = (log(a) as u16 + log(b) as u16) % 255;
-    power(e as u8)
+    let e = log(a) as u16 + log(b) as u16;
+    if e < 255 {
+        return power(e as u8);
+    }
+    power((e - 255) as u8)
 }
 
 // The inverse; that of 00 is 00. Shut out: 01 for 00; 00 for 01.

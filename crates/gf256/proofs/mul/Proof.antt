@@ -1,12 +1,18 @@
 -- `mul` meets its contract: the product of two powers of 02 is the power of the sum of their exponents, which counts modulo 255.
-use mathlib.Core.Path.{ap, ap₂, sym, _∙_}
-use Prim.Native.Nat.{_+_}
+use mathlib.Core.Path.{_≡_, ap, sym, _∙_}
+use Prim.Native.Nat.{ℕ, _+_, _%_, _<_}
 use native.Mathlib.Omega.{arith}
 use borrow.Author.Needs.{needs}
-use Rattle.gf256.specs.Field.{gmul, gpow}
-use Rattle.gf256.proofs.Laws.{gmul-zero-l, gmul-zero-r, gpow-mod, gmul-glog}
+use Rattle.gf256.specs.Field.{gmul, gpow, glog}
+use Rattle.gf256.proofs.Laws.{gmul-zero-l, gmul-zero-r, gpow-mod, glog-lt, gmul-glog}
 use Rattle.gf256.proofs.mul.Statement.{statement}
 use Rattle.gf256.proofs.mul.Tie as tie
+
+-- a power of 02 whose exponent is, modulo 255, the sum of the exponents of the factors, is their product
+product :
+    (a b e r : ℕ) → r ≡ gpow 2 e → 0 < a → a < 256 → 0 < b → b < 256 → e % 255 ≡ (glog a + glog b) % 255 → r ≡ gmul a b
+product a b e r p pa ha pb hb h =
+    p ∙ sym (gpow-mod e) ∙ ap (gpow 2) h ∙ gpow-mod (glog a + glog b) ∙ sym (gmul-glog a b pa ha pb hb)
 
 returns : tie.Need-returns
 returns c = sym (ap (λ x. gmul x (c .before .args .b)) (c .if1 .taken) ∙ gmul-zero-l (c .before .args .b))
@@ -37,11 +43,22 @@ power-requires c κs = search needs
 
 returns-3 : tie.Need-returns-3
 returns-3 c =
+    let args = c .before .before .before .before .before .before .args in
+    product (args .a) (args .b) _ _ (c .power .ensures) (omega arith) (omega arith) (omega arith) (omega arith) (omega arith)
+
+-- exponents are below 255, so that e - 254 would fit too: must-fail/subtracts_254 is refused because of the product
+cast-power-2 : tie.Need-cast-power-2
+cast-power-2 c =
     let args = c .before .before .before .before .before .args in
-    c .power .ensures
-    ∙ gpow-mod (c .before .before .log .result + c .before .log2 .result)
-    ∙ ap₂ (λ x y. gpow 2 (x + y)) (c .before .before .log .ensures) (c .before .log2 .ensures)
-    ∙ sym (gmul-glog (args .a) (args .b) (omega arith) (omega arith) (omega arith) (omega arith))
+    search (needs, glog-lt (args .a), glog-lt (args .b))
+
+power-requires-2 : tie.Need-power-requires-2
+power-requires-2 c κs = search needs
+
+returns-4 : tie.Need-returns-4
+returns-4 c =
+    let args = c .before .before .before .before .before .before .args in
+    product (args .a) (args .b) _ _ (c .power2 .ensures) (omega arith) (omega arith) (omega arith) (omega arith) (omega arith)
 
 pub mul-spec : {M : Type 1} → statement M
 mul-spec =
@@ -56,4 +73,7 @@ mul-spec =
     add-e
     cast-power
     power-requires
-    returns-3)
+    returns-3
+    cast-power-2
+    power-requires-2
+    returns-4)
