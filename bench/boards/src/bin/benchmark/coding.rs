@@ -6,10 +6,14 @@ use bench::reference::code;
 use boards::raw;
 use std::hint::black_box;
 
-const N: usize = 16;
+pub const N: usize = 16;
+
+/// The library's functions as `raw` has them, or those of another version.
+type Encode = fn(usize, usize, usize, usize, &[u8], &mut [u8]) -> u8;
+type Decode = fn(usize, usize, usize, &[u8], &mut [u8]) -> u8;
 
 /// A block, its pieces, and slots of them of which some are false; and what a call writes.
-struct Case {
+pub struct Case {
     t: usize,
     k: usize,
     block: Vec<u8>,
@@ -20,12 +24,12 @@ struct Case {
 }
 
 impl Case {
-    const LIBRARY: Side<Case> = (Case::decode, Case::test_decoded);
+    pub const LIBRARY: Side<Case> = (|case| case.decode_by(raw::decode), Case::test_decoded);
     const PEER: Side<Case> = (Case::decode_by_peer, Case::test_decoded);
-    const ENCODE: Side<Case> = (Case::encode, Case::test_coded);
+    pub const ENCODE: Side<Case> = (|case| case.encode_by(raw::encode), Case::test_coded);
 
     /// A block drawn at random, whose pieces at the indices `wrong` are false in every byte. The reference codes it.
-    fn new(random: &mut Random, t: usize, k: usize, wrong: &[usize]) -> Case {
+    pub fn new(random: &mut Random, t: usize, k: usize, wrong: &[usize]) -> Case {
         let block = random.bytes(k * (t + 1));
         let mut pieces = vec![0; N * k];
         let mut slots = Vec::new();
@@ -53,10 +57,10 @@ impl Case {
         }
     }
 
-    fn decode(&mut self) {
+    pub fn decode_by(&mut self, decode: Decode) {
         self.decoded.fill(BEFORE);
         let slots = black_box(&self.slots);
-        let number = raw::decode(N, self.t, self.k, slots, black_box(&mut self.decoded));
+        let number = decode(N, self.t, self.k, slots, black_box(&mut self.decoded));
         assert_eq!(number, 0);
     }
 
@@ -67,20 +71,20 @@ impl Case {
         assert!(found);
     }
 
-    fn test_decoded(&self) {
+    pub fn test_decoded(&self) {
         assert_eq!(self.decoded, self.block);
     }
 
-    fn encode(&mut self) {
+    pub fn encode_by(&mut self, encode: Encode) {
         self.coded.fill(BEFORE);
         let block = black_box(&self.block);
         let pieces = black_box(&mut self.coded).chunks_exact_mut(self.k);
         for (piece, number) in pieces.zip(1..) {
-            assert_eq!(raw::encode(N, self.t, self.k, number, block, piece), 0);
+            assert_eq!(encode(N, self.t, self.k, number, block, piece), 0);
         }
     }
 
-    fn test_coded(&self) {
+    pub fn test_coded(&self) {
         assert_eq!(self.coded, self.pieces);
     }
 }

@@ -1,6 +1,9 @@
-//! Measures the static library `boards`: decoding beside a peer, coding as blocks grow, the star, whole runs beside the reference, and,
-//! with the feature `isal`, encoding beside ISA-L. Every answer is compared. Arguments name the tables to print, by their numbers; with none all are printed.
+//! Measures the static library `boards`: decoding beside a peer, coding as blocks grow, the star, whole runs beside the reference, with the
+//! feature `isal` encoding beside ISA-L, and with the feature `earlier` coding beside an earlier version. Every answer is compared. Arguments
+//! name the tables to print, by their numbers; with none all are printed.
 mod coding;
+#[cfg(feature = "earlier")]
+mod earlier;
 #[cfg(feature = "isal")]
 mod isal;
 mod peer;
@@ -17,6 +20,8 @@ const TABLES: &[(&str, fn())] = &[
     ("5", runs::whole_runs),
     #[cfg(feature = "isal")]
     ("6", isal::against_isal),
+    #[cfg(feature = "earlier")]
+    ("7", earlier::against_earlier),
 ];
 
 /// The value behind the first line of a file of /proc that starts with a name; the file's first line where the name is empty.
@@ -35,9 +40,10 @@ fn main() {
     let wanted: Vec<String> = std::env::args().skip(1).collect();
     for name in &wanted {
         if !TABLES.iter().any(|(number, _)| number == name) {
+            let numbers: Vec<&str> = TABLES.iter().map(|(number, _)| *number).collect();
             eprintln!(
-                "benchmark: there is no table {name}; there are 1 to {}",
-                TABLES.len()
+                "benchmark: there is no table {name}; there are {}",
+                numbers.join(", ")
             );
             std::process::exit(1);
         }

@@ -61,7 +61,7 @@ pub fn in_turns<C, const S: usize>(cases: &mut [C], sides: [Side<C>; S]) -> [Tim
 }
 
 /// The nanoseconds of a call. How many calls are needed is found by making them, so that the caches are warm.
-fn repetition(call: &mut impl FnMut()) -> f64 {
+pub fn repetition(call: &mut impl FnMut()) -> f64 {
     let mut calls = 1u32;
     while elapsed(calls, call) < SHORTEST {
         calls *= 2;
