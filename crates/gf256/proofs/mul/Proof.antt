@@ -8,11 +8,16 @@ use Rattle.gf256.proofs.Laws.{gmul-zero-l, gmul-zero-r, gpow-mod, glog-
 use Rattle.gf256.proofs.mul.Statement.{statement}
 use Rattle.gf256.proofs.mul.Tie as tie
 
--- a power of 02 whose exponent is, modulo 255, the sum of the exponents of the factors, is their product
+-- a power of 02 whose exponent is, modulo 255, the sum of the exponents of the factors, which are below 255, is their product
 product :
-    (a b e r : ℕ) → r ≡ gpow 2 e → 0 < a → a < 256 → 0 < b → b < 256 → e % 255 ≡ (glog a + glog b) % 255 → r ≡ gmul a b
+    (a b e r : ℕ) → r ≡ gpow 2 e → 0 < a → a < 256 → 0 < b → b < 256
+    → (glog a < 255 → glog b < 255 → e % 255 ≡ (glog a + glog b) % 255) → r ≡ gmul a b
 product a b e r p pa ha pb hb h =
-    p ∙ sym (gpow-mod e) ∙ ap (gpow 2) h ∙ gpow-mod (glog a + glog b) ∙ sym (gmul-glog a b pa ha pb hb)
+    p
+    ∙ sym (gpow-mod e)
+    ∙ ap (gpow 2) (h (glog-lt a) (glog-lt b))
+    ∙ gpow-mod (glog a + glog b)
+    ∙ sym (gmul-glog a b pa ha pb hb)
 
 returns : tie.Need-returns
 returns c = sym (ap (λ x. gmul x (c .before .args .b)) (c .if1 .taken) ∙ gmul-zero-l (c .before .args .b))

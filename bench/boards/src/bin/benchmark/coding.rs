@@ -26,7 +26,7 @@ pub struct Case {
 impl Case {
     pub const LIBRARY: Side<Case> = (|case| case.decode_by(raw::decode), Case::test_decoded);
     const PEER: Side<Case> = (Case::decode_by_peer, Case::test_decoded);
-    pub const ENCODE: Side<Case> = (|case| case.encode_by(raw::encode), Case::test_coded);
+    const ENCODE: Side<Case> = (|case| case.encode_by(raw::encode), Case::test_coded);
 
     /// A block drawn at random, whose pieces at the indices `wrong` are false in every byte. The reference codes it.
     pub fn new(random: &mut Random, t: usize, k: usize, wrong: &[usize]) -> Case {

@@ -2,7 +2,8 @@
 //! their other names.
 use crate::coding::{Case, N};
 use crate::random::Random;
-use crate::timing::{in_turns, print_table, ratio, repetition, Side, Times, REPETITIONS};
+use crate::timing::{in_turns, print_table, ratio, Side};
+use boards::raw;
 
 const K: usize = 128;
 
@@ -59,50 +60,45 @@ fn decode(n: usize, t: usize, k: usize, slots: &[u8], block: &mut [u8]) -> u8 {
     }
 }
 
-const ENCODE: [Side<Case>; 2] = [
-    (|case| case.encode_by(encode), Case::test_coded),
-    Case::ENCODE,
+/// Encoding with t 1 and with t 5, each by the earlier version and by this one.
+const ENCODE: [Side<[Case; 2]>; 4] = [
+    (
+        |[one, _]| one.encode_by(encode),
+        |[one, _]| one.test_coded(),
+    ),
+    (
+        |[one, _]| one.encode_by(raw::encode),
+        |[one, _]| one.test_coded(),
+    ),
+    (
+        |[_, five]| five.encode_by(encode),
+        |[_, five]| five.test_coded(),
+    ),
+    (
+        |[_, five]| five.encode_by(raw::encode),
+        |[_, five]| five.test_coded(),
+    ),
 ];
 const DECODE: [Side<Case>; 2] = [
     (|case| case.decode_by(decode), Case::test_decoded),
     Case::LIBRARY,
 ];
 
-/// The time of a product in Horner's chain: a value takes four more with t 5 than with t 1, each with a sum and a turn of the loop.
-fn product(cases: &mut [Case; 2], (call, test): Side<Case>) -> f64 {
-    let [short, long] = cases.each_mut().map(|case| {
-        let time = repetition(&mut || call(case));
-        test(case);
-        time
-    });
-    (long - short) / (4 * N * K) as f64
-}
-
-fn products(random: &mut Random) -> [Times; 2] {
-    let mut cases = [1, 5].map(|t| Case::new(random, t, K, &[]));
-    let mut times = [const { Vec::new() }; 2];
-    for _ in 0..REPETITIONS {
-        for (side, times) in ENCODE.into_iter().zip(&mut times) {
-            times.push(product(&mut cases, side));
-        }
-    }
-    times.map(Times::new)
-}
-
 /// Table 7: a product, encoding and decoding, beside the earlier version.
 pub fn against_earlier() {
     let mut random = Random::new(7);
-    let mut none = [Case::new(&mut random, 5, K, &[])];
-    let mut wrong = [Case::new(&mut random, 5, K, &[0, 1, 2, 3, 4])];
+    let mut case = |t, wrong: &[usize]| Case::new(&mut random, t, K, wrong);
+    let mut blocks = [[case(1, &[]), case(5, &[])]];
+    let [earlier_1, now_1, earlier_5, now_5] = in_turns(&mut blocks, ENCODE);
+    // a value takes four products more with t 5 than with t 1, each with a sum and a turn of the loop
+    let products = [earlier_5.minus(&earlier_1), now_5.minus(&now_1)];
+    let none = in_turns(&mut [case(5, &[])], DECODE);
+    let wrong = in_turns(&mut [case(5, &[0, 1, 2, 3, 4])], DECODE);
     let rows = [
-        ("a product, ns", products(&mut random), 1.0),
-        ("encode, us", in_turns(&mut none, ENCODE), 1e3),
-        ("decode, none false, us", in_turns(&mut none, DECODE), 1e3),
-        (
-            "decode, 1 to 5 false, us",
-            in_turns(&mut wrong, DECODE),
-            1e3,
-        ),
+        ("a product, ns", products, (4 * N * K) as f64),
+        ("encode, us", [earlier_5, now_5], 1e3),
+        ("decode, none false, us", none, 1e3),
+        ("decode, 1 to 5 false, us", wrong, 1e3),
     ];
     let rows = rows.map(|(name, [earlier, now], unit)| {
         let mut row = vec![name.to_string()];

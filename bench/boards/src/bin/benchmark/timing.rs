@@ -23,6 +23,13 @@ impl Times {
         self.0[self.0.len() / 2]
     }
 
+    /// How much longer these are: the least than the least, and so on.
+    #[cfg(feature = "earlier")]
+    pub fn minus(&self, others: &Times) -> Times {
+        let pairs = self.0.iter().zip(&others.0);
+        Times::new(pairs.map(|(time, other)| time - other).collect())
+    }
+
     /// Median, least and most, in a unit of so many nanoseconds.
     pub fn cells(&self, unit: f64) -> [String; 3] {
         let (least, most) = (self.0[0], self.0[self.0.len() - 1]);
@@ -61,7 +68,7 @@ pub fn in_turns<C, const S: usize>(cases: &mut [C], sides: [Side<C>; S]) -> [Tim
 }
 
 /// The nanoseconds of a call. How many calls are needed is found by making them, so that the caches are warm.
-pub fn repetition(call: &mut impl FnMut()) -> f64 {
+fn repetition(call: &mut impl FnMut()) -> f64 {
     let mut calls = 1u32;
     while elapsed(calls, call) < SHORTEST {
         calls *= 2;
