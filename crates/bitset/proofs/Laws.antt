@@ -11,7 +11,7 @@ use borrow.Author.Tests.{eq-eqb, ne-eqb, eqb-true}
 use lib.Dec.{eqb, lit<}
 use lib.Pow.{mod-pow-add, pow-mono}
 use Rattle.lists.specs.Sum.{ind, count}
-use Rattle.lists.proofs.Tests.{true≢false, either, and-no-right, and-true, or-left, or-right, or-none, lt-or-le}
+use Rattle.lists.proofs.Tests.{true≢false, either, and-no-right, and-true, or-left, or-right, or-none, same-or-not, lt-or-le}
 use Rattle.lists.proofs.Sums.{below-suc, sum-suc, sum-none, sum-ext, sum-at, ind-le, count-le, count-ext, count-past, count-without}
 use Rattle.bitset.specs.Set.{member, setOf, sizeOf, inserted, removed, restricted, first, lowestOf}
 use Rattle.bitset.proofs.Digits.{digit-ind, member-top, member-lower, member-past}
@@ -59,6 +59,27 @@ member-over = member-past
 pub set-ext : (n : ℕ) (p q : ℕ → Bool) → ((i : ℕ) → i < n → p i ≡ q i) → setOf n p ≡ setOf n q
 unfolding setOf
 set-ext n p q h = sum-ext n (λ i. ind (p i) * 2 ^ i) (λ i. ind (q i) * 2 ^ i) (λ i l. ap (λ (b : Bool). ind b * 2 ^ i) (h i l))
+
+-- indices that fail from n on don't count
+pub set-past : (n m : ℕ) (p : ℕ → Bool) → n ≤ m → ((i : ℕ) → n ≤ i → p i ≡ false) → setOf m p ≡ setOf n p
+set-past n zero p l h =
+    let e : n ≡ 0 = omega arith in
+    ap (λ (x : ℕ). setOf x p) (sym e)
+set-past n (suc m) p l h =
+    ⊎-elim
+    (λ (e : n ≡ suc m). ap (λ (x : ℕ). setOf x p) (sym e))
+    (λ (ne : n ≡ suc m → ⊥).
+    let k : n ≤ m = omega arith in
+    set-suc m p ∙ ap (λ (b : Bool). setOf m p + ind b * 2 ^ m) (h m k) ∙ omega arith ∙ set-past n m p k h)
+    (same-or-not n (suc m))
+
+-- one index more, as a number
+pub set-more : (n : ℕ) (p : ℕ → Bool) → setOf (n + 1) p ≡ setOf n p + ind (p n) * 2 ^ n
+set-more n p = ap (λ (m : ℕ). setOf m p) (add-one n) ∙ set-suc n p
+
+pub digit-member : (s i : ℕ) → s / 2 ^ i % 2 ≡ ind (member s i)
+unfolding member
+digit-member s i = digit-ind (s / 2 ^ i)
 
 -- the members below n, as a remainder
 pub set-members : (n s : ℕ) → setOf n (member s) ≡ s % 2 ^ n
@@ -131,11 +152,11 @@ insert-add s i h l y =
 pub insert-next : (n : ℕ) (p : ℕ → Bool) → n < 16 → p n ≡ true → inserted (setOf n p) n ≡ setOf (n + 1) p
 insert-next n p l y =
     insert-add (setOf n p) n (set-lt-16 n p (omega arith)) l (member-set-past n p n (omega arith))
-    ∙ sym (ap (λ (m : ℕ). setOf m p) (add-one n) ∙ set-suc n p ∙ ap (λ (b : Bool). setOf n p + ind b * 2 ^ n) y ∙ omega arith)
+    ∙ sym (set-more n p ∙ ap (λ (b : Bool). setOf n p + ind b * 2 ^ n) y ∙ omega arith)
 
 pub insert-skip : (n : ℕ) (p : ℕ → Bool) → p n ≡ false → setOf n p ≡ setOf (n + 1) p
 insert-skip n p y =
-    sym (ap (λ (m : ℕ). setOf m p) (add-one n) ∙ set-suc n p ∙ ap (λ (b : Bool). setOf n p + ind b * 2 ^ n) y ∙ omega arith)
+    sym (set-more n p ∙ ap (λ (b : Bool). setOf n p + ind b * 2 ^ n) y ∙ omega arith)
 
 -- ---- removing
 pub remove-lt : (s i : ℕ) → removed s i < 2 ^ 16
