@@ -16,7 +16,7 @@ use Rattle.bitset.specs.Set.{member}
 use Rattle.wire.specs.declared.Call.the-variants.{Core, Choose}
 use Rattle.wire.proofs.Laws.{call-core, call-choose}
 use Rattle.reed_solomon.specs.Encode.{pieceOf}
-use Rattle.matching.specs.Graph.{neighbour}
+use Rattle.graph.specs.Neighbour.{neighbour}
 use Rattle.protocol.specs.Calls.{coreOf}
 use Rattle.protocol.specs.declared.State.{State}
 use Rattle.protocol.specs.Calls.{Carried, coreCall, chooseCall}

@@ -11,8 +11,8 @@ use Rattle.lists.proofs.Tests.{either, same-or-not, and-left, and-right, and-bo
 use Rattle.lists.proofs.Sums.{count-not}
 use Rattle.bitset.specs.Set.{member}
 use Rattle.settings.specs.Valid.{Quorum}
-use Rattle.matching.specs.Graph.{neighbour}
-use Rattle.matching.proofs.Laws.{neighbour-self, neighbour-other}
+use Rattle.graph.specs.Neighbour.{neighbour}
+use Rattle.graph.proofs.Laws.{neighbour-self, neighbour-other}
 use Rattle.star.specs.declared.Sets.{Sets}
 use Rattle.star.specs.Star.{starOf, refusalFor, found}
 use Rattle.star.proofs.Laws.{e-below, e-size, not-found, no-sets, clique-core, one-word}

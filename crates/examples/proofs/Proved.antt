@@ -13,7 +13,7 @@ use Rattle.reed_solomon.specs.Encode.{stripe, pieceOf, encodeRefusal, encodeOf}
 use Rattle.lists.specs.Join.{joined}
 use Rattle.reed_solomon.specs.Decode.{received, agreement, points, column, stripeOf, isFound, decodeRefusal, rebuiltOf, decodeOf}
 use Rattle.phase_king.specs.Bit.{zeroSeen, oneSeen}
-use Rattle.matching.specs.Graph.{neighbour}
+use Rattle.graph.specs.Neighbour.{neighbour}
 use Rattle.matching.specs.Matching.{matched}
 use Rattle.matching.specs.First.{firstFound, ofSize, upTo, matchingOf}
 use Rattle.star.specs.Star.{struck, setC, lacks, setD, atLeast, setF, setE, setsFrom, noSets, isLarge, starFrom, refusalFor, starOf}

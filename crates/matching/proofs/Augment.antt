@@ -13,7 +13,8 @@ use lib.ListN.{length}
 use Rattle.lists.specs.Sum.{count}
 use Rattle.lists.proofs.Tests.{true≢false, fails, and-left, and-right, or-cases, or-left, or-right, or-neither}
 use Rattle.lists.proofs.Sums.{count-none, count-split, count-once, count-one}
-use Rattle.matching.specs.Matching.{Pair, Each, Before, Disjoint, Rising, IsMatching, FirstLargest, Missing, anyPair, isEnd, matched}
+use Rattle.graph.specs.Pairs.{Pair, Before}
+use Rattle.matching.specs.Matching.{Each, Disjoint, Rising, IsMatching, FirstLargest, Missing, anyPair, isEnd, matched}
 use Rattle.matching.proofs.Pairs.{tri, each-map, each-both, disjoint-sym, widen, keep, keep-matching, keep-split, one-each}
 
 -- ---- one of the pairs

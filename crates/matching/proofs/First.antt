@@ -12,7 +12,8 @@ use lib.ListN.{length}
 use Rattle.lists.specs.Sum.{count}
 use Rattle.lists.proofs.Tests.{true≢false, and-left, and-right, and-both}
 use Rattle.lists.proofs.Sums.{below-suc, count-le}
-use Rattle.matching.specs.Matching.{Pair, Before, IsMatching, NotAfter, FirstLargest, Missing}
+use Rattle.graph.specs.Pairs.{Pair, Before}
+use Rattle.matching.specs.Matching.{IsMatching, NotAfter, FirstLargest, Missing}
 use Rattle.matching.specs.First.{orElse, front, firstFound, ofSize, orList, upTo, matchingOf}
 use Rattle.matching.specs.Steps.{Joined, AtMost, NoneOfSize, FirstOfSize}
 use Rattle.matching.proofs.Pairs.{tri, each-map, widen, two-each}

@@ -1,12 +1,6 @@
--- What a crate above may know of the neighbour graph and its matchings besides the contracts.
+-- What a crate above may know of matchings besides the contracts.
 --   Sets
 --     in-lt, in-set, set-in, some-in   members of a number of 16 digits, of the set of a test, of any set
---   Graph
---     neighbour-self     everyone is its own neighbour
---     neighbour-sym      neighbours are so both ways
---     neighbour-other    others are neighbours if they mark each other
---     neighbour-same     only the marks of the two count
---     complement-member  row i of the complement lacks exactly the neighbours of i below n
 --   The first largest matching, M = matchingOf n adj
 --     matching-first     M meets the relation
 --     one-matching       nothing else does
@@ -23,7 +17,6 @@
 --     pigeonhole         members that have a pair each, no two the same, are no more than the pairs
 --     one-each           pairs that have a member each are no more than the members
 pub use Rattle.matching.proofs.Sets.{in-lt, in-set, set-in, some-in}
-pub use Rattle.matching.proofs.Graph.{neighbour-self, neighbour-sym, neighbour-other, neighbour-same, complement-member}
 pub use Rattle.matching.proofs.First.{matching-first, one-matching, same-matching, matching-half}
 pub use Rattle.matching.proofs.Stored.{pairs-stored, stored-at, count-stored, pairs-none, pairs-suc}
 pub use Rattle.matching.proofs.Augment.{Among, each-among, any-in, any-of, pair-at, matched-none, matched-cons, matched-in, matched-of, matched-lt, ends-of, end-small, end-large, no-free-pair, no-augmenting, pigeonhole}

@@ -12,7 +12,8 @@ use lib.ListN.{length}
 use Rattle.lists.specs.Sum.{count}
 use Rattle.lists.proofs.Tests.{and-both, same-or-not, lt-or-le}
 use Rattle.lists.proofs.Sums.{count-without}
-use Rattle.matching.specs.Matching.{Pair, Each, Before, Disjoint, Rising, IsMatching}
+use Rattle.graph.specs.Pairs.{Pair, Before}
+use Rattle.matching.specs.Matching.{Each, Disjoint, Rising, IsMatching}
 
 pub tri : (a b : ℕ) → (a < b) ⊎ ((a ≡ b) ⊎ (b < a))
 tri a b = ⊎-elim (λ (h : a < b). inl h) (λ (h : b ≤ a). ⊎-elim (λ e. inr (inl e)) (λ n. inr (inr (omega arith))) (same-or-not a b)) (lt-or-le a b)

@@ -13,7 +13,8 @@ use lib.ListN.{length}
 use Rattle.lists.specs.Sum.{count}
 use Rattle.lists.proofs.Tests.{or-cases, or-neither, same-or-not}
 use Rattle.lists.proofs.Sums.{count-one}
-use Rattle.matching.specs.Matching.{Pair, IsMatching, NotAfter}
+use Rattle.graph.specs.Pairs.{Pair}
+use Rattle.matching.specs.Matching.{IsMatching, NotAfter}
 use Rattle.matching.specs.Steps.{Joined, AtMost, NoneOfSize, FirstOfSize}
 use Rattle.matching.proofs.Pairs.{tri, each-map, each-both, widen, keep, keep-matching, keep-split, two-each, one-each}
 

@@ -14,7 +14,7 @@ use Rattle.lists.proofs.Sums.{below-suc, count-le}
 use Rattle.bitset.specs.Set.{member, sizeOf, inserted, removed, intersection, difference, union, lowestOf}
 use Rattle.bitset.proofs.Laws.{size-le, size-below, size-remove, insert-lt, remove-lt, lowest-member, lowest-least, lowest-some, member-over}
 use Rattle.bitset.proofs.Operations.{intersection-lt, difference-lt}
-use Rattle.matching.specs.Matching.{Pair}
+use Rattle.graph.specs.Pairs.{Pair}
 use Rattle.matching.specs.Steps.{In, Edge, Symmetric, Joined, Within, AtMost, NoneOfSize, FirstOfSize, Closed, Searched, Largest}
 use Rattle.matching.specs.First.{ends, stored}
 use Rattle.matching.proofs.Sets.{in-lt, not-in, in-intersection, intersection-in, difference-in, in-union, union-left, union-right, in-remove, remove-in, in-single, single-in, difference-fewer}

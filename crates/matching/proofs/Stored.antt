@@ -5,7 +5,7 @@ use Prim.Native.Nat.{ℕ, zero, suc, _≤_, _<_}
 use native.Mathlib.Omega.{arith}
 use lib.ListN.{length, getD, set, length-set}
 use lib.Seq.{getD-set-same, getD-set-other}
-use Rattle.matching.specs.Matching.{Pair}
+use Rattle.graph.specs.Pairs.{Pair}
 use Rattle.matching.specs.First.{ends, stored, pairs, pairsOf}
 use Rattle.matching.proofs.Augment.{Among}
 use Rattle.lists.proofs.Sums.{below-suc}

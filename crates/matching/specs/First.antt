@@ -17,7 +17,7 @@ use mathlib.Core.Option.{Option, none, some}
 use Prim.Native.Nat.{ℕ, zero, suc}
 use lib.Dec.{eqb}
 use lib.ListN.{length, getD, set, replicate}
-use Rattle.matching.specs.Matching.{Pair}
+use Rattle.graph.specs.Pairs.{Pair}
 use Rattle.matching.specs.declared.Matching.{Matching}
 
 abbrev pub orElse : Option (List Pair) → Option (List Pair) → Option (List Pair)

@@ -1,5 +1,4 @@
--- The neighbour graph, matchings of the pairs that are not neighbours, and the first largest one.
-pub mod Graph
+-- Matchings of the pairs that are not neighbours, and the first largest one.
 pub mod Matching
 pub mod First
 pub mod Steps

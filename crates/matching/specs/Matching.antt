@@ -1,8 +1,6 @@
 -- Matchings, and which of them the star uses (document 01, 'Star and core': of the largest matchings among the pairs that are
 -- not neighbours, the first in dictionary order; pairs with the smaller number first, listed in rising order).
---   Pair              two controllers, by index
 --   Each P M          every pair of M passes P
---   Before p q        p comes before q in dictionary order
 --   Disjoint p q      p and q have no end in common
 --   Rising M          the pairs of M are disjoint and in rising order
 --   IsMatching P M    M is a matching of pairs that pass P
@@ -19,16 +17,11 @@ use mathlib.Core.Bool.{Bool, false, _||_}
 use Prim.Native.Nat.{ℕ, _≤_, _<_}
 use lib.Dec.{eqb}
 use lib.ListN.{length}
-
-abbrev pub Pair : Type 0
-Pair = ℕ × ℕ
+use Rattle.graph.specs.Pairs.{Pair, Before}
 
 abbrev pub Each : (Pair → Type 0) → List Pair → Type 0
 Each P [] = Unit {0}
 Each P (p ∷ M) = P p × Each P M
-
-abbrev pub Before : Pair → Pair → Type 0
-Before p q = (p .0 < q .0) ⊎ ((p .0 ≡ q .0) × (p .1 < q .1))
 
 abbrev pub Disjoint : Pair → Pair → Type 0
 Disjoint p q = (p .0 ≡ q .0 → ⊥) × (p .0 ≡ q .1 → ⊥) × (p .1 ≡ q .0 → ⊥) × (p .1 ≡ q .1 → ⊥)

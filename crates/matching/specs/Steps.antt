@@ -1,4 +1,5 @@
 -- What the private functions of the search promise. A graph is given by rows of sets, as `complement` makes them.
+--   complement n adj    row i has those with whom i makes a missing pair: 16 rows, empty from n on
 --   In s x              x is a member of the set s
 --   Edge graph x y      row x of the graph has y
 --   Symmetric graph     row x has y where row y has x
@@ -15,10 +16,16 @@ use mathlib.Core.List.{List}
 use mathlib.Core.Bool.{Bool, true, false}
 use Prim.Native.Nat.{ℕ, _≤_, _<_}
 use lib.ListN.{length, getD}
+use Rattle.lists.specs.Fill.{tabulate}
 use Rattle.bitset.specs.Set.{member}
-use Rattle.matching.specs.Matching.{Pair, IsMatching, NotAfter, FirstLargest}
+use Rattle.graph.specs.Neighbour.{missing}
+use Rattle.graph.specs.Pairs.{Pair}
+use Rattle.matching.specs.Matching.{IsMatching, NotAfter, FirstLargest}
 use Rattle.matching.specs.First.{ends, stored}
 use Rattle.matching.specs.declared.Matching.{Matching}
+
+unfoldable pub complement : ℕ → (ℕ → ℕ → Bool) → List ℕ
+complement n adj = tabulate (missing n adj) 16
 
 abbrev pub In : ℕ → ℕ → Type 0
 In s x = member s x ≡ true

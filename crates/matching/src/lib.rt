@@ -1,5 +1,5 @@
-// The neighbour graph of rows of marks, and the first largest matching of the pairs that are not neighbours (document 01, 'Star
-// and core'). Index i stands for controller i + 1.
+// The first largest matching of the pairs that are not neighbours (document 01, 'Star and core'). The graph comes as its missing pairs
+// (document 02, U9), of which the search makes its rows once. Index i stands for controller i + 1.
 use bitset::below;
 use bitset::difference;
 use bitset::insert;
@@ -9,65 +9,24 @@ use bitset::member;
 use bitset::remove;
 use bitset::size;
 use bitset::union;
+use graph::missing_row;
 ghost use mathlib.Core.Path.{_≡_};
 ghost use mathlib.Core.Bool.{true};
 ghost use mathlib.Core.List.{[]};
 ghost use Prim.Native.Nat.{_<_, _≤_, min};
 ghost use lib.ListN.{set};
-ghost use Rattle.matching.specs.Graph.{neighbour, missing, complement};
+ghost use Rattle.graph.specs.Bits.{adjacent};
 ghost use Rattle.matching.specs.First.{matchingOf, ends, stored};
-ghost use Rattle.matching.specs.Steps.{In, Symmetric, Within, AtMost, NoneOfSize, Closed, Searched, Largest};
+ghost use Rattle.matching.specs.Steps.{complement, In, Symmetric, Within, AtMost, NoneOfSize, Closed, Searched, Largest};
 
-// n, or 16 where it is more.
-fn at_most_16(n: usize) -> usize
-    ensures { λ r. ⌜ r ≡ min n 16 ⌝ }
+// The rows that the search works on: row i has those with whom i makes a missing pair below n.
+fn complement(bits: [u8; 15], n: usize) -> [u16; 16]
+    ensures { λ r. ⌜ r ≡ complement (min n 16) (adjacent bits) ⌝ }
 {
-    if n < 16 {
-        return n;
-    }
-    16
-}
-
-// Whether i and j are neighbours.
-fn neighbours(rows: &[u16; 16], i: usize, j: usize) -> bool
-    requires { ⌜ (i < 16) × (j < 16) ⌝ }
-    ensures { λ r. ⌜ r ≡ neighbour (now (rows .entry)) i j ⌝ }
-{
-    if i == j {
-        return true;
-    }
-    if member(rows[i], j) {
-        return member(rows[j], i);
-    }
-    false
-}
-
-// The indices below n that are not neighbours of i.
-fn missing_row(rows: &[u16; 16], n: usize, i: usize) -> u16
-    requires { ⌜ (n ≤ 16) × (i < 16) ⌝ }
-    ensures { λ r. ⌜ r ≡ missing n (neighbour (now (rows .entry))) i ⌝ }
-{
-    let mut s: u16 = 0;
-    let mut j: usize = 0;
-    while j < n {
-        if !neighbours(rows, i, j) {
-            s = insert(s, j);
-        }
-        j += 1;
-    }
-    s
-}
-
-// The complement graph among the indices below n, of 16 at most: row i has those that are not neighbours of i.
-// Shut out: oneself not counted as a neighbour; marks past n read (must-fail edits).
-pub fn complement(rows: &[u16; 16], n: usize) -> [u16; 16]
-    ensures { λ r. ⌜ r ≡ complement (min n 16) (neighbour (now (rows .entry))) ⌝ }
-{
-    let m = at_most_16(n);
     let mut graph = [0u16; 16];
     let mut i: usize = 0;
-    while i < m {
-        graph[i] = missing_row(rows, m, i);
+    while i < 16 {
+        graph[i] = missing_row(bits, n, i);
         i += 1;
     }
     graph
@@ -281,11 +240,11 @@ fn first_largest(graph: &[u16; 16], s: u16) -> Matching
     }
 }
 
-// Of the largest matchings of the pairs below n, of 16 at most, that are not neighbours, the first in dictionary order.
+// Of the largest matchings of the missing pairs below n, of 16 at most, the first in dictionary order.
 // Shut out: a matching that is not a largest one; one that comes later in dictionary order (must-fail edits).
-pub fn largest(rows: &[u16; 16], n: usize) -> Matching
-    ensures { λ r. ⌜ r ≡ stored (matchingOf (min n 16) (neighbour (now (rows .entry)))) ⌝ }
+pub fn largest(bits: [u8; 15], n: usize) -> Matching
+    ensures { λ r. ⌜ r ≡ stored (matchingOf (min n 16) (adjacent bits)) ⌝ }
 {
-    let graph = complement(rows, n);
+    let graph = complement(bits, n);
     first_largest(&graph, below(n))
 }

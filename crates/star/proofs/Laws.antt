@@ -12,6 +12,8 @@
 --   clique-found        if at least n - t are pairwise neighbours, the core is found; clique-core, clique-f: E and F contain all of them
 --   same-star           only who are neighbours below n counts, for any neighbour test same-from; same-rows: so only the marks
 --                       below n in the rows below n
+--   star-of-bits        the star of the bits of the rows is the star of the rows, for all rows, n and t (document 02, U9); core-of-bits: so is the core
+--   same-bits           of any bits, only those of pairs below n count
 --   core-correct        a core has at least t + 1 correct members
 --   one-word            source 001, Lemma 22: the correct members of the core hold one word
 --   own-place           a correct member of F has, at its own place, what that word has there
@@ -32,12 +34,14 @@ use Rattle.lists.proofs.Sums.{good-part, count-none-below}
 use Rattle.bitset.specs.Set.{member, sizeOf}
 use Rattle.bitset.proofs.Laws.{set-lt, member-over, size-below}
 use Rattle.settings.specs.Valid.{Quorum}
-use Rattle.matching.specs.Graph.{neighbour}
-use Rattle.matching.specs.Matching.{Pair}
+use Rattle.graph.specs.Neighbour.{neighbour}
+use Rattle.graph.specs.Pairs.{Pair, place}
+use Rattle.graph.specs.Bits.{bit, bitsOf, adjacent}
+use Rattle.graph.proofs.Laws.{neighbour-sym, neighbour-self, neighbour-same, adjacent-of, adjacent-same}
 use Rattle.matching.specs.First.{matchingOf}
-use Rattle.matching.proofs.Laws.{neighbour-sym, neighbour-self, neighbour-same, matching-first, same-matching}
+use Rattle.matching.proofs.Laws.{matching-first, same-matching}
 use Rattle.star.specs.declared.Sets.{Sets}
-use Rattle.star.specs.Star.{setC, setD, setF, setE, setsFrom, noSets, isLarge, starFrom, refusalFor, starOf, found}
+use Rattle.star.specs.Star.{setC, setD, setF, setE, setsFrom, noSets, isLarge, starFrom, refusalFor, starOf, starOfBits, found}
 use Rattle.star.proofs.Parts.{c-lt, at-least-lt, sets-same}
 use Rattle.star.proofs.Answer.{ends-below}
 pub use Rattle.star.proofs.Answer.{refusal-0, 0-refusal}
@@ -71,12 +75,35 @@ same-from n t adj nadj same =
     sets-same n adj nadj same t (matchingOf n adj) (ends-below n adj) ∙ ap (setsFrom n t nadj) (same-matching n adj nadj same) in
     ap (λ (s : Sets). cond (isLarge n t s) s (noSets 0)) e
 
+-- the same with the refusals: it need hold only where the settings are valid
+same-valid : (n t : ℕ) (adj nadj : ℕ → ℕ → Bool) → (Quorum n t → (i j : ℕ) → i < n → j < n → adj i j ≡ nadj i j)
+    → cond (eqb (refusalFor n t) 0) (starFrom n t adj) (noSets (refusalFor n t)) ≡ cond (eqb (refusalFor n t) 0) (starFrom n t nadj) (noSets (refusalFor n t))
+same-valid n t adj nadj same = go (eqb (refusalFor n t) 0) refl
+  where
+    go : (b : Bool) → eqb (refusalFor n t) 0 ≡ b → cond b (starFrom n t adj) (noSets (refusalFor n t)) ≡ cond b (starFrom n t nadj) (noSets (refusalFor n t))
+    go true e = same-from n t adj nadj (same (refusal-0 n t (eqb-true (refusalFor n t) 0 e)))
+    go false e = refl
+
 pub same-star : (rows nrows : List ℕ) (n t : ℕ) → ((i j : ℕ) → i < n → j < n → neighbour rows i j ≡ neighbour nrows i j) → starOf rows n t ≡ starOf nrows n t
 unfolding starOf
-same-star rows nrows n t same = ap (λ (s : Sets). cond (eqb (refusalFor n t) 0) s (noSets (refusalFor n t))) (same-from n t (neighbour rows) (neighbour nrows) same)
+same-star rows nrows n t same = same-valid n t (neighbour rows) (neighbour nrows) (λ _. same)
 
 pub same-rows : (rows nrows : List ℕ) (n t : ℕ) → ((i j : ℕ) → i < n → j < n → member (getD rows i 0) j ≡ member (getD nrows i 0) j) → starOf rows n t ≡ starOf nrows n t
 same-rows rows nrows n t same = same-star rows nrows n t (λ i j li lj. neighbour-same rows nrows i j (same i j li lj) (same j i lj li))
+
+-- the star of the bits of the rows is the star of the rows
+pub star-of-bits : (rows : List ℕ) (n t : ℕ) → starOfBits (bitsOf n (neighbour rows)) n t ≡ starOf rows n t
+unfolding starOf starOfBits
+star-of-bits rows n t =
+    same-valid n t (adjacent (bitsOf n (neighbour rows))) (neighbour rows) (λ q. adjacent-of n (neighbour rows) (neighbour-self rows) (neighbour-sym rows) (q .n-most))
+
+pub core-of-bits : (rows : List ℕ) (n t : ℕ) → starOfBits (bitsOf n (neighbour rows)) n t .e ≡ starOf rows n t .e
+core-of-bits rows n t = ap (λ (s : Sets). s .e) (star-of-bits rows n t)
+
+-- bits of indices past n are not read
+pub same-bits : (a b : List ℕ) (n t : ℕ) → ((i j : ℕ) → i < j → j < n → bit a (place i j) ≡ bit b (place i j)) → starOfBits a n t ≡ starOfBits b n t
+unfolding starOfBits
+same-bits a b n t same = same-valid n t (adjacent a) (adjacent b) (λ q. adjacent-same n a b (q .n-most) same)
 
 module _ (rows : List ℕ) (n t : ℕ) where
   abbrev S : Sets

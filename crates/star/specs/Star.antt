@@ -12,7 +12,8 @@
 --   isLarge n t s        C has at least n - 2t members, D at least n - t, F and E at least 2t + 1
 --   starFrom n t adj     the four sets of the first largest matching if they are large enough, else none
 --   refusalFor n t       the number with which the star refuses n and t; 0 where it does not
---   starOf rows n t      what `find` answers
+--   starOf rows n t      the star of the graph of rows of marks
+--   starOfBits bits n t  the star of the graph of any 120 bits (document 02, U9)
 --   found s              the core is found: E is not empty
 use mathlib.Core.List.{List}
 use mathlib.Core.Bool.{Bool, true, cond, not, _&&_}
@@ -22,8 +23,10 @@ use Rattle.lists.specs.Sum.{count}
 use Rattle.bitset.specs.Set.{member, setOf, sizeOf}
 use Rattle.settings.specs.declared.Entry.the-variants.{Star}
 use Rattle.settings.specs.Refusal.{refusalOf}
-use Rattle.matching.specs.Graph.{neighbour}
-use Rattle.matching.specs.Matching.{Pair, anyPair, matched}
+use Rattle.graph.specs.Neighbour.{neighbour}
+use Rattle.graph.specs.Pairs.{Pair}
+use Rattle.graph.specs.Bits.{adjacent}
+use Rattle.matching.specs.Matching.{anyPair, matched}
 use Rattle.matching.specs.First.{matchingOf}
 use Rattle.star.specs.declared.Sets.{Sets}
 
@@ -66,6 +69,9 @@ refusalFor n t = refusalOf Star (record { n = n; t = t; k = 0; number = 0; sende
 
 unfoldable pub starOf : List ℕ → ℕ → ℕ → Sets
 starOf rows n t = cond (eqb (refusalFor n t) 0) (starFrom n t (neighbour rows)) (noSets (refusalFor n t))
+
+unfoldable pub starOfBits : List ℕ → ℕ → ℕ → Sets
+starOfBits bits n t = cond (eqb (refusalFor n t) 0) (starFrom n t (adjacent bits)) (noSets (refusalFor n t))
 
 unfoldable pub found : Sets → Bool
 found s = ltb 0 (s .e)

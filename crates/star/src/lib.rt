@@ -6,8 +6,9 @@ use bitset::intersection;
 use bitset::member;
 use bitset::remove;
 use bitset::size;
+use graph::bits_of;
+use graph::missing_row;
 use matching::Matching;
-use matching::complement;
 use matching::largest;
 use settings::Entry;
 use settings::Settings;
@@ -15,12 +16,13 @@ use settings::refusal;
 ghost use mathlib.Core.Path.{_≡_};
 ghost use mathlib.Core.Bool.{not, _&&_};
 ghost use Prim.Native.Nat.{_^_, _<_, _≤_};
-ghost use lib.ListN.{getD};
 ghost use Rattle.bitset.specs.Set.{member, setOf, sizeOf, removed, intersection, difference};
+ghost use Rattle.graph.specs.Neighbour.{missing};
+ghost use Rattle.graph.specs.Bits.{adjacent};
 ghost use Rattle.matching.specs.Matching.{matched};
 ghost use Rattle.matching.specs.First.{pairsOf};
-ghost use Rattle.star.specs.Star.{setC, lacks, atLeast, setsFrom, noSets, isLarge, starOf};
-ghost use Rattle.star.specs.Parts.{near, Ends};
+ghost use Rattle.star.specs.Star.{setC, lacks, atLeast, setsFrom, noSets, isLarge, starOf, starOfBits};
+ghost use Rattle.star.specs.Parts.{Ends};
 
 // The number of a refusal, or 0, and the sets C, D, F and E, of which E is the core. All four are empty where the star is refused or
 // no core is found.
@@ -34,7 +36,7 @@ pub struct Sets {
 
 // The matched.
 fn matched_set(m: Matching) -> u16
-    requires { ⌜ Ends m ⌝ }
+    requires { ⌜ Ends 16 m ⌝ }
     ensures { λ r. ⌜ r ≡ setOf 16 (matched (pairsOf m)) ⌝ }
 {
     let count = m.count;
@@ -48,49 +50,48 @@ fn matched_set(m: Matching) -> u16
 }
 
 // Those that are left of c with the pair (a, b): neither an end nor a non-neighbour of both.
-fn left_by(graph: &[u16; 16], c: u16, a: usize, b: usize) -> u16
-    requires { ⌜ (a < 16) × (b < 16) ⌝ }
-    ensures { λ r. ⌜ r ≡ difference (removed (removed c a) b) (intersection (getD (now (graph .entry)) a 0) (getD (now (graph .entry)) b 0)) ⌝ }
+fn left_by(bits: [u8; 15], n: usize, c: u16, a: usize, b: usize) -> u16
+    ensures { λ r. ⌜ r ≡ difference (removed (removed c a) b) (intersection (missing n (adjacent bits) a) (missing n (adjacent bits) b)) ⌝ }
 {
-    let struck = intersection(graph[a], graph[b]);
+    let struck = intersection(missing_row(bits, n, a), missing_row(bits, n, b));
     difference(remove(remove(c, a), b), struck)
 }
 
 // The set C: the unmatched, without those that are non-neighbours of both ends of one pair.
-fn set_c(graph: &[u16; 16], n: usize, m: Matching) -> u16
-    requires { ⌜ (n ≤ 16) × Ends m ⌝ }
-    ensures { λ r. ⌜ r ≡ setC n (near (now (graph .entry))) (pairsOf m) ⌝ }
+fn set_c(bits: [u8; 15], n: usize, m: Matching) -> u16
+    requires { ⌜ (n ≤ 16) × Ends n m ⌝ }
+    ensures { λ r. ⌜ r ≡ setC n (adjacent bits) (pairsOf m) ⌝ }
 {
     let count = m.count;
     let mut c = below(n);
     let mut p: usize = 0;
     while p < count {
-        c = left_by(graph, c, m.small[p] as usize, m.large[p] as usize);
+        c = left_by(bits, n, c, m.small[p] as usize, m.large[p] as usize);
         p += 1;
     }
     c
 }
 
 // Whether i is matched and has a non-neighbour in the set c.
-fn in_b(graph: &[u16; 16], n: usize, u: u16, c: u16, i: usize) -> bool
-    requires { ⌜ (n ≤ 16) × (c < 2 ^ n) × (i < 16) ⌝ }
-    ensures { λ r. ⌜ r ≡ (member u i && lacks n (near (now (graph .entry))) c i) ⌝ }
+fn in_b(bits: [u8; 15], n: usize, u: u16, c: u16, i: usize) -> bool
+    requires { ⌜ (n ≤ 16) × (c < 2 ^ n) × (i < n) ⌝ }
+    ensures { λ r. ⌜ r ≡ (member u i && lacks n (adjacent bits) c i) ⌝ }
 {
     if member(u, i) {
-        return 0 < intersection(graph[i], c);
+        return 0 < intersection(missing_row(bits, n, i), c);
     }
     false
 }
 
 // The set D, from the matched u and the set c: all but the matched with a non-neighbour in c.
-fn set_d(graph: &[u16; 16], n: usize, u: u16, c: u16) -> u16
+fn set_d(bits: [u8; 15], n: usize, u: u16, c: u16) -> u16
     requires { ⌜ (n ≤ 16) × (c < 2 ^ n) ⌝ }
-    ensures { λ r. ⌜ r ≡ setOf n (λ i. not (member u i && lacks n (near (now (graph .entry))) c i)) ⌝ }
+    ensures { λ r. ⌜ r ≡ setOf n (λ i. not (member u i && lacks n (adjacent bits) c i)) ⌝ }
 {
     let mut d: u16 = 0;
     let mut i: usize = 0;
     while i < n {
-        if !in_b(graph, n, u, c, i) {
+        if !in_b(bits, n, u, c, i) {
             d = insert(d, i);
         }
         i += 1;
@@ -98,23 +99,22 @@ fn set_d(graph: &[u16; 16], n: usize, u: u16, c: u16) -> u16
     d
 }
 
-// How many neighbours of i are in the set s.
-fn neighbours_in(graph: &[u16; 16], s: u16, i: usize) -> usize
-    requires { ⌜ i < 16 ⌝ }
-    ensures { λ r. ⌜ r ≡ sizeOf (difference s (getD (now (graph .entry)) i 0)) ⌝ }
+// How many members of s, which are below n, are neighbours of i.
+fn neighbours_in(bits: [u8; 15], n: usize, s: u16, i: usize) -> usize
+    ensures { λ r. ⌜ r ≡ sizeOf (difference s (missing n (adjacent bits) i)) ⌝ }
 {
-    size(difference(s, graph[i]))
+    size(difference(s, missing_row(bits, n, i)))
 }
 
 // Those with at least k neighbours in the set s.
-fn at_least(graph: &[u16; 16], n: usize, s: u16, k: usize) -> u16
+fn at_least(bits: [u8; 15], n: usize, s: u16, k: usize) -> u16
     requires { ⌜ (n ≤ 16) × (s < 2 ^ n) ⌝ }
-    ensures { λ r. ⌜ r ≡ atLeast n (near (now (graph .entry))) s k ⌝ }
+    ensures { λ r. ⌜ r ≡ atLeast n (adjacent bits) s k ⌝ }
 {
     let mut f: u16 = 0;
     let mut i: usize = 0;
     while i < n {
-        if k <= neighbours_in(graph, s, i) {
+        if k <= neighbours_in(bits, n, s, i) {
             f = insert(f, i);
         }
         i += 1;
@@ -153,14 +153,14 @@ fn is_large(n: usize, t: usize, s: Sets) -> bool
 }
 
 // The four sets of a matching.
-fn sets_of(graph: &[u16; 16], n: usize, t: usize, m: Matching) -> Sets
-    requires { ⌜ (n ≤ 16) × (t ≤ n) × Ends m ⌝ }
-    ensures { λ r. ⌜ r ≡ setsFrom n t (near (now (graph .entry))) (pairsOf m) ⌝ }
+fn sets_of(bits: [u8; 15], n: usize, t: usize, m: Matching) -> Sets
+    requires { ⌜ (n ≤ 16) × (t ≤ n) × Ends n m ⌝ }
+    ensures { λ r. ⌜ r ≡ setsFrom n t (adjacent bits) (pairsOf m) ⌝ }
 {
-    let c = set_c(graph, n, m);
-    let d = set_d(graph, n, matched_set(m), c);
-    let f = at_least(graph, n, c, t + 1);
-    let e = at_least(graph, n, f, 2 * t + 1);
+    let c = set_c(bits, n, m);
+    let d = set_d(bits, n, matched_set(m), c);
+    let f = at_least(bits, n, c, t + 1);
+    let e = at_least(bits, n, f, 2 * t + 1);
     Sets {
         refusal: 0,
         c,
@@ -170,10 +170,10 @@ fn sets_of(graph: &[u16; 16], n: usize, t: usize, m: Matching) -> Sets
     }
 }
 
-// The star of the graph of 16 rows of marks, of which those of 0 .. n - 1 are read, and of them the marks of 0 .. n - 1.
+// The star of a graph given as 120 bits, of which those of pairs below n are read.
 // Shut out: a struck controller kept in C; t for t + 1 in F; another threshold in E; members past n (must-fail edits).
-pub fn find(rows: &[u16; 16], n: usize, t: usize) -> Sets
-    ensures { λ r. ⌜ r ≡ starOf (now (rows .entry)) n t ⌝ }
+pub fn of_bits(bits: [u8; 15], n: usize, t: usize) -> Sets
+    ensures { λ r. ⌜ r ≡ starOfBits bits n t ⌝ }
 {
     let number = refusal(
         Entry::Star,
@@ -189,10 +189,18 @@ pub fn find(rows: &[u16; 16], n: usize, t: usize) -> Sets
     if number != 0 {
         return no_sets(number);
     }
-    let graph = complement(rows, n);
-    let s = sets_of(&graph, n, t, largest(rows, n));
+    let s = sets_of(bits, n, t, largest(bits, n));
     if is_large(n, t, s) {
         return s;
     }
     no_sets(0)
+}
+
+// The star of the graph of 16 rows of marks, of which those of 0 .. n - 1 are read, and of them the marks of 0 .. n - 1. It is that of the
+// rows' missing pairs (`star-of-bits`).
+// Shut out: the star of the bits of the first t controllers; n and t the other way round.
+pub fn find(rows: &[u16; 16], n: usize, t: usize) -> Sets
+    ensures { λ r. ⌜ r ≡ starOf (now (rows .entry)) n t ⌝ }
+{
+    of_bits(bits_of(rows, n), n, t)
 }

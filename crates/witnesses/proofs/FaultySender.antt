@@ -26,7 +26,7 @@ use Rattle.reed_solomon.specs.Decode.{received, agreement as agreementOf, point
 use Rattle.dispersal.specs.Dispersal.{sentBlock, receivedBlock, traded, sentPieces, isMarked, marksOf, marksMessage, sentMarks}
 use Rattle.phase_king.specs.Bit.{zeroSeen, oneSeen, held, support, weak, settled}
 use Rattle.phase_king.specs.Matrix.{matrixOf, said, kingSays, firstMatrix, zerosOf, onesOf, heldOf, weakOf, settledOf, seenMessage}
-use Rattle.matching.specs.Graph.{neighbour}
+use Rattle.graph.specs.Neighbour.{neighbour}
 use Rattle.matching.specs.Matching.{matched}
 use Rattle.matching.specs.First.{firstFound, ofSize, upTo, matchingOf}
 use Rattle.star.specs.Star.{struck, setC, lacks, setD, atLeast, setF, setE, setsFrom, noSets, isLarge, starFrom, refusalFor, starOf}

@@ -1,28 +1,28 @@
 -- `matching::complement` meets its contract: the loop fills the rows from the front.
-use Rattle.matching.specs.Graph.{neighbour, missing, complement}
-use Rattle.lists.proofs.Fills.{filled-none, fill-more}
+use Rattle.graph.specs.Neighbour.{missing}
+use Rattle.graph.specs.Bits.{adjacent}
+use Rattle.graph.proofs.Laws.{missing-16}
+use Rattle.matching.specs.Steps.{complement}
+use Rattle.lists.proofs.Fills.{filled-none, fill-more, fill-end}
 use Rattle.lists.specs.Fill.{filled}
 use lib.ListN.{replicate}
 use native.Mathlib.Omega.{arith}
-use mathlib.Core.Path.{_≡_, sym, ap, _∙_}
-use Prim.Native.Nat.{ℕ, _-_, _≤_, min}
+use mathlib.Core.Path.{_≡_, sym, _∙_}
+use Prim.Native.Nat.{_-_, _≤_, min}
 use Rattle.matching.proofs.complement.Statement.{statement}
 use Rattle.matching.proofs.complement.Tie as tie
 
 abbrev Inv-loop : tie.InvT-loop
-Inv-loop rows n m graph₀ i₀ graph i = (m ≡ min n 16) × (i ≤ m) × (graph ≡ filled (missing m (neighbour rows)) i (replicate 16 0))
+Inv-loop bits n graph₀ i₀ graph i = (i ≤ 16) × (graph ≡ filled (missing (min n 16) (adjacent bits)) i (replicate 16 0))
 
 abbrev μ-loop : tie.MeasureT-loop
-μ-loop rows n m graph₀ i₀ graph i = m - i
-
-at-most-16-requires : tie.Need-at-most-16-requires Inv-loop μ-loop
-at-most-16-requires c κs = tt
+μ-loop bits n graph₀ i₀ graph i = 16 - i
 
 loop-holds : tie.Need-loop-holds Inv-loop μ-loop
-loop-holds c = (c .at-most-16 .ensures, omega arith, sym (filled-none _ _))
+loop-holds c = (omega arith, sym (filled-none _ _))
 
 missing-row-requires : tie.Need-missing-row-requires Inv-loop μ-loop
-missing-row-requires c κs = omega arith
+missing-row-requires c κs = tt
 
 mul-graph : tie.Need-mul-graph Inv-loop μ-loop
 mul-graph c = omega arith
@@ -39,20 +39,15 @@ loop-less c = omega arith
 loop-again : tie.Need-loop-again Inv-loop μ-loop
 loop-again c =
     let L = c .before .before in
-    let A = L .before in (
-      L .loop .inv .0,
+    let A = L .before .args in (
       omega arith,
-      fill-more (missing (A .at-most-16 .result) (neighbour (A .before .args .rows .now))) (L .loop .i) (replicate 16 0) (L .loop .graph) (c .missing-row .result) (omega arith) (L .loop .inv .2) (c .missing-row .ensures),
+      fill-more (missing (min (A .n) 16) (adjacent (A .bits))) (L .loop .i) (replicate 16 0) (L .loop .graph) (c .missing-row .result) (omega arith) (L .loop .inv .1)
+          (c .missing-row .ensures ∙ missing-16 (A .bits) (A .n) (L .loop .i)),
     )
 
 returns : tie.Need-returns Inv-loop μ-loop
 unfolding complement
-returns c =
-    let L = c .before in
-    let A = L .before in
-    let e : L .loop .i ≡ A .at-most-16 .result = omega arith in
-    L .loop .inv .2 ∙ ap (λ (x : ℕ). filled (missing (A .at-most-16 .result) (neighbour (A .before .args .rows .now))) x (replicate 16 0)) e
-    ∙ ap (λ (x : ℕ). filled (missing x (neighbour (A .before .args .rows .now))) x (replicate 16 0)) (L .loop .inv .0)
+returns c = fill-end _ _ _ _ (c .before .loop .inv .1) (omega arith)
 
 pub complement-spec : {M : Type 1} → statement M
 complement-spec =
@@ -60,7 +55,6 @@ complement-spec =
     (tie.spec
     Inv-loop
     μ-loop
-    at-most-16-requires
     loop-holds
     missing-row-requires
     mul-graph

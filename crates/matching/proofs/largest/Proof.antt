@@ -1,6 +1,7 @@
 -- `matching::largest` meets its contract: the relation that the search meets has one answer.
-use Rattle.matching.proofs.Graph.{neighbour-sym, complement-sym, matching-is}
-use Rattle.matching.specs.Graph.{neighbour}
+use Rattle.matching.proofs.Graph.{complement-sym, matching-is}
+use Rattle.graph.specs.Bits.{adjacent}
+use Rattle.graph.proofs.Laws.{adjacent-sym}
 use Rattle.matching.specs.Steps.{Symmetric}
 use Rattle.matching.specs.First.{stored}
 use native.Mathlib.Omega.{arith}
@@ -20,14 +21,14 @@ first-largest-requires : tie.Need-first-largest-requires
 first-largest-requires c κs =
     let C = c .before .before in
     let A = C .before .args in
-    subst Symmetric (sym (C .complement .ensures)) (complement-sym (min (A .n) 16) (neighbour (A .rows .now)) (omega arith) (neighbour-sym (A .rows .now)))
+    subst Symmetric (sym (C .complement .ensures)) (complement-sym (min (A .n) 16) (adjacent (A .bits)) (omega arith) (adjacent-sym (A .bits)))
 
 returns : tie.Need-returns
 returns c =
     let C = c .before .before .before in
     let A = C .before .args in
     let r = c .first-largest .ensures in
-    r .2 ∙ ap stored (matching-is (min (A .n) 16) (neighbour (A .rows .now)) (omega arith) _ _ (r .0) (C .complement .ensures) (c .before .below .ensures) (r .1))
+    r .2 ∙ ap stored (matching-is (min (A .n) 16) (adjacent (A .bits)) (omega arith) _ _ (r .0) (C .complement .ensures) (c .before .below .ensures) (r .1))
 
 pub largest-spec : {M : Type 1} → statement M
 largest-spec =

@@ -1,83 +1,23 @@
--- `star::find` meets its contract: the refusal, then the star of the first largest matching.
-use Rattle.star.proofs.Answer.{refusal-0, refused, ends, sets-made, answered, not-large}
-use Rattle.star.specs.Star.{refusalFor}
-use Rattle.settings.specs.Valid.{Quorum}
-use native.Mathlib.Omega.{arith}
-use mathlib.Core.Path.{_≡_, sym, _∙_}
+-- `star::find` meets its contract: the star of the bits of the rows is the star of the rows.
+use Rattle.star.proofs.Laws.{star-of-bits}
+use Rattle.star.specs.Star.{starOfBits}
+use mathlib.Core.List.{List}
+use mathlib.Core.Path.{ap, _∙_}
+use Prim.Native.Nat.{ℕ}
 use borrow.Author.Needs.{needs}
 use Rattle.star.proofs.find.Statement.{statement}
 use Rattle.star.proofs.find.Tie as tie
 
-refusal-requires : tie.Need-refusal-requires
-refusal-requires c κs = search needs
+bits-of-requires : tie.Need-bits-of-requires
+bits-of-requires c κs = search needs
 
-no-sets-requires : tie.Need-no-sets-requires
-no-sets-requires c κs = search needs
+of-bits-requires : tie.Need-of-bits-requires
+of-bits-requires c κs = search needs
 
 returns : tie.Need-returns
-unfolding refusalFor
-returns c = refused _ _ _ _ _ (c .before .before .refusal .ensures) (c .before .if1 .taken) (c .no-sets .ensures)
-
-complement-requires : tie.Need-complement-requires
-complement-requires c κs = search needs
-
-largest-requires : tie.Need-largest-requires
-largest-requires c κs = search needs
-
--- the settings that are let pass
-taken : (c : tie.Else1) → refusalFor (c .before .before .args .n) (c .before .before .args .t) ≡ 0
-unfolding refusalFor
-taken c = sym (c .before .refusal .ensures) ∙ c .if1 .left
-
-valid : (c : tie.Else1) → Quorum (c .before .before .args .n) (c .before .before .args .t)
-valid c = refusal-0 _ _ (taken c)
-
-sets-of-requires : tie.Need-sets-of-requires
-sets-of-requires c κs =
-    let E = c .before .before .before in
-    let A = E .before .before .args in
-    let q = valid E in
-    (q .n-most, omega (arith, q .t-most), ends (A .rows .now) (A .n) (A .t) (taken E) (q .n-most) _ (c .largest .ensures))
-
-is-large-requires : tie.Need-is-large-requires
-is-large-requires c κs =
-    let q = valid (c .before .before .before .before) in
-    (q .n-most, omega (arith, q .t-most))
-
-returns-2 : tie.Need-returns-2
-returns-2 c =
-    let F = c .before .before in
-    let C = F .before .before .before in
-    let E = C .before in
-    let A = E .before .before .args in
-    let q = valid E in
-    let e = sets-made (A .rows .now) (A .n) (A .t) (taken E) (q .n-most) _ _ _ (C .complement .ensures) (F .before .largest .ensures) (F .sets-of .ensures) in
-    answered (A .rows .now) (A .n) (A .t) (taken E) (q .n-most) _ e (sym (c .before .is-large .ensures) ∙ c .if2 .taken)
-
-no-sets-requires-2 : tie.Need-no-sets-requires-2
-no-sets-requires-2 c κs = search needs
-
-returns-3 : tie.Need-returns-3
-returns-3 c =
-    let F = c .before .before .before in
-    let C = F .before .before .before in
-    let E = C .before in
-    let A = E .before .before .args in
-    let q = valid E in
-    let e = sets-made (A .rows .now) (A .n) (A .t) (taken E) (q .n-most) _ _ _ (C .complement .ensures) (F .before .largest .ensures) (F .sets-of .ensures) in
-    not-large (A .rows .now) (A .n) (A .t) (taken E) (q .n-most) _ _ e (sym (c .before .before .is-large .ensures) ∙ c .before .if2 .left) (c .no-sets2 .ensures)
+returns c =
+    let A = c .before .before .args in
+    c .of-bits .ensures ∙ ap (λ (b : List ℕ). starOfBits b (A .n) (A .t)) (c .before .bits-of .ensures) ∙ star-of-bits (A .rows .now) (A .n) (A .t)
 
 pub find-spec : {M : Type 1} → statement M
-find-spec =
-    tie.close
-    (tie.spec
-    refusal-requires
-    no-sets-requires
-    returns
-    complement-requires
-    largest-requires
-    sets-of-requires
-    is-large-requires
-    returns-2
-    no-sets-requires-2
-    returns-3)
+find-spec = tie.close (tie.spec bits-of-requires of-bits-requires returns)
