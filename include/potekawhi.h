@@ -38,8 +38,9 @@ extern "C" {
 /* The length of a state in bytes. */
 #define POTEKAWHI_STATE_LENGTH 115
 
-/* The length of the rows of a matrix in bytes, and of the sets of a star. */
+/* The length of the rows of a matrix in bytes, of the missing pairs of a graph, and of the sets of a star. */
 #define POTEKAWHI_ROWS_LENGTH 32
+#define POTEKAWHI_PAIRS_LENGTH 15
 #define POTEKAWHI_SETS_LENGTH 8
 
 /* Refusals. */
@@ -110,6 +111,17 @@ uint8_t potekawhi_decode(size_t n, size_t t, size_t k, const uint8_t *slots, siz
  * two bytes each, low byte first; all zero if no core is found. `rows` has POTEKAWHI_ROWS_LENGTH bytes and `sets` POTEKAWHI_SETS_LENGTH.
  * Answers 6 if one of them has another length, else tries 1, 2; refused, nothing changes. */
 uint8_t potekawhi_star(size_t n, size_t t, const uint8_t *rows, size_t rows_length, uint8_t *sets, size_t sets_length);
+
+/* The neighbour graph of `rows`, as potekawhi_star reads them, as its missing pairs, to `pairs`: 120 bits, one for each pair of different
+ * numbers of 1 to 16, in the order of the smaller number and then the larger, (1, 2), (1, 3) .. (1, 16), (2, 3) .. (15, 16), eight to a byte,
+ * the bit worth 1 first. A bit is 1 if both numbers are at most n and they are not neighbours; an n above 16 counts as 16. `rows` has
+ * POTEKAWHI_ROWS_LENGTH bytes and `pairs` POTEKAWHI_PAIRS_LENGTH. Answers 6, and nothing changes, if one of them has another length. */
+uint8_t potekawhi_missing_pairs(size_t n, const uint8_t *rows, size_t rows_length, uint8_t *pairs, size_t pairs_length);
+
+/* The star of the neighbour graph given as its missing pairs, 120 bits as potekawhi_missing_pairs writes them, or any others: bits of numbers
+ * past n are not read. Else as potekawhi_star, and of the missing pairs of the same rows the same answer. `pairs` has POTEKAWHI_PAIRS_LENGTH
+ * bytes and `sets` POTEKAWHI_SETS_LENGTH. Answers 6 if one of them has another length, else tries 1, 2; refused, nothing changes. */
+uint8_t potekawhi_star_of_pairs(size_t n, size_t t, const uint8_t *pairs, size_t pairs_length, uint8_t *sets, size_t sets_length);
 
 /* The lengths in bytes that a call states. All are 0 where n, t or k would be refused with 1, 2 or 3, and where there is no such round or
  * call. */

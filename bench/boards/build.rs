@@ -4,7 +4,7 @@ use std::path::{Path, PathBuf};
 use std::{env, process};
 
 /// What the benchmarks call of an earlier version; there it has another prefix, and all its other functions are out of the linker's sight.
-const COMPARED: [&str; 2] = ["encode", "decode"];
+const COMPARED: [&str; 3] = ["encode", "decode", "star"];
 
 /// Copies the earlier version's archive, with its functions renamed, to the build's folder, and links it.
 fn link_earlier(archive: &Path) {

@@ -56,6 +56,7 @@ static uint8_t inbox[LONGEST_BOX];
 static uint8_t outbox[LONGEST_BOX];
 static uint8_t piece[K];
 static uint8_t rows[POTEKAWHI_ROWS_LENGTH];
+static uint8_t pairs[POTEKAWHI_PAIRS_LENGTH];
 static uint8_t sets[POTEKAWHI_SETS_LENGTH];
 static size_t call;
 static uint8_t answer;
@@ -82,6 +83,14 @@ static void decode(void) {
 
 static void star(void) {
     answer = potekawhi_star(N, T, rows, sizeof rows, sets, sizeof sets);
+}
+
+static void missing_pairs(void) {
+    answer = potekawhi_missing_pairs(N, rows, sizeof rows, pairs, sizeof pairs);
+}
+
+static void star_of_pairs(void) {
+    answer = potekawhi_star_of_pairs(N, T, pairs, sizeof pairs, sets, sizeof sets);
 }
 
 /* ---- What they are given -------------------------------------------------------------------------------------------------------- */
@@ -138,7 +147,7 @@ static void make_state(size_t c) {
 }
 
 static bool report(const char *name, size_t bytes) {
-    printf("%-18s %6zu\n", name, bytes);
+    printf("%-24s %6zu\n", name, bytes);
     return bytes > 0 && bytes < STACK_LENGTH;
 }
 
@@ -146,9 +155,11 @@ int main(void) {
     size_t most = 0;
     bool right = true;
     char name[32];
-    printf("function            bytes\n");
+    printf("function                  bytes\n");
     right = report("nothing", used(nothing)) && right;
     right = report("potekawhi_star", most_for_star()) && right && answer == POTEKAWHI_OK;
+    right = report("potekawhi_missing_pairs", used(missing_pairs)) && right && answer == POTEKAWHI_OK;
+    right = report("potekawhi_star_of_pairs", used(star_of_pairs)) && right && answer == POTEKAWHI_OK;
     right = report("potekawhi_start", used(start)) && right && answer == POTEKAWHI_OK;
     for (call = 1; call <= CALLS; call++) {
         size_t bytes;

@@ -1,5 +1,5 @@
 //! The static library `boards`, the proved controller of a Byzantine broadcast, for Rust programs. `Controller` runs one controller;
-//! `encode`, `decode`, `star` and `message` are usable by themselves. Lengths are checked before a call: a wrong one is an error, and the
+//! `encode`, `decode`, `star`, `star_of_pairs` and `message` are usable by themselves. Lengths are checked before a call: a wrong one is an error, and the
 //! library is not called. What the functions do is said in include/potekawhi.h; `raw` has them as they are.
 //!
 //! A run of four controllers, all correct, in which every message arrives:
@@ -303,20 +303,59 @@ pub struct Star {
 /// assert_eq!(boards::star(4, 1, &[0; 16]), Ok(None));
 /// ```
 pub fn star(n: usize, t: usize, rows: &[u16; 16]) -> Result<Option<Star>, Refusal> {
+    let mut sets = [0; raw::SETS_LENGTH];
+    Refusal::check(raw::star(n, t, &row_bytes(rows), &mut sets))?;
+    Ok(Star::found(&sets))
+}
+
+/// A neighbour graph as its missing pairs: a bit for each pair of different numbers of 1 to 16, in the order of the smaller number and then
+/// the larger, eight to a byte, the bit worth 1 first; it is set where the two are not neighbours.
+pub type MissingPairs = [u8; raw::PAIRS_LENGTH];
+
+/// The missing pairs of the neighbour graph of 16 rows of marks: a bit is set where both numbers are at most n and they are not neighbours.
+///
+/// ```
+/// let mut rows = [0xffff; 16];
+/// rows[0] = !(1 << 3); // controller 1 does not mark controller 4
+/// let pairs = boards::missing_pairs(4, &rows);
+/// assert_eq!(pairs[0], 0b100); // the third pair, after (1, 2) and (1, 3)
+/// assert_eq!(boards::star_of_pairs(4, 1, &pairs), boards::star(4, 1, &rows));
+/// ```
+pub fn missing_pairs(n: usize, rows: &[u16; 16]) -> MissingPairs {
+    let mut pairs = [0; raw::PAIRS_LENGTH];
+    let number = raw::missing_pairs(n, &row_bytes(rows), &mut pairs);
+    assert_eq!(number, 0, "the lengths are those of the header");
+    pairs
+}
+
+/// The star of a neighbour graph given as its missing pairs; bits of numbers past n are not read. None if no core is found.
+pub fn star_of_pairs(n: usize, t: usize, pairs: &MissingPairs) -> Result<Option<Star>, Refusal> {
+    let mut sets = [0; raw::SETS_LENGTH];
+    Refusal::check(raw::star_of_pairs(n, t, pairs, &mut sets))?;
+    Ok(Star::found(&sets))
+}
+
+/// Rows of marks as the library takes them.
+fn row_bytes(rows: &[u16; 16]) -> [u8; raw::ROWS_LENGTH] {
     let mut bytes = [0; raw::ROWS_LENGTH];
     for (pair, row) in bytes.chunks_mut(2).zip(rows) {
         pair.copy_from_slice(&row.to_le_bytes());
     }
-    let mut sets = [0; raw::SETS_LENGTH];
-    Refusal::check(raw::star(n, t, &bytes, &mut sets))?;
-    let set = |i: usize| u16::from_le_bytes([sets[2 * i], sets[2 * i + 1]]);
-    let star = Star {
-        c: set(0),
-        d: set(1),
-        f: set(2),
-        e: set(3),
-    };
-    Ok((star.e != 0).then_some(star))
+    bytes
+}
+
+impl Star {
+    /// The sets as the library writes them; none if there is no core.
+    fn found(sets: &[u8; raw::SETS_LENGTH]) -> Option<Star> {
+        let set = |i: usize| u16::from_le_bytes([sets[2 * i], sets[2 * i + 1]]);
+        let star = Star {
+            c: set(0),
+            d: set(1),
+            f: set(2),
+            e: set(3),
+        };
+        (star.e != 0).then_some(star)
+    }
 }
 
 #[cfg(test)]
@@ -439,7 +478,7 @@ mod tests {
         assert_eq!(decode(4, 2, 1, &slots(right)), Err(Refusal::T));
     }
 
-    /// Examples g and h of document 01: the pairs that are not neighbours.
+    /// Examples g and h of document 01: the pairs that are not neighbours, in rows and as bits. The bits of numbers past 4 are set.
     #[test]
     fn stars() {
         let star_without = |pairs: &[(usize, usize)]| {
@@ -447,7 +486,14 @@ mod tests {
             for (i, j) in pairs {
                 rows[i - 1] &= !(1 << (j - 1));
             }
-            star(4, 1, &rows).unwrap()
+            let mut bits = missing_pairs(4, &rows);
+            let found = star(4, 1, &rows).unwrap();
+            assert_eq!(star_of_pairs(4, 1, &bits), Ok(found));
+            // (1, 5) to (1, 16) are the places 3 to 14, the last pairs the places up to 119
+            bits[0] |= 0xf8;
+            bits[14] = 0xff;
+            assert_eq!(star_of_pairs(4, 1, &bits), Ok(found));
+            found
         };
         let found = star_without(&[(1, 4), (2, 4), (3, 4)]).unwrap();
         assert_eq!((found.c, found.d, found.f, found.e), (6, 7, 7, 7));
@@ -457,5 +503,9 @@ mod tests {
         );
         assert_eq!(star(3, 1, &[0; 16]), Err(Refusal::N));
         assert_eq!(star(4, 2, &[0; 16]), Err(Refusal::T));
+        assert_eq!(star_of_pairs(17, 5, &[0; 15]), Err(Refusal::N));
+        assert_eq!(star_of_pairs(16, 6, &[0; 15]), Err(Refusal::T));
+        assert_eq!(missing_pairs(16, &[0; 16]), [0xff; 15]);
+        assert_eq!(missing_pairs(17, &[0; 16]), [0xff; 15]);
     }
 }

@@ -2,9 +2,10 @@
 //! length may be given, as the header says. A slice is a valid pointer that is not null, and two slices of one call do not overlap where
 //! one of them is written, so that the functions here are safe to call. This is the only module with unsafe code.
 
-/// `POTEKAWHI_STATE_LENGTH`, `POTEKAWHI_ROWS_LENGTH` and `POTEKAWHI_SETS_LENGTH`.
+/// `POTEKAWHI_STATE_LENGTH`, `POTEKAWHI_ROWS_LENGTH`, `POTEKAWHI_PAIRS_LENGTH` and `POTEKAWHI_SETS_LENGTH`.
 pub const STATE_LENGTH: usize = 115;
 pub const ROWS_LENGTH: usize = 32;
+pub const PAIRS_LENGTH: usize = 15;
 pub const SETS_LENGTH: usize = 8;
 
 /// What `decode` answers where no block is close enough to the slots: `POTEKAWHI_BEYOND`.
@@ -73,6 +74,21 @@ extern "C" {
         t: usize,
         rows: *const u8,
         rows_length: usize,
+        sets: *mut u8,
+        sets_length: usize,
+    ) -> u8;
+    fn potekawhi_missing_pairs(
+        n: usize,
+        rows: *const u8,
+        rows_length: usize,
+        pairs: *mut u8,
+        pairs_length: usize,
+    ) -> u8;
+    fn potekawhi_star_of_pairs(
+        n: usize,
+        t: usize,
+        pairs: *const u8,
+        pairs_length: usize,
         sets: *mut u8,
         sets_length: usize,
     ) -> u8;
@@ -201,6 +217,35 @@ pub fn star(n: usize, t: usize, rows: &[u8], sets: &mut [u8]) -> u8 {
             t,
             rows.as_ptr(),
             rows.len(),
+            sets.as_mut_ptr(),
+            sets.len(),
+        )
+    }
+}
+
+/// `potekawhi_missing_pairs`.
+pub fn missing_pairs(n: usize, rows: &[u8], pairs: &mut [u8]) -> u8 {
+    // SAFETY: the pointers and lengths are those of slices, of which the written one overlaps no other.
+    unsafe {
+        potekawhi_missing_pairs(
+            n,
+            rows.as_ptr(),
+            rows.len(),
+            pairs.as_mut_ptr(),
+            pairs.len(),
+        )
+    }
+}
+
+/// `potekawhi_star_of_pairs`.
+pub fn star_of_pairs(n: usize, t: usize, pairs: &[u8], sets: &mut [u8]) -> u8 {
+    // SAFETY: the pointers and lengths are those of slices, of which the written one overlaps no other.
+    unsafe {
+        potekawhi_star_of_pairs(
+            n,
+            t,
+            pairs.as_ptr(),
+            pairs.len(),
             sets.as_mut_ptr(),
             sets.len(),
         )

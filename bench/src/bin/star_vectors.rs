@@ -1,5 +1,7 @@
 //! The expected output of the program star_cases, from the reference.
-use bench::reference::star::{apart as missing, from_matching, star};
+use bench::reference::star::{
+    apart as missing, from_matching, missing_pairs, star, star_of_pairs, Star,
+};
 
 /// The generator of the program: x times 1664525 plus 1013904223, modulo 2 to the 32.
 fn next(x: u64) -> u64 {
@@ -71,9 +73,25 @@ fn rows(k: usize, n: usize, t: usize) -> [u16; 16] {
     std::array::from_fn(|i| row(k, n, t, i))
 }
 
-fn play(k: usize, n: usize, t: usize) {
-    let s = star(&rows(k, n, t), n, t);
+fn print_star(k: usize, n: usize, t: usize, s: Star) {
     println!("{n} {t} {k}: {} {} {} {} {}", s.refusal, s.c, s.d, s.f, s.e);
+}
+
+fn play(k: usize, n: usize, t: usize) {
+    print_star(k, n, t, star(&rows(k, n, t), n, t));
+}
+
+/// The star of 120 bits at random, each set with a chance of k in 32, those of numbers past n too.
+fn play_bits(k: usize, n: usize, t: usize) {
+    let bit = |b: usize, x: usize| draw(n + 300, b, x) % 32 < k as u64;
+    let byte = |b: usize| (0..8).filter(|&x| bit(b, x)).map(|x| 1u8 << x).sum();
+    print_star(k, n, t, star_of_pairs(&std::array::from_fn(byte), n, t));
+}
+
+/// The missing pairs of graph k.
+fn print_bits(k: usize, n: usize, t: usize) {
+    let bits = missing_pairs(&rows(k, n, t), n).map(|byte| format!(" {byte}"));
+    println!("{n}:{}", bits.concat());
 }
 
 /// A matching that cannot be extended: the first pair that fits, again and again, in this order of the controllers.
@@ -104,7 +122,9 @@ fn main() {
                 let differs = |order| from_matching(&graph, &greedy(&graph, order), t) != right;
                 told += usize::from(differs(&rising) || differs(&falling));
             }
+            (0..9).for_each(|k| play_bits(k, n, t));
         }
+        print_bits(12, n, 1);
     }
     // enough of the graphs tell the matching to be used from one that cannot be extended
     assert!(told >= 100, "{told}");
@@ -121,4 +141,8 @@ fn main() {
     ] {
         play(0, n, t);
     }
+    for (n, t) in [(3, 0), (17, 5), (4, 2), (16, 6)] {
+        play_bits(0, n, t);
+    }
+    print_bits(1, 17, 1);
 }

@@ -7,18 +7,21 @@ use Prim.Native.Nat.{ℕ, _*_, min}
 use native.Mathlib.Omega.{arith}
 use borrow.Author.Tests.{eq-eqb, ne-eqb}
 use lib.Dec.{eqb}
-use lib.ListN.{length}
-use Rattle.lists.specs.Fill.{tabulate, filled}
+use lib.ListN.{length, replicate}
+use Rattle.lists.specs.Fill.{filled}
 use Rattle.lists.proofs.Fills.{filled-all, filled-over}
 use Rattle.lists.proofs.Tests.{cond-yes, cond-no, and-both, and-no-left, and-no-right}
-use Rattle.bitset.specs.Row.{rowByte, rowOf}
+use Rattle.bitset.specs.Row.{rowByte}
 use Rattle.wire.specs.Slot.{copied}
 use Rattle.wire.proofs.Laws.{copied-all}
 use Rattle.reed_solomon.specs.declared.Decoded.{Decoded}
 use Rattle.reed_solomon.specs.declared.Decoded.the-variants.{Block, Beyond, Refused}
 use Rattle.reed_solomon.specs.Decode.{answerOf, decodeOf}
+use Rattle.graph.specs.Neighbour.{neighbour}
+use Rattle.graph.specs.Bits.{bitsOf}
+use Rattle.graph.proofs.Laws.{length-bits}
 use Rattle.star.specs.declared.Sets.{Sets}
-use Rattle.star.specs.Star.{starOf}
+use Rattle.star.specs.Star.{starOf, starOfBits}
 use Rattle.protocol.specs.declared.Started.{Started}
 use Rattle.protocol.specs.declared.State.{State}
 use Rattle.protocol.specs.declared.Stepped.{Stepped}
@@ -44,7 +47,11 @@ use Rattle.boards.specs.Boards.{
   setRows,
   setBytes,
   starWritten,
+  rowsIn,
+  ofLengths,
   starBytes,
+  pairBytes,
+  pairStarBytes,
 }
 
 -- ---- what was written to a state of the right length
@@ -175,40 +182,77 @@ sets-written s sets v e is-v =
     ∙ ap (λ (m : ℕ). filled (rowByte 16 (setRows s)) m sets) e
     ∙ filled-all (rowByte 16 (setRows s)) 8 sets e
 
-module _ (n t : ℕ) (rows sets : List ℕ) where
-  found : Sets
-  found = starOf (tabulate (rowOf 16 rows) 16) n t
-
-  pub star-wrong-rows : (length rows ≡ 32 → ⊥) → written badLength sets ≡ starBytes n t rows sets
-  unfolding starBytes found
-  star-wrong-rows e =
+-- ---- two lent lists, of which the second is written
+module _ (a : ℕ) (lent : List ℕ) (b : ℕ) (out : List ℕ) (w : Written) where
+  pub lent-wrong : (length lent ≡ a → ⊥) → written badLength out ≡ ofLengths a lent b out w
+  lent-wrong e =
       sym
-      (cond-no (eqb (length rows) 32 && eqb (length sets) 8) (starWritten found sets) (written badLength sets)
-      (and-no-left (eqb (length rows) 32) (eqb (length sets) 8) (ne-eqb (length rows) 32 e)))
+      (cond-no (eqb (length lent) a && eqb (length out) b) w (written badLength out)
+      (and-no-left (eqb (length lent) a) (eqb (length out) b) (ne-eqb (length lent) a e)))
+
+  pub out-wrong : (length out ≡ b → ⊥) → written badLength out ≡ ofLengths a lent b out w
+  out-wrong e =
+      sym
+      (cond-no (eqb (length lent) a && eqb (length out) b) w (written badLength out)
+      (and-no-right (eqb (length lent) a) (eqb (length out) b) (ne-eqb (length out) b e)))
+
+  pub both-right : length lent ≡ a → length out ≡ b → w ≡ ofLengths a lent b out w
+  both-right e f =
+      sym
+      (cond-yes (eqb (length lent) a && eqb (length out) b) w (written badLength out)
+      (and-both (eqb (length lent) a) (eqb (length out) b) (eq-eqb (length lent) a e) (eq-eqb (length out) b f)))
+
+-- ---- the star's answer, refused and carried out
+module _ (s : Sets) (sets : List ℕ) where
+  pub sets-refused : (s .refusal ≡ 0 → ⊥) → written (s .refusal) sets ≡ starWritten s sets
+  unfolding starWritten
+  sets-refused r = sym (cond-no (eqb (s .refusal) 0) (written 0 (setBytes s)) (written (s .refusal) sets) (ne-eqb (s .refusal) 0 r))
+
+  pub sets-carried : s .refusal ≡ 0 → (v : List ℕ) → v ≡ setBytes s → written 0 v ≡ starWritten s sets
+  unfolding starWritten
+  sets-carried z v is-v = ap (written 0) is-v ∙ sym (cond-yes (eqb (s .refusal) 0) (written 0 (setBytes s)) (written (s .refusal) sets) (eq-eqb (s .refusal) 0 z))
+
+-- ---- the star of rows, and of missing pairs
+module _ (n t : ℕ) (rows sets : List ℕ) where
+  pub star-wrong-rows : (length rows ≡ 32 → ⊥) → written badLength sets ≡ starBytes n t rows sets
+  unfolding starBytes
+  star-wrong-rows = lent-wrong 32 rows 8 sets _
 
   pub star-wrong-sets : (length sets ≡ 8 → ⊥) → written badLength sets ≡ starBytes n t rows sets
-  unfolding starBytes found
-  star-wrong-sets e =
-      sym
-      (cond-no (eqb (length rows) 32 && eqb (length sets) 8) (starWritten found sets) (written badLength sets)
-      (and-no-right (eqb (length rows) 32) (eqb (length sets) 8) (ne-eqb (length sets) 8 e)))
+  unfolding starBytes
+  star-wrong-sets = out-wrong 32 rows 8 sets _
 
-  module _ (e : length rows ≡ 32) (f : length sets ≡ 8) (m : List ℕ) (is-m : m ≡ tabulate (rowOf 16 rows) 16) (s : Sets) (is-s : s ≡ starOf m n t) where
-    right-star : starWritten s sets ≡ starBytes n t rows sets
-    unfolding starBytes found
-    right-star =
-        ap (λ (x : Sets). starWritten x sets) (is-s ∙ ap (λ (x : List ℕ). starOf x n t) is-m)
-        ∙ sym
-        (cond-yes (eqb (length rows) 32 && eqb (length sets) 8) (starWritten found sets) (written badLength sets)
-        (and-both (eqb (length rows) 32) (eqb (length sets) 8) (eq-eqb (length rows) 32 e) (eq-eqb (length sets) 8 f)))
+  pub star-right : length rows ≡ 32 → length sets ≡ 8 → (m : List ℕ) → m ≡ rowsIn rows → (s : Sets) → s ≡ starOf m n t → starWritten s sets ≡ starBytes n t rows sets
+  unfolding starBytes
+  star-right e f m is-m s is-s = ap (λ (x : Sets). starWritten x sets) (is-s ∙ ap (λ (x : List ℕ). starOf x n t) is-m) ∙ both-right 32 rows 8 sets _ e f
 
-    pub star-refused : (s .refusal ≡ 0 → ⊥) → written (s .refusal) sets ≡ starBytes n t rows sets
-    unfolding starWritten
-    star-refused r =
-        sym (cond-no (eqb (s .refusal) 0) (written 0 (setBytes s)) (written (s .refusal) sets) (ne-eqb (s .refusal) 0 r)) ∙ right-star
+module _ (n t : ℕ) (pairs sets : List ℕ) where
+  pub pair-star-wrong-pairs : (length pairs ≡ 15 → ⊥) → written badLength sets ≡ pairStarBytes n t pairs sets
+  unfolding pairStarBytes
+  pair-star-wrong-pairs = lent-wrong 15 pairs 8 sets _
 
-    pub star-written : s .refusal ≡ 0 → (v : List ℕ) → v ≡ setBytes s → written 0 v ≡ starBytes n t rows sets
-    unfolding starWritten
-    star-written z v is-v =
-        ap (written 0) is-v
-        ∙ sym (cond-yes (eqb (s .refusal) 0) (written 0 (setBytes s)) (written (s .refusal) sets) (eq-eqb (s .refusal) 0 z)) ∙ right-star
+  pub pair-star-wrong-sets : (length sets ≡ 8 → ⊥) → written badLength sets ≡ pairStarBytes n t pairs sets
+  unfolding pairStarBytes
+  pair-star-wrong-sets = out-wrong 15 pairs 8 sets _
+
+  pub pair-star-right : length pairs ≡ 15 → length sets ≡ 8 → (m : List ℕ) → m ≡ copied pairs (replicate 15 0) → (s : Sets) → s ≡ starOfBits m n t
+      → starWritten s sets ≡ pairStarBytes n t pairs sets
+  unfolding pairStarBytes
+  pair-star-right e f m is-m s is-s =
+      ap (λ (x : Sets). starWritten x sets) (is-s ∙ ap (λ (x : List ℕ). starOfBits x n t) (is-m ∙ copied-all pairs (replicate 15 0) e)) ∙ both-right 15 pairs 8 sets _ e f
+
+-- ---- the missing pairs of rows
+module _ (n : ℕ) (rows pairs : List ℕ) where
+  pub pairs-wrong-rows : (length rows ≡ 32 → ⊥) → written badLength pairs ≡ pairBytes n rows pairs
+  unfolding pairBytes
+  pairs-wrong-rows = lent-wrong 32 rows 15 pairs _
+
+  pub pairs-wrong-pairs : (length pairs ≡ 15 → ⊥) → written badLength pairs ≡ pairBytes n rows pairs
+  unfolding pairBytes
+  pairs-wrong-pairs = out-wrong 32 rows 15 pairs _
+
+  pub pairs-right : length rows ≡ 32 → length pairs ≡ 15 → (m : List ℕ) → m ≡ rowsIn rows → (bits : List ℕ) → bits ≡ bitsOf n (neighbour m)
+      → (v : List ℕ) → v ≡ copied bits pairs → written 0 v ≡ pairBytes n rows pairs
+  unfolding pairBytes
+  pairs-right e f m is-m bits is-bits v is-v =
+      ap (written 0) (is-v ∙ copied-all bits pairs (ap length is-bits ∙ length-bits n (neighbour m) ∙ sym f) ∙ is-bits ∙ ap (λ (x : List ℕ). bitsOf n (neighbour x)) is-m) ∙ both-right 32 rows 15 pairs _ e f

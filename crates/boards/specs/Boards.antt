@@ -19,7 +19,11 @@
 --   setRows s                       the sets C, D, F and E as the first of 16 rows of marks
 --   setBytes s                      the bytes of these four rows
 --   starWritten s sets              an answer of the star; refused, the lent bytes stay
+--   rowsIn bytes                    16 rows of marks in bytes
+--   ofLengths a lent b out w        w where `lent` has a bytes and `out` b; else 6, and `out` stays
 --   starBytes n t rows sets         the star of the rows in 32 bytes, to 8 bytes
+--   pairBytes n rows pairs          the missing pairs of the rows in 32 bytes, to 15 bytes
+--   pairStarBytes n t pairs sets    the star of the missing pairs in 15 bytes, to 8 bytes
 use mathlib.Core.Bool.{Bool, cond, _&&_}
 use mathlib.Core.List.{List, _∷_}
 use Prim.Native.Nat.{ℕ}
@@ -29,8 +33,10 @@ use Rattle.lists.specs.Fill.{tabulate}
 use Rattle.bitset.specs.Row.{rowByte, rowOf}
 use Rattle.wire.specs.Length.{blockSize}
 use Rattle.reed_solomon.specs.Decode.{Answer, Word, decoded, beyond, refused, decodeOf}
+use Rattle.graph.specs.Neighbour.{neighbour}
+use Rattle.graph.specs.Bits.{bitsOf}
 use Rattle.star.specs.declared.Sets.{Sets}
-use Rattle.star.specs.Star.{starOf}
+use Rattle.star.specs.Star.{starOf, starOfBits}
 use Rattle.protocol.specs.declared.Started.{Started}
 use Rattle.protocol.specs.Step.{After, startOf, stepOf}
 use Rattle.state_bytes.specs.State.{stateLength, bytesOf, stateOf, outcomeNumber}
@@ -112,6 +118,17 @@ setBytes s = tabulate (rowByte 16 (setRows s)) 8
 unfoldable pub starWritten : Sets → List ℕ → Written
 starWritten s sets = cond (eqb (s .refusal) 0) (written 0 (setBytes s)) (written (s .refusal) sets)
 
+abbrev pub rowsIn : List ℕ → List ℕ
+rowsIn bytes = tabulate (rowOf 16 bytes) 16
+
+abbrev pub ofLengths : ℕ → List ℕ → ℕ → List ℕ → Written → Written
+ofLengths a lent b out w = cond (eqb (length lent) a && eqb (length out) b) w (written badLength out)
+
 unfoldable pub starBytes : (n t : ℕ) → List ℕ → List ℕ → Written
-starBytes n t rows sets =
-    cond (eqb (length rows) 32 && eqb (length sets) 8) (starWritten (starOf (tabulate (rowOf 16 rows) 16) n t) sets) (written badLength sets)
+starBytes n t rows sets = ofLengths 32 rows 8 sets (starWritten (starOf (rowsIn rows) n t) sets)
+
+unfoldable pub pairBytes : ℕ → List ℕ → List ℕ → Written
+pairBytes n rows pairs = ofLengths 32 rows 15 pairs (written 0 (bitsOf n (neighbour (rowsIn rows))))
+
+unfoldable pub pairStarBytes : (n t : ℕ) → List ℕ → List ℕ → Written
+pairStarBytes n t pairs sets = ofLengths 15 pairs 8 sets (starWritten (starOfBits pairs n t) sets)

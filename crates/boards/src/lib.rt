@@ -12,7 +12,7 @@ ghost use Rattle.wire.specs.Slot.{messageOf, offsetOf};
 ghost use Rattle.reed_solomon.specs.Encode.{encoded, encodeOf};
 ghost use Rattle.reed_solomon.specs.Decode.{answerOf};
 ghost use Rattle.state_bytes.specs.State.{stateOf};
-ghost use Rattle.boards.specs.Boards.{written, startBytes, left, stepBytes, outcomeIn, finalBytes, decodeNumber, decodeBytes, setBytes, starBytes};
+ghost use Rattle.boards.specs.Boards.{written, startBytes, left, stepBytes, outcomeIn, finalBytes, decodeNumber, decodeBytes, setBytes, starBytes, pairBytes, pairStarBytes};
 use reed_solomon::Decoded;
 use star::Sets;
 
@@ -201,6 +201,47 @@ pub extern "C" fn potekawhi_star(n: usize, t: usize, rows: &[u8], sets: &mut [u8
     }
     let graph = state_bytes::get_rows(rows);
     let found = star::find(&graph, n, t);
+    let number = found.refusal;
+    if number != 0 {
+        return number;
+    }
+    put_sets(found, sets);
+    0
+}
+
+// The missing pairs of the rows in the lent bytes, to others.
+// Shut out: those of 16 controllers whatever n is; 0 for a wrong length.
+#[no_mangle]
+pub extern "C" fn potekawhi_missing_pairs(n: usize, rows: &[u8], pairs: &mut [u8]) -> u8
+    ensures { λ r. ⌜ written r (now (pairs .exit)) ≡ pairBytes n (now (rows .entry)) (now (pairs .entry)) ⌝ }
+{
+    if rows.len() != 32 {
+        return BAD_LENGTH;
+    }
+    if pairs.len() != 15 {
+        return BAD_LENGTH;
+    }
+    let graph = state_bytes::get_rows(rows);
+    let bits = graph::bits_of(&graph, n);
+    wire::copy(pairs, &bits);
+    0
+}
+
+// The star of the missing pairs in the lent bytes, its four sets to others.
+// Shut out: n and t the other way round; 9 bytes for the sets.
+#[no_mangle]
+pub extern "C" fn potekawhi_star_of_pairs(n: usize, t: usize, pairs: &[u8], sets: &mut [u8]) -> u8
+    ensures { λ r. ⌜ written r (now (sets .exit)) ≡ pairStarBytes n t (now (pairs .entry)) (now (sets .entry)) ⌝ }
+{
+    if pairs.len() != 15 {
+        return BAD_LENGTH;
+    }
+    if sets.len() != 8 {
+        return BAD_LENGTH;
+    }
+    let mut bits = [0u8; 15];
+    wire::copy(&mut bits, pairs);
+    let found = star::of_bits(bits, n, t);
     let number = found.refusal;
     if number != 0 {
         return number;

@@ -1,8 +1,10 @@
 // Runs the star on 28 kinds of graphs for each n from 4 to 16 and each t that n allows, and on settings that are refused or just taken. A line
-// for each: n, t and the kind, then the number of the refusal and the sets C, D, F and E. The expected output comes from the
-// independent reference, which searches exhaustively:
+// for each: n, t and the kind, then the number of the refusal and the sets C, D, F and E. Then the same of 120 bits at random, at nine
+// chances, those of numbers past n too, and the missing pairs of one kind of graph for each n, 15 bytes. The expected output comes from
+// the independent reference, which searches exhaustively:
 //     cd bench && cargo run --release --bin star_vectors > ../crates/star_cases/stdout
 use libc::STDOUT_FILENO;
+use star::Sets;
 ghost use Prim.Native.Nat.{_≤_};
 
 // The generator: x times 1664525 plus 1013904223, modulo 2 to the 32.
@@ -148,8 +150,7 @@ fn print_set(x: u16, end: &[u8]) {
     print(x as usize, end);
 }
 
-fn play(k: usize, n: usize, t: usize) {
-    let s = star::find(&rows(k, n, t), n, t);
+fn print_star(k: usize, n: usize, t: usize, s: Sets) {
     print(n, b" ");
     print(t, b" ");
     print(k, b": ");
@@ -158,6 +159,52 @@ fn play(k: usize, n: usize, t: usize) {
     print_set(s.d, b" ");
     print_set(s.f, b" ");
     print_set(s.e, b"\n");
+}
+
+fn play(k: usize, n: usize, t: usize) {
+    let s = star::find(&rows(k, n, t), n, t);
+    print_star(k, n, t, s);
+}
+
+// Byte b of the bits, each set with a chance of k in 32.
+fn chance_byte(k: usize, n: usize, b: usize) -> u8 {
+    let mut s: u16 = 0;
+    let mut x: usize = 0;
+    while x < 8 {
+        if word(draw(300, n, b, x)) % 32 < k {
+            s = bitset::insert(s, x);
+        }
+        x += 1;
+    }
+    (s % 256) as u8
+}
+
+// The star of 120 bits.
+fn play_bits(k: usize, n: usize, t: usize) {
+    let mut bits = [0u8; 15];
+    let mut b: usize = 0;
+    while b < 15 {
+        bits[b] = chance_byte(k, n, b);
+        b += 1;
+    }
+    print_star(k, n, t, star::of_bits(bits, n, t));
+}
+
+fn print_byte(x: u8) {
+    io::write_all(STDOUT_FILENO, b" ");
+    print(x as usize, b"");
+}
+
+// The missing pairs of graph k.
+fn print_bits(k: usize, n: usize, t: usize) {
+    let bits = graph::bits_of(&rows(k, n, t), n);
+    print(n, b":");
+    let mut b: usize = 0;
+    while b < 15 {
+        print_byte(bits[b]);
+        b += 1;
+    }
+    io::write_all(STDOUT_FILENO, b"\n");
 }
 
 // The graphs of n controllers of which at most t are faulty.
@@ -169,14 +216,25 @@ fn play_all(n: usize, t: usize) {
     }
 }
 
+// The same for bits.
+fn play_all_bits(n: usize, t: usize) {
+    let mut k: usize = 0;
+    while k < 9 {
+        play_bits(k, n, t);
+        k += 1;
+    }
+}
+
 fn play_size(n: usize)
     requires { ⌜ n ≤ 16 ⌝ }
 {
     let mut t: usize = 1;
     while 3 * t < n {
         play_all(n, t);
+        play_all_bits(n, t);
         t += 1;
     }
+    print_bits(12, n, 1);
 }
 
 fn main() {
@@ -194,4 +252,9 @@ fn main() {
     play(0, 7, 2);
     play(0, 16, 6);
     play(0, 16, 5);
+    play_bits(0, 3, 0);
+    play_bits(0, 17, 5);
+    play_bits(0, 4, 2);
+    play_bits(0, 16, 6);
+    print_bits(1, 17, 1);
 }

@@ -1,6 +1,7 @@
 -- `boards::potekawhi_star` meets its contract.
-use Rattle.boards.proofs.Answers.{star-wrong-rows, star-wrong-sets, star-refused, star-written}
+use Rattle.boards.proofs.Answers.{star-wrong-rows, star-wrong-sets, star-right, sets-refused, sets-carried}
 use denote.Ref.{now}
+use mathlib.Core.Path.{_∙_}
 use borrow.Author.Needs.{needs}
 use Rattle.boards.proofs.potekawhi_star.Statement.{statement}
 use Rattle.boards.proofs.potekawhi_star.Tie as tie
@@ -23,9 +24,12 @@ find-requires c κs = search needs
 
 returns-3 : tie.Need-returns-3
 returns-3 c =
-    let a = c .before .before .before .before .before .before .before .before .args in
-    star-refused (a .n) (a .t) (now (a .rows)) (now (a .sets)) (c .before .before .before .before .before .if1 .left) (c .before .before .before .before .if2 .left) (c .before .before .before .get-rows .result) (c .before .before .before .get-rows .ensures)
-    (c .before .find .result) (c .before .find .ensures) (c .if3 .taken)
+    let F = c .before in
+    let G = F .before .before in
+    let I = G .before in
+    let a = I .before .before .before .before .args in
+    sets-refused (F .find .result) (now (a .sets)) (c .if3 .taken)
+    ∙ star-right (a .n) (a .t) (now (a .rows)) (now (a .sets)) (I .before .if1 .left) (I .if2 .left) (G .get-rows .result) (G .get-rows .ensures) (F .find .result) (F .find .ensures)
 
 put-sets-requires : tie.Need-put-sets-requires
 put-sets-requires c κs = search needs
@@ -35,9 +39,14 @@ same-length c = search needs
 
 returns-4 : tie.Need-returns-4
 returns-4 c =
-    let a = c .before .before .before .before .before .before .before .before .before .before .before .before .args in
-    star-written (a .n) (a .t) (now (a .rows)) (now (a .sets)) (c .before .before .before .before .before .before .before .before .before .if1 .left) (c .before .before .before .before .before .before .before .before .if2 .left) (c .before .before .before .before .before .before .before .get-rows .result) (c .before .before .before .before .before .before .before .get-rows .ensures)
-    (c .before .before .before .before .before .find .result) (c .before .before .before .before .before .find .ensures) (c .before .before .before .before .if3 .left) (c .before .before .put-sets .last .1 .0) (c .before .before .put-sets .ensures)
+    let P = c .before .before in
+    let N = P .before .before in
+    let F = N .before in
+    let G = F .before .before in
+    let I = G .before in
+    let a = I .before .before .before .before .args in
+    sets-carried (F .find .result) (now (a .sets)) (N .if3 .left) (P .put-sets .last .1 .0) (P .put-sets .ensures)
+    ∙ star-right (a .n) (a .t) (now (a .rows)) (now (a .sets)) (I .before .if1 .left) (I .if2 .left) (G .get-rows .result) (G .get-rows .ensures) (F .find .result) (F .find .ensures)
 
 pub potekawhi-star-spec : {M : Type 1} → statement M
 potekawhi-star-spec =

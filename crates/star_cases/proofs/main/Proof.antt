@@ -52,6 +52,21 @@ play-requires-8 c κs = tt
 play-requires-9 : tie.Need-play-requires-9 Inv-loop μ-loop
 play-requires-9 c κs = tt
 
+play-bits-requires : tie.Need-play-bits-requires Inv-loop μ-loop
+play-bits-requires c κs = tt
+
+play-bits-requires-2 : tie.Need-play-bits-requires-2 Inv-loop μ-loop
+play-bits-requires-2 c κs = tt
+
+play-bits-requires-3 : tie.Need-play-bits-requires-3 Inv-loop μ-loop
+play-bits-requires-3 c κs = tt
+
+play-bits-requires-4 : tie.Need-play-bits-requires-4 Inv-loop μ-loop
+play-bits-requires-4 c κs = tt
+
+print-bits-requires : tie.Need-print-bits-requires Inv-loop μ-loop
+print-bits-requires c κs = tt
+
 returns : tie.Need-returns Inv-loop μ-loop
 returns c = tt
 
@@ -75,4 +90,9 @@ main-spec =
     play-requires-7
     play-requires-8
     play-requires-9
+    play-bits-requires
+    play-bits-requires-2
+    play-bits-requires-3
+    play-bits-requires-4
+    print-bits-requires
     returns)

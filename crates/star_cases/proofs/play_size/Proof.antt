@@ -19,6 +19,9 @@ mul-loop c = omega arith
 play-all-requires : tie.Need-play-all-requires Inv-loop μ-loop
 play-all-requires c κs = tt
 
+play-all-bits-requires : tie.Need-play-all-bits-requires Inv-loop μ-loop
+play-all-bits-requires c κs = tt
+
 add-t : tie.Need-add-t Inv-loop μ-loop
 add-t c = omega arith
 
@@ -27,6 +30,9 @@ loop-less c = omega arith
 
 loop-again : tie.Need-loop-again Inv-loop μ-loop
 loop-again c = omega arith
+
+print-bits-requires : tie.Need-print-bits-requires Inv-loop μ-loop
+print-bits-requires c κs = tt
 
 returns : tie.Need-returns Inv-loop μ-loop
 returns c = tt
@@ -40,7 +46,9 @@ play-size-spec =
     loop-holds
     mul-loop
     play-all-requires
+    play-all-bits-requires
     add-t
     loop-less
     loop-again
+    print-bits-requires
     returns)

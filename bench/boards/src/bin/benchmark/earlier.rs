@@ -1,8 +1,9 @@
-//! Coding beside an earlier version of the library, in one run. Only with the feature `earlier`; build.rs gives the functions of that version
-//! their other names.
+//! Coding and the star beside an earlier version of the library, in one run. Only with the feature `earlier`; build.rs gives the functions of
+//! that version their other names.
 use crate::coding::{Case, N};
 use crate::random::Random;
-use crate::timing::{in_turns, print_table, ratio, Side};
+use crate::stars;
+use crate::timing::{in_turns, print_table, ratio, Side, Times};
 use boards::raw;
 
 const K: usize = 128;
@@ -26,6 +27,14 @@ extern "C" {
         slots_length: usize,
         block: *mut u8,
         block_length: usize,
+    ) -> u8;
+    fn earlier_star(
+        n: usize,
+        t: usize,
+        rows: *const u8,
+        rows_length: usize,
+        sets: *mut u8,
+        sets_length: usize,
     ) -> u8;
 }
 
@@ -56,6 +65,20 @@ fn decode(n: usize, t: usize, k: usize, slots: &[u8], block: &mut [u8]) -> u8 {
             slots.len(),
             block.as_mut_ptr(),
             block.len(),
+        )
+    }
+}
+
+fn star(n: usize, t: usize, rows: &[u8], sets: &mut [u8]) -> u8 {
+    // SAFETY: the pointers and lengths are those of slices, of which the written one overlaps no other.
+    unsafe {
+        earlier_star(
+            n,
+            t,
+            rows.as_ptr(),
+            rows.len(),
+            sets.as_mut_ptr(),
+            sets.len(),
         )
     }
 }
@@ -100,17 +123,37 @@ pub fn against_earlier() {
         ("decode, none false, us", none, 1e3),
         ("decode, 1 to 5 false, us", wrong, 1e3),
     ];
-    let rows = rows.map(|(name, [earlier, now], unit)| {
-        let mut row = vec![name.to_string()];
-        row.extend(earlier.cells(unit));
-        row.extend(now.cells(unit));
-        row.push(ratio(&earlier, &now));
-        row
-    });
+    let rows = rows.map(|(name, times, unit)| row(name, times, unit));
     let heading =
         "7. Coding beside an earlier version of the library, n 16, k 128. Encoding, of all 16 pieces, and decoding with t 5.
 A product is one in Horner's chain: a fourth of what a value takes longer with t 5 than with t 1.
 Pieces and block are filled with a5 before each call, on both sides, within the time.";
-    let names = " | earlier | min | max | now | min | max | earlier / now";
-    print_table(heading, names, &rows);
+    print_table(heading, NAMES, &rows);
+}
+
+const NAMES: &str = " | earlier | min | max | now | min | max | earlier / now";
+
+/// A row of a table: the times of both versions.
+fn row(name: &str, [earlier, now]: [Times; 2], unit: f64) -> Vec<String> {
+    let mut row = vec![name.to_string()];
+    row.extend(earlier.cells(unit));
+    row.extend(now.cells(unit));
+    row.push(ratio(&earlier, &now));
+    row
+}
+
+/// Table 8: the star of 16 controllers, t 5, beside the earlier version.
+pub fn stars_against_earlier() {
+    const STAR: [Side<stars::Case>; 2] = [
+        (|case| case.find_by(star), stars::Case::test),
+        stars::Case::LIBRARY,
+    ];
+    let rows: Vec<_> = stars::sixteen()
+        .into_iter()
+        .map(|(name, mut cases)| row(name, in_turns(&mut cases, STAR), 1e3))
+        .collect();
+    let heading =
+        "8. Finding the star beside an earlier version of the library, n 16, t 5. Microseconds. The graphs are those of table 3.
+The answer is filled with a5 before each call, on both sides, within the time.";
+    print_table(heading, NAMES, &rows);
 }

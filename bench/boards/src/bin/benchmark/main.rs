@@ -1,6 +1,6 @@
 //! Measures the static library `boards`: decoding beside a peer, coding as blocks grow, the star, whole runs beside the reference, with the
-//! feature `isal` encoding beside ISA-L, and with the feature `earlier` coding beside an earlier version. Every answer is compared. Arguments
-//! name the tables to print, by their numbers; with none all are printed.
+//! feature `isal` encoding beside ISA-L, and with the feature `earlier` coding and the star beside an earlier version. Every answer is
+//! compared. Arguments name the tables to print, by their numbers; with none all are printed.
 mod coding;
 #[cfg(feature = "earlier")]
 mod earlier;
@@ -22,6 +22,8 @@ const TABLES: &[(&str, fn())] = &[
     ("6", isal::against_isal),
     #[cfg(feature = "earlier")]
     ("7", earlier::against_earlier),
+    #[cfg(feature = "earlier")]
+    ("8", earlier::stars_against_earlier),
 ];
 
 /// The value behind the first line of a file of /proc that starts with a name; the file's first line where the name is empty.

@@ -56,7 +56,7 @@ fn random_graphs(random: &mut Random, tenths: usize) -> Vec<Apart> {
 }
 
 /// A graph as the library and the reference take it, and what each answered last.
-struct Case {
+pub struct Case {
     n: usize,
     t: usize,
     marks: [u16; 16],
@@ -66,7 +66,7 @@ struct Case {
 }
 
 impl Case {
-    const LIBRARY: Side<Case> = (Case::find, Case::test);
+    pub const LIBRARY: Side<Case> = (|case| case.find_by(raw::star), Case::test);
     const REFERENCE: Side<Case> = (Case::find_by_reference, Case::test);
 
     fn new(n: usize, t: usize, graph: &Apart) -> Case {
@@ -83,10 +83,11 @@ impl Case {
         case
     }
 
-    fn find(&mut self) {
+    /// By a function of the library's signature.
+    pub fn find_by(&mut self, star: fn(usize, usize, &[u8], &mut [u8]) -> u8) {
         self.sets.fill(BEFORE);
         let rows = black_box(&self.rows);
-        let number = raw::star(self.n, self.t, rows, black_box(&mut self.sets));
+        let number = star(self.n, self.t, rows, black_box(&mut self.sets));
         assert_eq!(number, 0);
     }
 
@@ -97,7 +98,7 @@ impl Case {
         self.sets_of_reference = black_box([star.c, star.d, star.f, star.e]);
     }
 
-    fn test(&self) {
+    pub fn test(&self) {
         let expected = self.sets_of_reference.map(u16::to_le_bytes).concat();
         assert_eq!(self.sets[..], expected);
     }
@@ -107,18 +108,24 @@ fn cases(n: usize, t: usize, graphs: &[Apart]) -> Vec<Case> {
     graphs.iter().map(|graph| Case::new(n, t, graph)).collect()
 }
 
-/// Table 3: the star of 16 controllers, t 5.
-pub fn of_sixteen() {
+/// The graphs of 16 controllers that are measured, by name, with t 5.
+pub fn sixteen() -> Vec<(&'static str, Vec<Case>)> {
     let mut random = Random::new(3);
-    let mut rows = Vec::new();
-    for (name, graphs) in [
+    [
         ("first", vec![FIRST]),
         ("second", vec![SECOND]),
         ("random, 1 pair in 2", random_graphs(&mut random, 5)),
         ("random, 9 pairs in 10", random_graphs(&mut random, 9)),
         ("complete", vec![[0; 16]]),
-    ] {
-        let mut cases = cases(16, 5, &graphs);
+    ]
+    .map(|(name, graphs)| (name, cases(16, 5, &graphs)))
+    .into()
+}
+
+/// Table 3: the star of 16 controllers, t 5.
+pub fn of_sixteen() {
+    let mut rows = Vec::new();
+    for (name, mut cases) in sixteen() {
         let [library, reference] = in_turns(&mut cases, [Case::LIBRARY, Case::REFERENCE]);
         let mut row = vec![name.to_string()];
         row.extend(library.cells(1e3));

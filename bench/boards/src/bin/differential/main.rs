@@ -147,8 +147,8 @@ fn main() -> ExitCode {
         stars::case(tally, random, number, &mut stars)
     });
     run.line(format!(
-        "star: {} with a core, {} without, {} refused",
-        stars.cores, stars.without, stars.refused
+        "star: {} with a core, {} without, {} refused; of any 120 bits {}",
+        stars.cores, stars.without, stars.refused, stars.bits
     ));
 
     let mut messages = messages::Counts::default();

@@ -1,0 +1,66 @@
+-- `boards::potekawhi_star_of_pairs` meets its contract.
+use Rattle.boards.proofs.Answers.{pair-star-wrong-pairs, pair-star-wrong-sets, pair-star-right, sets-refused, sets-carried}
+use denote.Ref.{now}
+use mathlib.Core.Path.{_∙_}
+use borrow.Author.Needs.{needs}
+use Rattle.boards.proofs.potekawhi_star_of_pairs.Statement.{statement}
+use Rattle.boards.proofs.potekawhi_star_of_pairs.Tie as tie
+
+returns : tie.Need-returns
+returns c =
+    let a = c .before .before .before .args in
+    pair-star-wrong-pairs (a .n) (a .t) (now (a .pairs)) (now (a .sets)) (c .if1 .taken)
+
+returns-2 : tie.Need-returns-2
+returns-2 c =
+    let a = c .before .before .before .before .args in
+    pair-star-wrong-sets (a .n) (a .t) (now (a .pairs)) (now (a .sets)) (c .if2 .taken)
+
+slice-aggregate-copy : tie.Need-slice-aggregate-copy
+slice-aggregate-copy c = search needs
+
+copy-requires : tie.Need-copy-requires
+copy-requires c κs = search needs
+
+of-bits-requires : tie.Need-of-bits-requires
+of-bits-requires c κs = search needs
+
+returns-3 : tie.Need-returns-3
+returns-3 c =
+    let F = c .before in
+    let C = F .before .before in
+    let I = C .before .before in
+    let a = I .before .before .before .before .args in
+    sets-refused (F .of-bits .result) (now (a .sets)) (c .if3 .taken)
+    ∙ pair-star-right (a .n) (a .t) (now (a .pairs)) (now (a .sets)) (I .before .if1 .left) (I .if2 .left) (C .copy .last .0) (C .copy .ensures) (F .of-bits .result) (F .of-bits .ensures)
+
+put-sets-requires : tie.Need-put-sets-requires
+put-sets-requires c κs = search needs
+
+same-length : tie.Need-same-length
+same-length c = search needs
+
+returns-4 : tie.Need-returns-4
+returns-4 c =
+    let P = c .before .before in
+    let N = P .before .before in
+    let F = N .before in
+    let C = F .before .before in
+    let I = C .before .before in
+    let a = I .before .before .before .before .args in
+    sets-carried (F .of-bits .result) (now (a .sets)) (N .if3 .left) (P .put-sets .last .1 .0) (P .put-sets .ensures)
+    ∙ pair-star-right (a .n) (a .t) (now (a .pairs)) (now (a .sets)) (I .before .if1 .left) (I .if2 .left) (C .copy .last .0) (C .copy .ensures) (F .of-bits .result) (F .of-bits .ensures)
+
+pub potekawhi-star-of-pairs-spec : {M : Type 1} → statement M
+potekawhi-star-of-pairs-spec =
+    tie.close
+    (tie.spec
+    returns
+    returns-2
+    slice-aggregate-copy
+    copy-requires
+    of-bits-requires
+    returns-3
+    put-sets-requires
+    same-length
+    returns-4)
