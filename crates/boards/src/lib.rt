@@ -12,7 +12,7 @@ ghost use Rattle.wire.specs.Slot.{messageOf, offsetOf};
 ghost use Rattle.reed_solomon.specs.Encode.{encoded, encodeOf};
 ghost use Rattle.reed_solomon.specs.Decode.{answerOf};
 ghost use Rattle.state_bytes.specs.State.{stateOf};
-ghost use Rattle.boards.specs.Boards.{written, startBytes, left, stepBytes, outcomeIn, finalBytes, decodeNumber, decodeBytes, setBytes, starBytes, pairBytes, pairStarBytes};
+ghost use Rattle.boards.specs.Boards.{written, startBytes, left, stepBytes, outcomeIn, finalBytes, decodeNumber, decodeBytes, setBytes, starWritten, starBytes, pairBytes, pairStarBytes};
 use reed_solomon::Decoded;
 use star::Sets;
 
@@ -187,6 +187,19 @@ fn put_sets(s: Sets, sets: &mut [u8])
     bitset::write_rows(sets, &rows, 16);
 }
 
+// An answer of the star: its number, and where that is 0 the four sets to the lent bytes.
+fn put_star(s: Sets, sets: &mut [u8]) -> u8
+    requires { ⌜ length (now sets) ≡ 8 ⌝ }
+    ensures { λ r. ⌜ written r (now (sets .exit)) ≡ starWritten s (now (sets .entry)) ⌝ }
+{
+    let number = s.refusal;
+    if number != 0 {
+        return number;
+    }
+    put_sets(s, sets);
+    0
+}
+
 // The star of the rows in the lent bytes, its four sets to others.
 // Shut out: E for F; 9 bytes for the sets.
 #[no_mangle]
@@ -201,12 +214,7 @@ pub extern "C" fn potekawhi_star(n: usize, t: usize, rows: &[u8], sets: &mut [u8
     }
     let graph = state_bytes::get_rows(rows);
     let found = star::find(&graph, n, t);
-    let number = found.refusal;
-    if number != 0 {
-        return number;
-    }
-    put_sets(found, sets);
-    0
+    put_star(found, sets)
 }
 
 // The missing pairs of the rows in the lent bytes, to others.
@@ -242,12 +250,7 @@ pub extern "C" fn potekawhi_star_of_pairs(n: usize, t: usize, pairs: &[u8], sets
     let mut bits = [0u8; 15];
     wire::copy(&mut bits, pairs);
     let found = star::of_bits(bits, n, t);
-    let number = found.refusal;
-    if number != 0 {
-        return number;
-    }
-    put_sets(found, sets);
-    0
+    put_star(found, sets)
 }
 
 // The length of a block; 0 outside the settings.

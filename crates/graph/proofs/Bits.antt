@@ -1,7 +1,7 @@
 -- Laws of the graph as missing pairs: the bits made from a graph say that graph below n (`adjacent-of`); in any bits everyone is its own
 -- neighbour, neighbours are so both ways, and of the bits only those of pairs below n count (`adjacent-same`). Then the digits that the
 -- code reads, and the missing pairs of indices past 15.
-use mathlib.Core.Path.{_≡_, refl, sym, ap, ap₂, subst, _∙_}
+use mathlib.Core.Path.{_≡_, sym, ap, ap₂, subst, _∙_}
 use mathlib.Core.Logic.{⊎-elim}
 use mathlib.Core.List.{List}
 use mathlib.Core.Bool.{Bool, true, false, not, _&&_, _||_}
@@ -11,7 +11,7 @@ use borrow.Author.Tests.{eq-eqb, ne-eqb, lt-ltb, le-ltb}
 use lib.Dec.{eqb, ltb}
 use lib.ListN.{length, getD}
 use Rattle.lists.specs.Sum.{ind}
-use Rattle.lists.proofs.Tests.{and-no-left, and-no-right, and-tail, or-left, or-right, or-tail, eqb-comm, lt-or-le}
+use Rattle.lists.proofs.Tests.{not-not, and-no-left, and-no-right, and-tail, or-left, or-right, or-tail, eqb-comm, lt-or-le}
 use Rattle.lists.proofs.Fills.{length-tabulate, getD-tabulate}
 use Rattle.bitset.specs.Set.{member, setOf}
 use Rattle.bitset.proofs.Laws.{member-set, set-none, set-past, digit-member}
@@ -38,10 +38,6 @@ bit-of n adj p l =
 pub missing-place : (n : ℕ) (adj : ℕ → ℕ → Bool) (i j : ℕ) → i < j → j < 16 → missingAt n adj (place i j) ≡ (ltb j n && not (adj i j))
 unfolding missingAt
 missing-place n adj i j l m = let r = pair-place i j l m in ap₂ (λ (a b : ℕ). ltb b n && not (adj a b)) (r .1) (r .2)
-
-twice : (b : Bool) → not (not b) ≡ b
-twice true = refl
-twice false = refl
 
 -- ---- neighbours by any bits
 module _ (bits : List ℕ) where
@@ -93,7 +89,7 @@ module _ (bits : List ℕ) where
 
   -- ---- the digits that the code reads
   pub digit-less : (i j d : ℕ) → i < j → j < 16 → d ≡ ind (bit bits (place i j)) → d ≡ ind (not (adjacent bits i j))
-  digit-less i j d l m e = e ∙ sym (ap (λ (b : Bool). ind (not b)) (adjacent-less i j l m) ∙ ap ind (twice (bit bits (place i j))))
+  digit-less i j d l m e = e ∙ sym (ap (λ (b : Bool). ind (not b)) (adjacent-less i j l m) ∙ ap ind (not-not (bit bits (place i j))))
 
   pub digit-more : (i j d : ℕ) → j < i → i < 16 → d ≡ ind (bit bits (place j i)) → d ≡ ind (not (adjacent bits i j))
   digit-more i j d l m e = digit-less j i d l m e ∙ ap (λ (b : Bool). ind (not b)) (adjacent-sym j i)
@@ -123,7 +119,7 @@ module _ (n : ℕ) (adj : ℕ → ℕ → Bool) (own : (i : ℕ) → adj i i ≡
   adjacent-rising i j l m =
       let s : j < 16 = omega arith in
       adjacent-less (bitsOf n adj) i j l s
-      ∙ ap not (bit-of n adj (place i j) (pair-place i j l s .0) ∙ missing-place n adj i j l s ∙ and-tail (ltb j n) (not (adj i j)) (lt-ltb j n m)) ∙ twice (adj i j)
+      ∙ ap not (bit-of n adj (place i j) (pair-place i j l s .0) ∙ missing-place n adj i j l s ∙ and-tail (ltb j n) (not (adj i j)) (lt-ltb j n m)) ∙ not-not (adj i j)
 
   pub adjacent-of : (i j : ℕ) → i < n → j < n → adjacent (bitsOf n adj) i j ≡ adj i j
   adjacent-of i j li lj =

@@ -134,8 +134,8 @@ fn at_most_16(n: usize) -> usize
     16
 }
 
-// The set of those with whom i makes a missing pair below n; empty where i is not below n and 16. Digits are added and not tested one by
-// one: a processor foretells a branch on them wrongly half the time.
+// The set of those with whom i makes a missing pair below n; empty where i is not below n and 16. Digits are added, not tested one by one:
+// a branch on each would be mispredicted for half of random bits.
 // Shut out: bits of indices past n read; oneself not a neighbour (must-fail edits).
 pub fn missing_row(bits: [u8; 15], n: usize, i: usize) -> u16
     ensures { λ r. ⌜ r ≡ missing n (adjacent bits) i ⌝ }

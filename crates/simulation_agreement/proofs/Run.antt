@@ -1,7 +1,7 @@
 -- The run of a proper scenario as a system of demand 3 (`systemOf`). It meets what is supposed there (`run-supposed`), and each correct controller
 -- ends with what it has at the end of the run (`run-ends`).
-use mathlib.Core.Path.{_≡_, refl, sym, ap, subst, _∙_}
-use mathlib.Core.Bool.{Bool, true, false, not}
+use mathlib.Core.Path.{_≡_, sym, ap, subst, _∙_}
+use mathlib.Core.Bool.{false, not}
 use mathlib.Core.List.{List}
 use Prim.Native.Nat.{ℕ, zero, suc, _+_, _-_, _≤_, _<_}
 use native.Mathlib.Omega.{arith}
@@ -9,6 +9,7 @@ use borrow.Author.Tests.{eq-eqb, not-true}
 use lib.Dec.{eqb}
 use lib.ListN.{length, getD}
 use Rattle.lists.specs.Fill.{tabulate}
+use Rattle.lists.proofs.Tests.{not-not}
 use Rattle.lists.proofs.Sums.{count-ext}
 use Rattle.lists.proofs.Fills.{length-tabulate, getD-tabulate}
 use Rattle.settings.specs.Valid.{Numbered, Valid}
@@ -164,10 +165,6 @@ module _ (F : Scenario) (p : Proper F) where
   arrival : (i j c : ℕ) → Correct (systemOf F p) i → Correct (systemOf F p) j → 1 ≤ c → c < last F → Arrives (systemOf F p) i j c
   arrival i j zero f g least most = absurd (omega arith)
   arrival i j (suc c) f g least most = slot-arrives i j c f g most
-
-  not-not : (b : Bool) → not (not b) ≡ b
-  not-not true = refl
-  not-not false = refl
 
   pub run-supposed : Tolerated F → Supposed (systemOf F p)
   run-supposed few = record {

@@ -1,5 +1,5 @@
 -- `boards::potekawhi_star` meets its contract.
-use Rattle.boards.proofs.Answers.{star-wrong-rows, star-wrong-sets, star-right, sets-refused, sets-carried}
+use Rattle.boards.proofs.Answers.{star-wrong-rows, star-wrong-sets, star-right}
 use denote.Ref.{now}
 use mathlib.Core.Path.{_∙_}
 use borrow.Author.Needs.{needs}
@@ -22,30 +22,20 @@ get-rows-requires c κs = search needs
 find-requires : tie.Need-find-requires
 find-requires c κs = search needs
 
-returns-3 : tie.Need-returns-3
-returns-3 c =
-    let F = c .before in
-    let G = F .before .before in
-    let I = G .before in
-    let a = I .before .before .before .before .args in
-    sets-refused (F .find .result) (now (a .sets)) (c .if3 .taken)
-    ∙ star-right (a .n) (a .t) (now (a .rows)) (now (a .sets)) (I .before .if1 .left) (I .if2 .left) (G .get-rows .result) (G .get-rows .ensures) (F .find .result) (F .find .ensures)
-
-put-sets-requires : tie.Need-put-sets-requires
-put-sets-requires c κs = search needs
+put-star-requires : tie.Need-put-star-requires
+put-star-requires c κs = search needs
 
 same-length : tie.Need-same-length
 same-length c = search needs
 
-returns-4 : tie.Need-returns-4
-returns-4 c =
+returns-3 : tie.Need-returns-3
+returns-3 c =
     let P = c .before .before in
-    let N = P .before .before in
-    let F = N .before in
+    let F = P .before .before in
     let G = F .before .before in
     let I = G .before in
     let a = I .before .before .before .before .args in
-    sets-carried (F .find .result) (now (a .sets)) (N .if3 .left) (P .put-sets .last .1 .0) (P .put-sets .ensures)
+    P .put-star .ensures
     ∙ star-right (a .n) (a .t) (now (a .rows)) (now (a .sets)) (I .before .if1 .left) (I .if2 .left) (G .get-rows .result) (G .get-rows .ensures) (F .find .result) (F .find .ensures)
 
 pub potekawhi-star-spec : {M : Type 1} → statement M
@@ -56,7 +46,6 @@ potekawhi-star-spec =
     returns-2
     get-rows-requires
     find-requires
-    returns-3
-    put-sets-requires
+    put-star-requires
     same-length
-    returns-4)
+    returns-3)

@@ -1,5 +1,5 @@
 -- `boards::potekawhi_star_of_pairs` meets its contract.
-use Rattle.boards.proofs.Answers.{pair-star-wrong-pairs, pair-star-wrong-sets, pair-star-right, sets-refused, sets-carried}
+use Rattle.boards.proofs.Answers.{pair-star-wrong-pairs, pair-star-wrong-sets, pair-star-right}
 use denote.Ref.{now}
 use mathlib.Core.Path.{_∙_}
 use borrow.Author.Needs.{needs}
@@ -25,30 +25,20 @@ copy-requires c κs = search needs
 of-bits-requires : tie.Need-of-bits-requires
 of-bits-requires c κs = search needs
 
-returns-3 : tie.Need-returns-3
-returns-3 c =
-    let F = c .before in
-    let C = F .before .before in
-    let I = C .before .before in
-    let a = I .before .before .before .before .args in
-    sets-refused (F .of-bits .result) (now (a .sets)) (c .if3 .taken)
-    ∙ pair-star-right (a .n) (a .t) (now (a .pairs)) (now (a .sets)) (I .before .if1 .left) (I .if2 .left) (C .copy .last .0) (C .copy .ensures) (F .of-bits .result) (F .of-bits .ensures)
-
-put-sets-requires : tie.Need-put-sets-requires
-put-sets-requires c κs = search needs
+put-star-requires : tie.Need-put-star-requires
+put-star-requires c κs = search needs
 
 same-length : tie.Need-same-length
 same-length c = search needs
 
-returns-4 : tie.Need-returns-4
-returns-4 c =
+returns-3 : tie.Need-returns-3
+returns-3 c =
     let P = c .before .before in
-    let N = P .before .before in
-    let F = N .before in
+    let F = P .before .before in
     let C = F .before .before in
     let I = C .before .before in
     let a = I .before .before .before .before .args in
-    sets-carried (F .of-bits .result) (now (a .sets)) (N .if3 .left) (P .put-sets .last .1 .0) (P .put-sets .ensures)
+    P .put-star .ensures
     ∙ pair-star-right (a .n) (a .t) (now (a .pairs)) (now (a .sets)) (I .before .if1 .left) (I .if2 .left) (C .copy .last .0) (C .copy .ensures) (F .of-bits .result) (F .of-bits .ensures)
 
 pub potekawhi-star-of-pairs-spec : {M : Type 1} → statement M
@@ -60,7 +50,6 @@ potekawhi-star-of-pairs-spec =
     slice-aggregate-copy
     copy-requires
     of-bits-requires
-    returns-3
-    put-sets-requires
+    put-star-requires
     same-length
-    returns-4)
+    returns-3)
