@@ -1,6 +1,6 @@
 //! The static library `boards`, the proved controller of a Byzantine broadcast, for Rust programs. `Controller` runs one controller;
-//! `encode`, `decode`, `star`, `star_of_pairs` and `message` are usable by themselves. Lengths are checked before a call: a wrong one is an error, and the
-//! library is not called. What the functions do is said in include/potekawhi.h; `raw` has them as they are.
+//! `encode`, `decode`, `star`, `star_of_pairs` and `message` are usable by themselves. Lengths are checked before a call: a wrong one is
+//! an error, and the library is not called. What the functions do is said in include/potekawhi.h; `raw` has them as they are.
 //!
 //! A run of four controllers, all correct, in which every message arrives:
 //!

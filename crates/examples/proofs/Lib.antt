@@ -1,2 +1,3 @@
--- The proof of the table.
+-- The proofs of the tables.
 pub mod Proved
+pub mod Pairs

@@ -1,2 +1,3 @@
 -- The worked examples.
 pub mod Examples
+pub mod Pairs
