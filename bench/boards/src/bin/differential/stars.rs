@@ -16,7 +16,7 @@ pub struct Counts {
 }
 
 /// All n and t.
-pub fn pairs() -> Vec<(usize, usize)> {
+fn all_settings() -> Vec<(usize, usize)> {
     (4..=16)
         .flat_map(|n| (1..=(n - 1) / 3).map(move |t| (n, t)))
         .collect()
@@ -24,8 +24,8 @@ pub fn pairs() -> Vec<(usize, usize)> {
 
 /// Some graphs for one n and t; fewer for a large n, as the reference needs more time.
 pub fn case(tally: &mut Tally, random: &mut Random, number: u64, counts: &mut Counts) -> Same<()> {
-    let pairs = pairs();
-    let (n, t) = pairs[(number % pairs.len() as u64) as usize];
+    let settings = all_settings();
+    let (n, t) = settings[(number % settings.len() as u64) as usize];
     let graphs = (1usize << (16 - n)).min(32);
     for _ in 0..graphs {
         let rows = inputs::graph(random, n, t);
