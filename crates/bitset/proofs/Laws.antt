@@ -73,6 +73,10 @@ set-past n (suc m) p l h =
     set-suc m p ∙ ap (λ (b : Bool). setOf m p + ind b * 2 ^ m) (h m k) ∙ omega arith ∙ set-past n m p k h)
     (same-or-not n (suc m))
 
+-- a test that nobody passes
+pub set-empty : (n : ℕ) (p : ℕ → Bool) → ((i : ℕ) → p i ≡ false) → setOf n p ≡ 0
+set-empty n p h = set-past 0 n p (omega arith) (λ i _. h i) ∙ set-none p
+
 -- one index more, as a number
 pub set-more : (n : ℕ) (p : ℕ → Bool) → setOf (n + 1) p ≡ setOf n p + ind (p n) * 2 ^ n
 set-more n p = ap (λ (m : ℕ). setOf m p) (add-one n) ∙ set-suc n p

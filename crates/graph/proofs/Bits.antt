@@ -14,7 +14,7 @@ use Rattle.lists.specs.Sum.{ind}
 use Rattle.lists.proofs.Tests.{not-not, and-no-left, and-no-right, and-tail, or-left, or-right, or-tail, eqb-comm, lt-or-le}
 use Rattle.lists.proofs.Fills.{length-tabulate, getD-tabulate}
 use Rattle.bitset.specs.Set.{member, setOf}
-use Rattle.bitset.proofs.Laws.{member-set, set-none, set-past, digit-member}
+use Rattle.bitset.proofs.Laws.{member-set, set-past, set-empty, digit-member}
 use Rattle.graph.specs.Neighbour.{missing}
 use Rattle.graph.specs.Pairs.{place}
 use Rattle.graph.specs.Bits.{bit, missingAt, bitsOf, adjacent}
@@ -77,7 +77,7 @@ module _ (bits : List ℕ) where
       none m j l = and-no-right (ltb i m) _ (ap not (adjacent-past i j l))
 
       empty : (m : ℕ) → 16 ≤ i → setOf 16 (λ j. ltb i m && not (adjacent bits i j)) ≡ 0
-      empty m s = set-past 0 16 _ (omega arith) (λ j u. none m j (omega arith)) ∙ set-none _
+      empty m s = set-empty 16 _ (λ j. none m j (omega arith))
 
       past : 16 ≤ n → missing n (adjacent bits) i ≡ missing 16 (adjacent bits) i
       past l =

@@ -13,7 +13,7 @@ use Rattle.lists.specs.Fill.{tabulate}
 use Rattle.lists.proofs.Tests.{and-no-left, and-tail, or-none, lt-or-le, same-or-not}
 use Rattle.lists.proofs.Fills.{length-tabulate, getD-tabulate, tabulate-ext, tabulate-const}
 use Rattle.bitset.specs.Set.{member, setOf, inserted, restricted}
-use Rattle.bitset.proofs.Laws.{member-set, set-ext, set-none, set-past, member-insert, restrict-mod, set-of-members}
+use Rattle.bitset.proofs.Laws.{member-set, set-ext, set-empty, member-insert, restrict-mod, set-of-members}
 use Rattle.graph.specs.Bits.{missingAt, bitsOf}
 
 module _ (n : ℕ) (adj : ℕ → ℕ → Bool) where
@@ -31,8 +31,7 @@ module _ (n : ℕ) (adj : ℕ → ℕ → Bool) where
   pub bits-start : replicate 15 0 ≡ bitsTo 0
   unfolding bitsTo byte
   bits-start =
-      sym (tabulate-ext (byte 0) (λ _. 0) 15 (λ b l. set-past 0 8 (λ k. made 0 (8 * b + k)) (omega arith) (λ k m. and-no-left (ltb (8 * b + k) 0) _ (le-ltb (8 * b + k) 0 (omega arith)))
-      ∙ set-none (λ k. made 0 (8 * b + k)))
+      sym (tabulate-ext (byte 0) (λ _. 0) 15 (λ b l. set-empty 8 (λ k. made 0 (8 * b + k)) (λ k. and-no-left (ltb (8 * b + k) 0) _ (le-ltb (8 * b + k) 0 (omega arith))))
       ∙ tabulate-const 0 15)
 
   pub bits-all : bitsTo 120 ≡ bitsOf n adj

@@ -4,13 +4,12 @@ use mathlib.Core.Path.{_≡_, refl, sym, ap₂, _∙_}
 use mathlib.Core.List.{List}
 use mathlib.Core.Bool.{Bool, true, false, not, _&&_, _||_}
 use Prim.Native.Nat.{ℕ, _≤_, _<_}
-use native.Mathlib.Omega.{arith}
 use borrow.Author.Tests.{eq-eqb, ne-eqb, lt-ltb, le-ltb, ltb-true, not-true}
 use lib.Dec.{eqb, ltb}
 use lib.ListN.{getD}
 use Rattle.lists.proofs.Tests.{eqb-comm, and-left, and-right, and-no-left, and-tail, or-left, or-tail}
 use Rattle.bitset.specs.Set.{member, setOf}
-use Rattle.bitset.proofs.Laws.{member-set, member-set-past, set-ext, set-past, set-none}
+use Rattle.bitset.proofs.Laws.{member-set, member-set-past, set-ext, set-empty}
 use Rattle.graph.specs.Neighbour.{neighbour, missing}
 
 module _ (rows : List ℕ) where
@@ -63,4 +62,4 @@ module _ (n : ℕ) (adj : ℕ → ℕ → Bool) where
 
   pub missing-none : (i : ℕ) → n ≤ i → missing n adj i ≡ 0
   unfolding missing
-  missing-none i l = set-past 0 n (λ j. ltb i n && not (adj i j)) (omega arith) (λ j _. and-no-left (ltb i n) (not (adj i j)) (le-ltb i n l)) ∙ set-none _
+  missing-none i l = set-empty n (λ j. ltb i n && not (adj i j)) (λ j. and-no-left (ltb i n) (not (adj i j)) (le-ltb i n l))

@@ -66,16 +66,22 @@ fn compare(
     };
     same().map_err(|text| format!("n {n}, t {t}, rows {rows:04x?}: {text}"))?;
     if random.one_in(4) {
-        let bits = with_past(random, star::missing_pairs(rows, n), n);
+        // the bits of numbers past n at random
+        let bits = with_more(random, star::missing_pairs(rows, n), n.saturating_add(1), 5);
         compare_pairs(tally, random, n, t, &bits, counts)?;
     }
     Ok(count(&expected, counts))
 }
 
-/// The bits of pairs with a number past n at random, the others as they are.
-fn with_past(random: &mut Random, mut bits: MissingPairs, n: usize) -> MissingPairs {
+/// The bits with more of them set: of the pairs whose larger number is from `least` on, each with a chance of `tenths` in 10.
+fn with_more(
+    random: &mut Random,
+    mut bits: MissingPairs,
+    least: usize,
+    tenths: usize,
+) -> MissingPairs {
     for (place, (_, large)) in star::pairs().enumerate() {
-        if large > n && random.one_in(2) {
+        if large >= least && random.below(10) < tenths {
             bits[place / 8] |= 1 << (place % 8);
         }
     }
@@ -109,12 +115,7 @@ fn any_bits(
     counts: &mut Counts,
 ) -> Same<()> {
     let tenths = random.below(10);
-    let mut bits = [0; raw::PAIRS_LENGTH];
-    for place in 0..120 {
-        if random.below(10) < tenths {
-            bits[place / 8] |= 1 << (place % 8);
-        }
-    }
+    let bits = with_more(random, [0; raw::PAIRS_LENGTH], 0, tenths);
     counts.bits += 1;
     compare_pairs(tally, random, n, t, &bits, counts)
 }
