@@ -54,8 +54,8 @@ extern "C" {
 #define POTEKAWHI_BAD_STATE 7
 #define POTEKAWHI_FINISHED 8
 
-/* What potekawhi_decode answers where no block is close enough to the slots. */
-#define POTEKAWHI_BEYOND 9
+/* What potekawhi_decode answers where no block is close enough to the slots: the number of no refusal. */
+#define POTEKAWHI_BEYOND 255
 
 /* Outcomes: what potekawhi_outcome and potekawhi_final_block answer. */
 #define POTEKAWHI_OUTCOME_OPEN 0   /* the run is not at its end */
@@ -66,8 +66,7 @@ extern "C" {
 /* Begins the run of one controller. `block` is the sender's block, k * (t + 1) bytes; every other controller lends bytes of that length,
  * whatever they are. It is neither read nor changed here. `state` is POTEKAWHI_STATE_LENGTH bytes, whatever they are; the caller keeps it
  * for the whole run.
- * Answers 6 and changes nothing if `state` has another length; else the first of 1 to 6, in order. Refused by one of these, it writes the
- * zero state, all bytes 00, of which every step answers 7. */
+ * Answers 6 if `state` has another length; else the first of 1 to 6, in order. Refused, it changes nothing, `state` included. */
 uint8_t potekawhi_start(size_t n, size_t t, size_t k, size_t own, size_t sender, const uint8_t *block, size_t block_length,
                         uint8_t *state, size_t state_length);
 

@@ -373,6 +373,25 @@ mod tests {
         Controller::start(settings, own, vec![7; length])
     }
 
+    /// The lengths that the header defines are those here, and a state has that length and no other.
+    #[test]
+    fn lengths_in_the_header() {
+        let header = include_str!("../../../include/potekawhi.h");
+        let defined = |name: &str| -> usize {
+            let define = format!("#define POTEKAWHI_{name}_LENGTH ");
+            let line = header.lines().find_map(|line| line.strip_prefix(&define));
+            line.unwrap().parse().unwrap()
+        };
+        assert_eq!(defined("STATE"), raw::STATE_LENGTH);
+        assert_eq!(defined("ROWS"), raw::ROWS_LENGTH);
+        assert_eq!(defined("PAIRS"), raw::PAIRS_LENGTH);
+        assert_eq!(defined("SETS"), raw::SETS_LENGTH);
+        for length in 0..2 * raw::STATE_LENGTH {
+            let taken = raw::outcome(&vec![0; length]) == 0;
+            assert_eq!(taken, length == raw::STATE_LENGTH);
+        }
+    }
+
     #[test]
     fn refused_starts() {
         let refused = |settings, own, length| start(settings, own, length).unwrap_err();

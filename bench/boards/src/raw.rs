@@ -9,7 +9,7 @@ pub const PAIRS_LENGTH: usize = 15;
 pub const SETS_LENGTH: usize = 8;
 
 /// What `decode` answers where no block is close enough to the slots: `POTEKAWHI_BEYOND`.
-pub const BEYOND: u8 = 9;
+pub const BEYOND: u8 = 255;
 
 extern "C" {
     fn potekawhi_start(

@@ -14,10 +14,10 @@ use Rattle.agreement.proofs.Verdict.{verdict, sender-verdict}
 module _ (code : (n t k : ℕ) → Coded n t k → Code n t k) (graph : (n t : ℕ) → Quorum n t → (rows : List ℕ) → Graph rows n t) where
   pub concluded : Agreement
   concluded S H =
-      let C : (i : ℕ) (f : Correct S i) → Code (S .n) (S .t) (S .k) = λ i f. code (S .n) (S .t) (S .k) (coded S H i f) in
-      let G : (i : ℕ) (f : Correct S i) → Graph (matrixOf S i) (S .n) (S .t) = λ i f. graph (S .n) (S .t) (coded S H i f .quorum) (matrixOf S i) in
+      let C : (i : ℕ) (f : Correct S i) → Code (S .settings .n) (S .settings .t) (S .settings .k) = λ i f. code (S .settings .n) (S .settings .t) (S .settings .k) (coded S H i f) in
+      let G : (i : ℕ) (f : Correct S i) → Graph (matrixOf S i) (S .settings .n) (S .settings .t) = λ i f. graph (S .settings .n) (S .settings .t) (coded S H i f .quorum) (matrixOf S i) in
       record {
-        set = λ i f. set-by-last S H i f (C i f);
+        set = λ i f. set-by-last S H i f;
         later = later S H;
         same-outcome = λ i j f g. let v = verdict S H i f (C i f) (G i f) .2 in v .all i f .0 ∙ sym (v .all j g .0);
         same-block = λ i j f g. let v = verdict S H i f (C i f) (G i f) .2 in v .all i f .1 ∙ sym (v .all j g .1);

@@ -13,18 +13,21 @@ use Rattle.lists.proofs.Tests.{same-or-not}
 use Rattle.bitset.specs.Set.{member}
 use Rattle.bitset.proofs.Laws.{member-set, set-lt}
 use Rattle.wire.specs.declared.Call.the-variants.{Send, Receive, Compare}
+use Rattle.settings.specs.declared.Settings.{Settings}
+use Rattle.wire.specs.declared.slot.Layout.{Layout}
 use Rattle.wire.specs.declared.Round.{Round}
-use Rattle.wire.specs.Length.{blockLength, rowLength, messageLength}
+use Rattle.wire.specs.declared.Round.the-variants.{Pieces}
+use Rattle.wire.specs.Length.{blockLength, kindLayout, roundLayout}
 use Rattle.wire.specs.Slot.{width, messageOf, bytes, slots}
-use Rattle.wire.proofs.Laws.{call-send, call-receive, call-compare, length-of, round-block, round-pieces, round-marks, length-block, length-pieces, length-marks, block-length, Sized, sized-bytes}
+use Rattle.wire.proofs.Laws.{call-send, call-receive, call-compare, round-block, round-pieces, round-marks, length-block, length-pieces, length-marks, block-length, Sized, sized-bytes}
 use Rattle.reed_solomon.specs.Encode.{pieceOf}
-use Rattle.dispersal.specs.Dispersal.{sentBlock, receivedBlock, traded, sentPieces, isMarked, marksOf, marksMessage, sentMarks}
-use Rattle.dispersal.proofs.Laws.{sent-block, received-message, received-length, received-all, sent-pieces, traded-is, marks-set, marked-true, true-marked, sent-marks}
+use Rattle.dispersal.specs.Dispersal.{sentBlock, receivedBlock, twoPieces, sentPieces, isMarked, marksOf, marksMessage, sentMarks}
+use Rattle.dispersal.proofs.Laws.{sent-block, received-message, received-length, received-all, sent-pieces, two-pieces-is, marks-set, marked-true, true-marked, sent-marks}
 use Rattle.protocol.specs.Calls.{Carried, sendCall, receiveCall, compareCall}
 use Rattle.protocol.proofs.Laws.{of-send, of-receive, of-compare}
 use Rattle.agreement.specs.Run.{Held}
-use Rattle.agreement.specs.Agreement.{System, Correct, Supposed, call}
-use Rattle.agreement.proofs.System.{lenOf, coded, numbered, block-size, call-at, call-first, outbox-long, block-long, performs-kind, block-from, delivered}
+use Rattle.agreement.specs.Agreement.{System, Correct, Supposed, call, layoutOf}
+use Rattle.agreement.proofs.System.{coded, numbered, block-size, call-at, call-first, round-length, outbox-long, block-long, performs-kind, sends-by, block-from, delivered}
 use Rattle.agreement.proofs.Coding.{IsBlock, Code}
 
 -- the block of i after call 2
@@ -33,147 +36,144 @@ held S i = call S i 2 .after .block
 
 module _ (S : System) (H : Supposed S) where
   module _ (i : ℕ) (f : Correct S i) where
-    pub len-1 : lenOf S 1 ≡ blockLength (S .k) (S .t)
-    len-1 = length-of (coded S H i f) 1 ∙ ap (λ (r : Round). rowLength r (S .n) (S .t) (S .k)) (round-block (S .t)) ∙ length-block (S .n) (S .t) (S .k)
+    pub len-1 : layoutOf S 1 .length ≡ blockLength (S .settings .k) (S .settings .t)
+    len-1 = round-length S H i f 1 (round-block (S .settings .t)) (length-block (S .settings .n) (S .settings .t) (S .settings .k))
 
-    pub len-2 : lenOf S 2 ≡ 2 * S .k
-    len-2 = length-of (coded S H i f) 2 ∙ ap (λ (r : Round). rowLength r (S .n) (S .t) (S .k)) (round-pieces (S .t)) ∙ length-pieces (S .n) (S .t) (S .k)
+    pub len-2 : layoutOf S 2 .length ≡ 2 * S .settings .k
+    len-2 = round-length S H i f 2 (round-pieces (S .settings .t)) (length-pieces (S .settings .n) (S .settings .t) (S .settings .k))
 
-    pub len-3 : lenOf S 3 ≡ 2
-    len-3 = length-of (coded S H i f) 3 ∙ ap (λ (r : Round). rowLength r (S .n) (S .t) (S .k)) (round-marks (S .t)) ∙ length-marks (S .n) (S .t) (S .k)
+    layout-2 : layoutOf S 2 ≡ kindLayout Pieces (S .settings .n) (S .settings .t) (S .settings .k)
+    layout-2 = ap (λ (x : Round). kindLayout x (S .settings .n) (S .settings .t) (S .settings .k)) (round-pieces (S .settings .t))
+
+    pub len-3 : layoutOf S 3 .length ≡ 2
+    len-3 = round-length S H i f 3 (round-marks (S .settings .t)) (length-marks (S .settings .n) (S .settings .t) (S .settings .k))
 
     -- ---- call 2
-    received : held S i ≡ receivedBlock (call S i 2 .lent .inbox) (lenOf S 1) (S .sender) (call S i 2 .before .block)
+    received : held S i ≡ receivedBlock (call S i 2 .lent .inbox) (layoutOf S 1) (S .settings .sender) (call S i 2 .before .block)
     received =
         let m = call S i 2 in
         let r = call-at S H i f 2 (omega arith) (omega arith) in
         let a = r .before-at in
         r .block-is
-        ∙ ap (λ (x : Carried). x .block) (performs-kind S H i f 2 (omega arith) (omega arith) Receive (call-receive (S .t)) receiveCall of-receive)
-        ∙ (λ x. receivedBlock (m .lent .inbox) (messageLength (a .n-is x) (a .t-is x) (a .k-is x) (a .next-is x - 1)) (a .sender-is x) (m .before .block))
+        ∙ ap (λ (x : Carried). x .block) (performs-kind S H i f 2 (omega arith) (omega arith) Receive (call-receive (S .settings .t)) receiveCall of-receive)
+        ∙ (λ x. receivedBlock (m .lent .inbox) (roundLayout (a .settings-is x .n) (a .settings-is x .t) (a .settings-is x .k) (a .next-is x - 1)) (a .settings-is x .sender) (m .before .block))
 
-    long-2 : length (call S i 2 .before .block) ≡ lenOf S 1
+    long-2 : length (call S i 2 .before .block) ≡ layoutOf S 1 .length
     long-2 = block-long S H i f 2 (omega arith) (omega arith) ∙ sym len-1
 
-    pub is-block : IsBlock (S .k) (S .t) (held S i)
+    pub is-block : IsBlock (S .settings .k) (S .settings .t) (held S i)
     is-block = record {
       size =
-          ap length received ∙ received-length (call S i 2 .lent .inbox) (lenOf S 1) (S .sender) (call S i 2 .before .block)
+          ap length received ∙ received-length (call S i 2 .lent .inbox) (layoutOf S 1) (S .settings .sender) (call S i 2 .before .block)
           ∙ block-long S H i f 2 (omega arith) (omega arith);
       bytes = λ p.
           subst (λ (l : List ℕ). lib.ListN.getD l p 0 < 256) (sym received)
-          (received-all (call S i 2 .lent .inbox) (lenOf S 1) (S .sender) (call S i 2 .before .block) (λ x. x < 256) (lit< tt) (call S i 2 .lent .inbox-bytes) long-2 p);
+          (received-all (call S i 2 .lent .inbox) (layoutOf S 1) (S .settings .sender) (call S i 2 .before .block) (λ x. x < 256) (lit< tt) (call S i 2 .lent .inbox-bytes) long-2 p);
     }
 
     -- round 2: to j the own piece, then piece j
-    pub pieces-sent : call S i 2 .sends ≡ slots (lenOf S 2) (traded (S .k) (S .t) i (held S i)) (S .n)
+    pub pieces-sent : call S i 2 .sends ≡ slots (layoutOf S 2) (twoPieces (S .settings .k) (S .settings .t) i (held S i)) (S .settings .n)
     pieces-sent =
         let m = call S i 2 in
-        let r = call-at S H i f 2 (omega arith) (omega arith) in
-        let a = r .before-at in
-        r .sends-is
-        ∙ ap (λ (x : Carried). x .outbox) (performs-kind S H i f 2 (omega arith) (omega arith) Receive (call-receive (S .t)) receiveCall of-receive)
-        ∙ (λ x. sentPieces (a .n-is x) (a .t-is x) (a .k-is x) (a .own-is x)
-        (receivedBlock (m .lent .inbox) (messageLength (a .n-is x) (a .t-is x) (a .k-is x) (a .next-is x - 1)) (a .sender-is x) (m .before .block)) (m .lent .outbox))
-        ∙ ap (λ (b : List ℕ). sentPieces (S .n) (S .t) (S .k) i b (m .lent .outbox)) (sym received)
-        ∙ sent-pieces (S .n) (S .t) (S .k) i (held S i) (coded S H i f) (numbered S H i f) (is-block .size) (m .lent .outbox)
-        (outbox-long S H i f 2 (omega arith) (omega arith) ∙ ap (λ (x : ℕ). S .n * width x) len-2)
-        ∙ ap (λ (x : ℕ). slots x (traded (S .k) (S .t) i (held S i)) (S .n)) (sym len-2)
+        let o = m .lent .outbox in
+        sends-by S H i f 2 (omega arith) (omega arith) Receive (call-receive (S .settings .t)) receiveCall of-receive
+        (λ s own next. sentPieces (s .n) (s .t) (s .k) own (receivedBlock (m .lent .inbox) (roundLayout (s .n) (s .t) (s .k) (next - 1)) (s .sender) (m .before .block)) o) refl
+        ∙ ap (λ (b : List ℕ). sentPieces (S .settings .n) (S .settings .t) (S .settings .k) i b o) (sym received)
+        ∙ sent-pieces (S .settings .n) (S .settings .t) (S .settings .k) i (held S i) (coded S H i f) (numbered S H i f) (is-block .size) o
+        (outbox-long S H i f 2 (omega arith) (omega arith) ∙ ap (λ (x : Layout). S .settings .n * width x) layout-2)
+        ∙ ap (λ (x : Layout). slots x (twoPieces (S .settings .k) (S .settings .t) i (held S i)) (S .settings .n)) (sym layout-2)
 
     -- ---- call 3
     unfoldable pub marks : ℕ
-    marks = marksOf (S .n) (S .t) (S .k) i (call S i 3 .lent .inbox) (lenOf S 2) (held S i)
+    marks = marksOf (S .settings .n) (S .settings .t) (S .settings .k) i (call S i 3 .lent .inbox) (layoutOf S 2) (held S i)
 
-    pub marks-sent : call S i 3 .sends ≡ slots (lenOf S 3) (λ _. bytes (marksMessage (S .n) marks)) (S .n)
+    pub marks-sent : call S i 3 .sends ≡ slots (layoutOf S 3) (λ _. bytes (marksMessage (S .settings .n) marks)) (S .settings .n)
     unfolding marks
     marks-sent =
         let m = call S i 3 in
-        let r = call-at S H i f 3 (omega arith) (omega arith) in
-        let a = r .before-at in
-        r .sends-is
-        ∙ ap (λ (x : Carried). x .outbox) (performs-kind S H i f 3 (omega arith) (omega arith) Compare (call-compare (S .t)) compareCall of-compare)
-        ∙ (λ x. sentMarks (a .n-is x) (marksOf (a .n-is x) (a .t-is x) (a .k-is x) (a .own-is x) (m .lent .inbox)
-        (messageLength (a .n-is x) (a .t-is x) (a .k-is x) (a .next-is x - 1)) (block-from S H i f 3 (omega arith) (omega arith) x)) (m .lent .outbox))
-        ∙ sent-marks (S .n) (marksOf (S .n) (S .t) (S .k) i (m .lent .inbox) (lenOf S 2) (held S i)) (m .lent .outbox)
-        (outbox-long S H i f 3 (omega arith) (omega arith) ∙ ap (λ (x : ℕ). S .n * width x) len-3)
-        ∙ ap (λ (x : ℕ). slots x (λ _. bytes (marksMessage (S .n) (marksOf (S .n) (S .t) (S .k) i (m .lent .inbox) (lenOf S 2) (held S i)))) (S .n)) (sym len-3)
+        let o = m .lent .outbox in
+        let F : Settings → ℕ → ℕ → List ℕ → List ℕ = λ s own next b.
+        sentMarks (roundLayout (s .n) (s .t) (s .k) next) (s .n) (marksOf (s .n) (s .t) (s .k) own (m .lent .inbox) (roundLayout (s .n) (s .t) (s .k) (next - 1)) b) o in
+        sends-by S H i f 3 (omega arith) (omega arith) Compare (call-compare (S .settings .t)) compareCall of-compare
+        (λ s own next. F s own next (m .before .block)) refl
+        ∙ ap (F (S .settings) i 3) (block-from S H i f 3 (omega arith) (omega arith))
+        ∙ sent-marks (layoutOf S 3) (S .settings .n) (marksOf (S .settings .n) (S .settings .t) (S .settings .k) i (m .lent .inbox) (layoutOf S 2) (held S i)) o
+        len-3 (outbox-long S H i f 3 (omega arith) (omega arith))
 
     -- the marks as a set
-    pub marks-member : (j : ℕ) → 1 ≤ j → j ≤ S .n → member marks (j - 1) ≡ isMarked (S .k) (S .t) i (call S i 3 .lent .inbox) (lenOf S 2) (held S i) j
+    pub marks-member : (j : ℕ) → 1 ≤ j → j ≤ S .settings .n → member marks (j - 1) ≡ isMarked (S .settings .k) (S .settings .t) i (call S i 3 .lent .inbox) (layoutOf S 2) (held S i) j
     unfolding marks
     marks-member j h l =
         let e : j - 1 + 1 ≡ j = omega arith in
         ap (λ (s : ℕ). member s (j - 1))
-        (marks-set (S .n) (S .t) (S .k) i (held S i) (coded S H i f) (numbered S H i f) (is-block .size) (call S i 3 .lent .inbox) (lenOf S 2))
-        ∙ member-set (S .n) (λ x. isMarked (S .k) (S .t) i (call S i 3 .lent .inbox) (lenOf S 2) (held S i) (x + 1)) (j - 1) (omega arith)
-        ∙ ap (isMarked (S .k) (S .t) i (call S i 3 .lent .inbox) (lenOf S 2) (held S i)) e
+        (marks-set (S .settings .n) (S .settings .t) (S .settings .k) i (held S i) (coded S H i f) (numbered S H i f) (is-block .size) (call S i 3 .lent .inbox) (layoutOf S 2))
+        ∙ member-set (S .settings .n) (λ x. isMarked (S .settings .k) (S .settings .t) i (call S i 3 .lent .inbox) (layoutOf S 2) (held S i) (x + 1)) (j - 1) (omega arith)
+        ∙ ap (isMarked (S .settings .k) (S .settings .t) i (call S i 3 .lent .inbox) (layoutOf S 2) (held S i)) e
 
-    pub marks-lt : marks < Prim.Native.Nat._^_ 2 (S .n)
+    pub marks-lt : marks < Prim.Native.Nat._^_ 2 (S .settings .n)
     unfolding marks
     marks-lt =
-        subst (λ (s : ℕ). s < Prim.Native.Nat._^_ 2 (S .n))
-        (sym (marks-set (S .n) (S .t) (S .k) i (held S i) (coded S H i f) (numbered S H i f) (is-block .size) (call S i 3 .lent .inbox) (lenOf S 2)))
-        (set-lt (S .n) (λ x. isMarked (S .k) (S .t) i (call S i 3 .lent .inbox) (lenOf S 2) (held S i) (x + 1)))
+        subst (λ (s : ℕ). s < Prim.Native.Nat._^_ 2 (S .settings .n))
+        (sym (marks-set (S .settings .n) (S .settings .t) (S .settings .k) i (held S i) (coded S H i f) (numbered S H i f) (is-block .size) (call S i 3 .lent .inbox) (layoutOf S 2)))
+        (set-lt (S .settings .n) (λ x. isMarked (S .settings .k) (S .settings .t) i (call S i 3 .lent .inbox) (layoutOf S 2) (held S i) (x + 1)))
 
   -- ---- the sender is correct
-  module _ (g : Correct S (S .sender)) where
-    sent : call S (S .sender) 1 .sends ≡ slots (lenOf S 1) (λ _. bytes (S .block (S .sender))) (S .n)
+  module _ (g : Correct S (S .settings .sender)) where
+    sent : call S (S .settings .sender) 1 .sends ≡ slots (layoutOf S 1) (λ _. bytes (S .block (S .settings .sender))) (S .settings .n)
     sent =
-        let i = S .sender in
+        let i = S .settings .sender in
         let m = call S i 1 in
-        let r = call-at S H i g 1 (omega arith) (omega arith) in
-        let a = r .before-at in
-        let b : m .before .block ≡ S .block i = ap (λ (h : Held). h .block) (call-first S H i g) in
-        let long : length (S .block i) ≡ lenOf S 1 = block-size S H i g ∙ sym (len-1 i g) in
-        r .sends-is
-        ∙ ap (λ (x : Carried). x .outbox) (performs-kind S H i g 1 (omega arith) (omega arith) Send (call-send (S .t)) (λ s b _ o. sendCall s b o) of-send)
-        ∙ (λ x. sentBlock (a .n-is x) (a .own-is x) (a .sender-is x) (b x) (m .lent .outbox))
-        ∙ sent-block (S .n) i i (S .block i) (m .lent .outbox) refl (outbox-long S H i g 1 (omega arith) (omega arith) ∙ ap (λ (x : ℕ). S .n * width x) (sym long))
-        ∙ ap (λ (x : ℕ). slots x (λ _. bytes (S .block i)) (S .n)) long
+        let long : length (S .block i) ≡ layoutOf S 1 .length = block-size S H i g ∙ sym (len-1 i g) in
+        let F : Settings → ℕ → ℕ → List ℕ → List ℕ = λ s own next b.
+        sentBlock (roundLayout (s .n) (s .t) (s .k) next) (s .n) own (s .sender) b (m .lent .outbox) in
+        sends-by S H i g 1 (omega arith) (omega arith) Send (call-send (S .settings .t)) (λ s b _ o. sendCall s b o) of-send
+        (λ s own next. F s own next (m .before .block)) refl
+        ∙ ap (F (S .settings) i 1) (ap (λ (h : Held). h .block) (call-first S H i g))
+        ∙ sent-block (layoutOf S 1) (S .settings .n) i i (S .block i) (m .lent .outbox) refl long (outbox-long S H i g 1 (omega arith) (omega arith))
 
-    pub sender-block : (i : ℕ) → Correct S i → held S i ≡ S .block (S .sender)
+    pub sender-block : (i : ℕ) → Correct S i → held S i ≡ S .block (S .settings .sender)
     sender-block i f =
-        let long : length (S .block (S .sender)) ≡ lenOf S 1 = block-size S H (S .sender) g ∙ sym (len-1 (S .sender) g) in
-        let came : messageOf (call S i 2 .lent .inbox) (lenOf S 1) (S .sender) ≡ S .block (S .sender) =
-        delivered S H (S .sender) i 1 g f (omega arith) (omega arith) (λ _. bytes (S .block (S .sender))) (λ m. sized-bytes (lenOf S 1) (S .block (S .sender)) long) sent in
-        let some : 0 < S .k * (S .t + 1) = mul-pos (coded S H i f .k-least) (omega arith) in
+        let long : length (S .block (S .settings .sender)) ≡ layoutOf S 1 .length = block-size S H (S .settings .sender) g ∙ sym (len-1 (S .settings .sender) g) in
+        let came : messageOf (call S i 2 .lent .inbox) (layoutOf S 1) (S .settings .sender) ≡ S .block (S .settings .sender) =
+        delivered S H (S .settings .sender) i 1 g f (omega arith) (omega arith) (λ _. bytes (S .block (S .settings .sender))) (λ m. sized-bytes (layoutOf S 1) (S .block (S .settings .sender)) long) sent in
+        let some : 0 < S .settings .k * (S .settings .t + 1) = mul-pos (coded S H i f .k-least) (omega arith) in
         received i f
-        ∙ received-message (call S i 2 .lent .inbox) (lenOf S 1) (S .sender) (call S i 2 .before .block)
-        (λ z. omega (arith, ap length came, block-size S H (S .sender) g, block-length (S .k) (S .t))) (long-2 i f)
+        ∙ received-message (call S i 2 .lent .inbox) (layoutOf S 1) (S .settings .sender) (call S i 2 .before .block)
+        (λ z. omega (arith, ap length came, block-size S H (S .settings .sender) g, block-length (S .settings .k) (S .settings .t))) (long-2 i f)
         ∙ came
 
   -- ---- marks between two correct controllers
-  module _ (C : Code (S .n) (S .t) (S .k)) where
+  module _ (C : Code (S .settings .n) (S .settings .t) (S .settings .k)) where
     piece : ℕ → ℕ → List ℕ
-    piece i j = pieceOf (S .k) (S .t) (held S i) j
+    piece i j = pieceOf (S .settings .k) (S .settings .t) (held S i) j
 
     -- what j reads of i in call 3: i's own piece, then piece j of i's coding
-    traded-read : (i j : ℕ) → Correct S i → Correct S j → messageOf (call S j 3 .lent .inbox) (lenOf S 2) i ≡ pieceOf (S .k) (S .t) (held S i) i ++ pieceOf (S .k) (S .t) (held S i) j
-    traded-read i j f g =
-        delivered S H i j 2 f g (omega arith) (omega arith) (traded (S .k) (S .t) i (held S i))
-        (λ m. subst (Sized (lenOf S 2)) (sym (traded-is (S .k) (S .t) i (held S i) m))
-        (sized-bytes (lenOf S 2) (pieceOf (S .k) (S .t) (held S i) i ++ pieceOf (S .k) (S .t) (held S i) m)
-        (length-append (pieceOf (S .k) (S .t) (held S i) i) (pieceOf (S .k) (S .t) (held S i) m)
+    pieces-read : (i j : ℕ) → Correct S i → Correct S j → messageOf (call S j 3 .lent .inbox) (layoutOf S 2) i ≡ pieceOf (S .settings .k) (S .settings .t) (held S i) i ++ pieceOf (S .settings .k) (S .settings .t) (held S i) j
+    pieces-read i j f g =
+        delivered S H i j 2 f g (omega arith) (omega arith) (twoPieces (S .settings .k) (S .settings .t) i (held S i))
+        (λ m. subst (Sized (layoutOf S 2)) (sym (two-pieces-is (S .settings .k) (S .settings .t) i (held S i) m))
+        (sized-bytes (layoutOf S 2) (pieceOf (S .settings .k) (S .settings .t) (held S i) i ++ pieceOf (S .settings .k) (S .settings .t) (held S i) m)
+        (length-append (pieceOf (S .settings .k) (S .settings .t) (held S i) i) (pieceOf (S .settings .k) (S .settings .t) (held S i) m)
         ∙ omega (arith, C .piece-length (held S i) i, C .piece-length (held S i) m, len-2 i f))))
         (pieces-sent i f)
-        ∙ ap Rattle.wire.proofs.Laws.content (traded-is (S .k) (S .t) i (held S i) j)
+        ∙ ap Rattle.wire.proofs.Laws.content (two-pieces-is (S .settings .k) (S .settings .t) i (held S i) j)
 
     -- i marks j: the codings agree at both places
     pub marks-agree : (i j : ℕ) (f : Correct S i) (g : Correct S j) → member (marks i f) (j - 1) ≡ true
-        → (pieceOf (S .k) (S .t) (held S j) j ≡ pieceOf (S .k) (S .t) (held S i) j) × (pieceOf (S .k) (S .t) (held S j) i ≡ pieceOf (S .k) (S .t) (held S i) i)
+        → (pieceOf (S .settings .k) (S .settings .t) (held S j) j ≡ pieceOf (S .settings .k) (S .settings .t) (held S i) j) × (pieceOf (S .settings .k) (S .settings .t) (held S j) i ≡ pieceOf (S .settings .k) (S .settings .t) (held S i) i)
     marks-agree i j f g y =
         ⊎-elim
-        (λ (e : j ≡ i). (ap (λ (x : ℕ). pieceOf (S .k) (S .t) (held S x) j) e, ap (λ (x : ℕ). pieceOf (S .k) (S .t) (held S x) i) e))
+        (λ (e : j ≡ i). (ap (λ (x : ℕ). pieceOf (S .settings .k) (S .settings .t) (held S x) j) e, ap (λ (x : ℕ). pieceOf (S .settings .k) (S .settings .t) (held S x) i) e))
         (λ (n : j ≡ i → ⊥).
-        marked-true (S .k) (S .t) i (call S i 3 .lent .inbox) (lenOf S 2) (held S i) j (pieceOf (S .k) (S .t) (held S j) j) (pieceOf (S .k) (S .t) (held S j) i)
-        (traded-read j i g f) (C .piece-length (held S j) j) (coded S H i f .k-least)
+        marked-true (S .settings .k) (S .settings .t) i (call S i 3 .lent .inbox) (layoutOf S 2) (held S i) j (pieceOf (S .settings .k) (S .settings .t) (held S j) j) (pieceOf (S .settings .k) (S .settings .t) (held S j) i)
+        (pieces-read j i g f) (C .piece-length (held S j) j) (coded S H i f .k-least)
         (sym (marks-member i f j (g .least) (g .most)) ∙ y) n)
         (same-or-not j i)
 
     pub agree-marks : (i j : ℕ) (f : Correct S i) (g : Correct S j)
-        → pieceOf (S .k) (S .t) (held S j) j ≡ pieceOf (S .k) (S .t) (held S i) j → pieceOf (S .k) (S .t) (held S j) i ≡ pieceOf (S .k) (S .t) (held S i) i
+        → pieceOf (S .settings .k) (S .settings .t) (held S j) j ≡ pieceOf (S .settings .k) (S .settings .t) (held S i) j → pieceOf (S .settings .k) (S .settings .t) (held S j) i ≡ pieceOf (S .settings .k) (S .settings .t) (held S i) i
         → member (marks i f) (j - 1) ≡ true
     agree-marks i j f g p q =
         marks-member i f j (g .least) (g .most)
-        ∙ true-marked (S .k) (S .t) i (call S i 3 .lent .inbox) (lenOf S 2) (held S i) j (pieceOf (S .k) (S .t) (held S j) j) (pieceOf (S .k) (S .t) (held S j) i)
-        (traded-read j i g f) (C .piece-length (held S j) j) (coded S H i f .k-least) p q
+        ∙ true-marked (S .settings .k) (S .settings .t) i (call S i 3 .lent .inbox) (layoutOf S 2) (held S i) j (pieceOf (S .settings .k) (S .settings .t) (held S j) j) (pieceOf (S .settings .k) (S .settings .t) (held S j) i)
+        (pieces-read j i g f) (C .piece-length (held S j) j) (coded S H i f .k-least) p q

@@ -8,10 +8,10 @@ use native.Mathlib.Nat.{add-zero, not-suc-le-zero, le-of-suc-le-suc}
 use native.Mathlib.Omega.{arith}
 use borrow.Author.Tests.{eqb-true, eqb-false}
 use lib.ListN.{length, getD}
+use Rattle.settings.specs.declared.Settings.{Settings}
 use Rattle.settings.specs.Valid.{Valid}
 use Rattle.wire.specs.Round.{callKind}
 use Rattle.protocol.specs.declared.State.{State}
-use Rattle.protocol.specs.State.{settingsOf}
 use Rattle.protocol.specs.Calls.{Carried, callOf}
 use Rattle.protocol.specs.Step.{stepRefusal, After, after, done, Ready}
 use Rattle.protocol.proofs.Laws.{refused, performed, step-number, ready-of, step-8, call-keeps, call-inside}
@@ -23,7 +23,7 @@ numberOf h l = stepRefusal (h .state) (length (h .block)) (length (l .inbox)) (l
 
 -- the call that a step performs where it is not refused
 abbrev pub performs : Held → Lent → Carried
-performs h l = callOf (callKind (h .state .t) (h .state .next)) (h .state) (h .block) (l .inbox) (l .outbox)
+performs h l = callOf (callKind (h .state .settings .t) (h .state .next)) (h .state) (h .block) (l .inbox) (l .outbox)
 
 rest : After → Held
 rest a = record { state = a .answer .state; block = a .block }
@@ -66,44 +66,36 @@ refused-away h l ls e =
     (ap (λ (b : Bool). cond b (made h l ∷ calls (left h l) ls) (calls (left h l) ls)) e ∙ ap (λ (x : Held). calls x ls) same, ap (λ (x : Held). ends x ls) same)
 
 -- what is held before call c of a run with these settings
-pub record At (n t k own sender c : ℕ) (h : Held) : Type 0 where
-  pub n-is : h .state .n ≡ n
-  pub t-is : h .state .t ≡ t
-  pub k-is : h .state .k ≡ k
+pub record At (s : Settings) (own c : ℕ) (h : Held) : Type 0 where
+  pub settings-is : h .state .settings ≡ s
   pub own-is : h .state .own ≡ own
-  pub sender-is : h .state .sender ≡ sender
   pub next-is : h .state .next ≡ c
 
-module _ (n t k own sender c : ℕ) (h : Held) (l : Lent) (a : At n t k own sender c h) where
+module _ (s : Settings) (own c : ℕ) (h : Held) (l : Lent) (a : At s own c h) where
   -- a call leaves what the next call is made on
-  pub step-at : numberOf h l ≡ 0 → At n t k own sender (c + 1) (left h l)
+  pub step-at : numberOf h l ≡ 0 → At s own (c + 1) (left h l)
   step-at z =
       let r = ready-of (h .state) (length (h .block)) (length (l .inbox)) (length (l .outbox)) z in
-      let keeps = call-keeps (callKind (h .state .t) (h .state .next)) (h .state) (h .block) (l .inbox) (l .outbox)
-      (call-inside (h .state .t) (h .state .next) (r .next-least) (r .next-most)) in
-      let s : left h l .state ≡ performs h l .state = ap (λ (x : After). x .answer .state) (carried-out h l z) in
+      let keeps = call-keeps (callKind (h .state .settings .t) (h .state .next)) (h .state) (h .block) (l .inbox) (l .outbox)
+      (call-inside (h .state .settings .t) (h .state .next) (r .next-least) (r .next-most)) in
+      let e : left h l .state ≡ performs h l .state = ap (λ (x : After). x .answer .state) (carried-out h l z) in
       record {
-        n-is = ap (λ (x : State). x .n) s ∙ keeps .n ∙ a .n-is;
-        t-is = ap (λ (x : State). x .t) s ∙ keeps .t ∙ a .t-is;
-        k-is = ap (λ (x : State). x .k) s ∙ keeps .k ∙ a .k-is;
-        own-is = ap (λ (x : State). x .own) s ∙ keeps .own ∙ a .own-is;
-        sender-is = ap (λ (x : State). x .sender) s ∙ keeps .sender ∙ a .sender-is;
-        next-is = ap (λ (x : State). x .next) s ∙ keeps .next ∙ ap (λ (x : ℕ). x + 1) (a .next-is);
+        settings-is = ap (λ (x : State). x .settings) e ∙ keeps .settings ∙ a .settings-is;
+        own-is = ap (λ (x : State). x .own) e ∙ keeps .own ∙ a .own-is;
+        next-is = ap (λ (x : State). x .next) e ∙ keeps .next ∙ ap (λ (x : ℕ). x + 1) (a .next-is);
       }
 
--- the settings of what is held
-pub settings-at : {n t k own sender c : ℕ} (h : Held) → At n t k own sender c h
-    → settingsOf (h .state) ≡ record { n = n; t = t; k = k; number = own; sender = sender }
-settings-at h a = λ x. record { n = a .n-is x; t = a .t-is x; k = a .k-is x; number = a .own-is x; sender = a .sender-is x }
+-- what is held is valid where the settings and the own number are
+pub valid-at : {s : Settings} {own c : ℕ} (h : Held) → At s own c h → Valid s own → Valid (h .state .settings) (h .state .own)
+valid-at {s} {own} {c} h a v = subst (Valid (h .state .settings)) (sym (a .own-is)) (subst (λ (x : Settings). Valid x own) (sym (a .settings-is)) v)
 
 -- a run that is finished stays so: every step is refused with 8 and leaves what it was given
-module _ (n t k own sender : ℕ) (valid : Valid (record { n = n; t = t; k = k; number = own; sender = sender })) (h : Held)
-    (a : At n t k own sender (3 * t + 10) h) (l : Lent) where
+module _ (s : Settings) (own : ℕ) (valid : Valid s own) (h : Held) (a : At s own (3 * s .t + 10) h) (l : Lent) where
   eight : numberOf h l ≡ 8
   eight =
       step-8 (h .state) (length (h .block)) (length (l .inbox)) (length (l .outbox))
-      (subst Valid (sym (settings-at h a)) valid)
-      (a .next-is ∙ ap (λ (x : ℕ). 3 * x + 10) (sym (a .t-is)))
+      (valid-at h a valid)
+      (a .next-is ∙ ap (λ (x : Settings). 3 * x .t + 10) (sym (a .settings-is)))
 
   pub finished-step : (stepped h l .answer .number ≡ 8) × (left h l ≡ h)
   finished-step = (
@@ -112,21 +104,21 @@ module _ (n t k own sender : ℕ) (valid : Valid (record { n = n; t = t; k = k; 
   )
 
 -- what is known of call c
-pub record CallAt (n t k own sender c : ℕ) (m : Made) : Type 0 where
-  pub before-at : At n t k own sender c (m .before)
-  pub after-at : At n t k own sender (c + 1) (m .after)
+pub record CallAt (s : Settings) (own c : ℕ) (m : Made) : Type 0 where
+  pub before-at : At s own c (m .before)
+  pub after-at : At s own (c + 1) (m .after)
   pub ready : Ready (m .before .state) (length (m .before .block)) (length (m .lent .inbox)) (length (m .lent .outbox))
   pub state-is : m .after .state ≡ performs (m .before) (m .lent) .state
   pub block-is : m .after .block ≡ performs (m .before) (m .lent) .block
   pub sends-is : m .sends ≡ performs (m .before) (m .lent) .outbox
 
-module _ (n t k own sender : ℕ) where
-  first-at : (c : ℕ) (h : Held) (m : Made) → At n t k own sender c h → m ≡ made h (m .lent) → numberOf h (m .lent) ≡ 0 → CallAt n t k own sender c m
+module _ (s : Settings) (own : ℕ) where
+  first-at : (c : ℕ) (h : Held) (m : Made) → At s own c h → m ≡ made h (m .lent) → numberOf h (m .lent) ≡ 0 → CallAt s own c m
   first-at c h m a e z =
-      subst (λ (x : Made). CallAt n t k own sender c x) (sym e)
+      subst (λ (x : Made). CallAt s own c x) (sym e)
       (record {
         before-at = a;
-        after-at = step-at n t k own sender c h (m .lent) a z;
+        after-at = step-at s own c h (m .lent) a z;
         ready = ready-of (h .state) (length (h .block)) (length (m .lent .inbox)) (length (m .lent .outbox)) z;
         state-is = ap (λ (x : After). x .answer .state) (carried-out h (m .lent) z);
         block-is = ap (λ (x : After). x .block) (carried-out h (m .lent) z);
@@ -134,14 +126,14 @@ module _ (n t k own sender : ℕ) where
       })
 
   -- the calls of a chain are numbered from that of its first
-  pub nth : (d : Made) (h : Held) (ms : List Made) (e : Held) (c : ℕ) → Chain h ms e → At n t k own sender c h → (i : ℕ) → i < length ms
-      → CallAt n t k own sender (c + i) (getD ms i d)
+  pub nth : (d : Made) (h : Held) (ms : List Made) (e : Held) (c : ℕ) → Chain h ms e → At s own c h → (i : ℕ) → i < length ms
+      → CallAt s own (c + i) (getD ms i d)
   nth d h [] e c ch a i lt = absurd (not-suc-le-zero lt)
   nth d h (m ∷ ms) e c ch a zero lt = rw add-zero (first-at c h m a (ch .0) (ch .1))
   nth d h (m ∷ ms) e c ch a (suc i) lt =
       let step : c + 1 + i ≡ c + suc i = omega arith in
-      subst (λ (x : ℕ). CallAt n t k own sender x (getD ms i d)) step
-      (nth d (left h (m .lent)) ms e (c + 1) (ch .2) (step-at n t k own sender c h (m .lent) a (ch .1)) i (le-of-suc-le-suc lt))
+      subst (λ (x : ℕ). CallAt s own x (getD ms i d)) step
+      (nth d (left h (m .lent)) ms e (c + 1) (ch .2) (step-at s own c h (m .lent) a (ch .1)) i (le-of-suc-le-suc lt))
 
 -- the first call is made on what the chain begins with, each other on what the one before left, and the last leaves its end
 pub first-before : (d : Made) (h : Held) (ms : List Made) (e : Held) → Chain h ms e → 0 < length ms → getD ms 0 d .before ≡ h

@@ -7,48 +7,43 @@ use Prim.Native.Nat.{ℕ, zero, suc, _+_, _-_, _*_, _≤_, _<_}
 use native.Mathlib.Nat.{mul-le-mul-right}
 use native.Mathlib.Omega.{arith}
 use lib.ListN.{length, getD}
+use Rattle.settings.specs.declared.Settings.{Settings}
 use Rattle.settings.specs.Valid.{Coded, Numbered, Valid}
 use Rattle.wire.specs.declared.Call.{Call}
-use Rattle.wire.specs.Round.{callKind}
-use Rattle.wire.specs.Length.{blockLength, messageLength, inboxLength, outboxLength}
+use Rattle.wire.specs.declared.Round.{Round}
+use Rattle.wire.specs.Round.{callKind, roundKind}
+use Rattle.wire.specs.Length.{blockLength, rowLength, roundLayout, inboxLength, outboxLength}
 use Rattle.wire.specs.Slot.{width, messageOf, Sent, slots}
-use Rattle.wire.proofs.Laws.{length-pos, inbox-of, outbox-of, Sized, content, arrived}
+use Rattle.wire.proofs.Laws.{length-of, length-pos, inbox-of, outbox-of, Sized, content, arrived}
 use Rattle.protocol.specs.declared.State.{State}
 use Rattle.protocol.specs.Calls.{Carried, callOf}
 use Rattle.protocol.proofs.Laws.{start-0, start-state, call-block, block-call}
 use Rattle.agreement.specs.Run.{Held}
-use Rattle.agreement.specs.Agreement.{System, Correct, Supposed, atStart, callsOf, atEnd, last, noCall, call, Finished}
+use Rattle.agreement.specs.Agreement.{System, Correct, Supposed, atStart, callsOf, atEnd, last, noCall, call, Finished, layoutOf}
 use Rattle.agreement.proofs.Run.{Chain, chain, performs, At, CallAt, nth, first-before, next-before, last-after, finished-step}
 
--- the length of a message of round c
-abbrev pub lenOf : System → ℕ → ℕ
-lenOf S c = messageLength (S .n) (S .t) (S .k) c
-
 module _ (S : System) (H : Supposed S) (i : ℕ) (f : Correct S i) where
-  start : Valid (record { n = S .n; t = S .t; k = S .k; number = i; sender = S .sender }) × (length (S .block i) ≡ blockLength (S .k) (S .t))
-  start = start-0 (S .n) (S .t) (S .k) i (S .sender) (length (S .block i)) (H .started i f)
+  start : Valid (S .settings) i × (length (S .block i) ≡ blockLength (S .settings .k) (S .settings .t))
+  start = start-0 (S .settings) i (length (S .block i)) (H .started i f)
 
-  pub valid : Valid (record { n = S .n; t = S .t; k = S .k; number = i; sender = S .sender })
+  pub valid : Valid (S .settings) i
   valid = start .0
 
-  pub coded : Coded (S .n) (S .t) (S .k)
+  pub coded : Coded (S .settings .n) (S .settings .t) (S .settings .k)
   coded = valid .coded
 
-  pub numbered : Numbered (S .n) i
+  pub numbered : Numbered (S .settings .n) i
   numbered = valid .number
 
-  pub block-size : length (S .block i) ≡ blockLength (S .k) (S .t)
+  pub block-size : length (S .block i) ≡ blockLength (S .settings .k) (S .settings .t)
   block-size = start .1
 
-  begun-at : At (S .n) (S .t) (S .k) i (S .sender) 1 (atStart S i)
+  begun-at : At (S .settings) i 1 (atStart S i)
   begun-at =
-      let e = start-state (S .n) (S .t) (S .k) i (S .sender) (length (S .block i)) (H .started i f) in
+      let e = start-state (S .settings) i (length (S .block i)) (H .started i f) in
       record {
-        n-is = ap (λ (s : State). s .n) e;
-        t-is = ap (λ (s : State). s .t) e;
-        k-is = ap (λ (s : State). s .k) e;
+        settings-is = ap (λ (s : State). s .settings) e;
         own-is = ap (λ (s : State). s .own) e;
-        sender-is = ap (λ (s : State). s .sender) e;
         next-is = ap (λ (s : State). s .next) e;
       }
 
@@ -56,12 +51,12 @@ module _ (S : System) (H : Supposed S) (i : ℕ) (f : Correct S i) where
   links = chain (atStart S i) (S .steps i)
 
   -- call c is made on a state whose next call is c, with the system's settings
-  pub call-at : (c : ℕ) → 1 ≤ c → c ≤ last S → CallAt (S .n) (S .t) (S .k) i (S .sender) c (call S i c)
+  pub call-at : (c : ℕ) → 1 ≤ c → c ≤ last S → CallAt (S .settings) i c (call S i c)
   call-at c least most =
       let all : length (callsOf S i) ≡ last S = H .finished i f in
       let number : 1 + (c - 1) ≡ c = omega arith in
-      subst (λ (x : ℕ). CallAt (S .n) (S .t) (S .k) i (S .sender) x (call S i c)) number
-      (nth (S .n) (S .t) (S .k) i (S .sender) noCall (atStart S i) (callsOf S i) (atEnd S i) 1 links begun-at (c - 1) (omega arith))
+      subst (λ (x : ℕ). CallAt (S .settings) i x (call S i c)) number
+      (nth (S .settings) i noCall (atStart S i) (callsOf S i) (atEnd S i) 1 links begun-at (c - 1) (omega arith))
 
   -- call 1 is made on what start left, each other on what the call before left
   pub call-first : call S i 1 .before ≡ atStart S i
@@ -85,56 +80,86 @@ module _ (S : System) (H : Supposed S) (i : ℕ) (f : Correct S i) where
   -- and every later step is refused with 8
   pub later : Finished S i
   later l =
-      let number : last S + 1 ≡ 3 * S .t + 10 = omega arith in
-      let a = subst (λ (x : ℕ). At (S .n) (S .t) (S .k) i (S .sender) x (call S i (last S) .after)) number (call-at (last S) (omega arith) (omega arith) .after-at) in
-      finished-step (S .n) (S .t) (S .k) i (S .sender) valid (atEnd S i) (subst (At (S .n) (S .t) (S .k) i (S .sender) (3 * S .t + 10)) call-last a) l
+      let number : last S + 1 ≡ 3 * S .settings .t + 10 = omega arith in
+      let a = subst (λ (x : ℕ). At (S .settings) i x (call S i (last S) .after)) number (call-at (last S) (omega arith) (omega arith) .after-at) in
+      finished-step (S .settings) i valid (atEnd S i) (subst (At (S .settings) i (3 * S .settings .t + 10)) call-last a) l
 
   -- ---- lengths
-  pub some-length : (c : ℕ) → 1 ≤ c → c < last S → 1 ≤ lenOf S c
+  pub some-length : (c : ℕ) → 1 ≤ c → c < last S → 1 ≤ layoutOf S c .length
   some-length c least most = length-pos coded c least (omega arith)
 
-  pub outbox-long : (c : ℕ) → 1 ≤ c → c < last S → length (call S i c .lent .outbox) ≡ S .n * width (lenOf S c)
+  -- the length of a round's messages is that of its kind
+  pub round-length : (c : ℕ) {r : Round} {m : ℕ} → roundKind (S .settings .t) c ≡ r → rowLength r (S .settings .n) (S .settings .t) (S .settings .k) ≡ m → layoutOf S c .length ≡ m
+  round-length c e is = length-of coded c ∙ ap (λ (x : Round). rowLength x (S .settings .n) (S .settings .t) (S .settings .k)) e ∙ is
+
+  pub outbox-long : (c : ℕ) → 1 ≤ c → c < last S → length (call S i c .lent .outbox) ≡ S .settings .n * width (layoutOf S c)
   outbox-long c least most =
       let r = call-at c least (omega arith) in
       let a = r .before-at in
       r .ready .outbox-length
-      ∙ (λ x. outboxLength (a .n-is x) (a .t-is x) (a .k-is x) (a .next-is x))
-      ∙ outbox-of (S .n) (S .t) (S .k) c (some-length c least most)
+      ∙ (λ x. outboxLength (a .settings-is x .n) (a .settings-is x .t) (a .settings-is x .k) (a .next-is x))
+      ∙ outbox-of (S .settings .n) (S .settings .t) (S .settings .k) c (some-length c least most)
 
-  pub inbox-long : (c : ℕ) → 1 ≤ c → c < last S → length (call S i (c + 1) .lent .inbox) ≡ S .n * width (lenOf S c)
+  pub inbox-long : (c : ℕ) → 1 ≤ c → c < last S → length (call S i (c + 1) .lent .inbox) ≡ S .settings .n * width (layoutOf S c)
   inbox-long c least most =
       let r = call-at (c + 1) (omega arith) (omega arith) in
       let a = r .before-at in
       r .ready .inbox-length
-      ∙ (λ x. inboxLength (a .n-is x) (a .t-is x) (a .k-is x) (a .next-is x))
-      ∙ inbox-of (S .n) (S .t) (S .k) c (some-length c least most)
+      ∙ (λ x. inboxLength (a .settings-is x .n) (a .settings-is x .t) (a .settings-is x .k) (a .next-is x))
+      ∙ inbox-of (S .settings .n) (S .settings .t) (S .settings .k) c (some-length c least most)
 
-  pub block-long : (c : ℕ) → 1 ≤ c → c ≤ last S → length (call S i c .before .block) ≡ blockLength (S .k) (S .t)
+  pub block-long : (c : ℕ) → 1 ≤ c → c ≤ last S → length (call S i c .before .block) ≡ blockLength (S .settings .k) (S .settings .t)
   block-long c least most =
       let r = call-at c least most in
       let a = r .before-at in
-      r .ready .block-length ∙ (λ x. blockLength (a .k-is x) (a .t-is x))
+      r .ready .block-length ∙ (λ x. blockLength (a .settings-is x .k) (a .settings-is x .t))
 
   -- the call that is performed, by its kind: what D says, where a call of that kind is D
-  pub performs-kind : (c : ℕ) → 1 ≤ c → c ≤ last S → (kind : Call) → callKind (S .t) c ≡ kind
+  pub performs-kind : (c : ℕ) → 1 ≤ c → c ≤ last S → (kind : Call) → callKind (S .settings .t) c ≡ kind
       → (D : State → List ℕ → List ℕ → List ℕ → Carried) → ((s : State) (b x o : List ℕ) → callOf kind s b x o ≡ D s b x o)
       → performs (call S i c .before) (call S i c .lent)
       ≡ D (call S i c .before .state) (call S i c .before .block) (call S i c .lent .inbox) (call S i c .lent .outbox)
   performs-kind c least most kind e D does =
       let m = call S i c in
       let a = call-at c least most .before-at in
-      ap (λ (x : Call). callOf x (m .before .state) (m .before .block) (m .lent .inbox) (m .lent .outbox)) ((λ x. callKind (a .t-is x) (a .next-is x)) ∙ e)
+      ap (λ (x : Call). callOf x (m .before .state) (m .before .block) (m .lent .inbox) (m .lent .outbox)) ((λ x. callKind (a .settings-is x .t) (a .next-is x)) ∙ e)
       ∙ does (m .before .state) (m .before .block) (m .lent .inbox) (m .lent .outbox)
+
+  -- what a call of a kind sends and what it leaves, with the system's settings in the place of the state's
+  module _ (c : ℕ) (least : 1 ≤ c) (most : c ≤ last S) (kind : Call) (is : callKind (S .settings .t) c ≡ kind)
+      (D : State → List ℕ → List ℕ → List ℕ → Carried) (does : (s : State) (b x o : List ℕ) → callOf kind s b x o ≡ D s b x o) where
+    pub sends-by : (F : Settings → ℕ → ℕ → List ℕ)
+        → D (call S i c .before .state) (call S i c .before .block) (call S i c .lent .inbox) (call S i c .lent .outbox) .outbox
+        ≡ F (call S i c .before .state .settings) (call S i c .before .state .own) (call S i c .before .state .next)
+        → call S i c .sends ≡ F (S .settings) i c
+    sends-by F e =
+        let r = call-at c least most in
+        let a = r .before-at in
+        r .sends-is
+        ∙ ap (λ (x : Carried). x .outbox) (performs-kind c least most kind is D does)
+        ∙ e ∙ (λ x. F (a .settings-is x) (a .own-is x) (a .next-is x))
+
+    pub state-by : call S i c .after .state
+        ≡ D (call S i c .before .state) (call S i c .before .block) (call S i c .lent .inbox) (call S i c .lent .outbox) .state
+    state-by = call-at c least most .state-is ∙ ap (λ (x : Carried). x .state) (performs-kind c least most kind is D does)
+
+    pub leaves-by : {A : Type 0} → (f : State → A) (F : Settings → ℕ → ℕ → A)
+        → f (D (call S i c .before .state) (call S i c .before .block) (call S i c .lent .inbox) (call S i c .lent .outbox) .state)
+        ≡ F (call S i c .before .state .settings) (call S i c .before .state .own) (call S i c .before .state .next)
+        → f (call S i c .after .state) ≡ F (S .settings) i c
+    leaves-by f F e =
+        let a = call-at c least most .before-at in
+        ap f state-by ∙ e ∙ (λ x. F (a .settings-is x) (a .own-is x) (a .next-is x))
 
   -- ---- the block from call 3 on is what call 2 left
   block-kept : (c : ℕ) → 3 ≤ c → c < last S → call S i c .after .block ≡ call S i c .before .block
   block-kept c least most =
       let m = call S i c in
       let r = call-at c (omega arith) (omega arith) in
-      let kinds = block-call (S .t) c least (omega arith) in
+      let kinds = block-call (S .settings .t) c least (omega arith) in
       r .block-is
-      ∙ ap (λ (x : Carried). x .block) (performs-kind c (omega arith) (omega arith) (callKind (S .t) c) refl (callOf (callKind (S .t) c)) (λ s b x o. refl))
-      ∙ call-block (callKind (S .t) c) (m .before .state) (m .before .block) (m .lent .inbox) (m .lent .outbox) (kinds .0) (kinds .1)
+      ∙ ap (λ (x : Carried). x .block) (performs-kind c (omega arith) (omega arith) (callKind (S .settings .t) c) refl (callOf (callKind (S .settings .t) c)) (λ s b x o. refl))
+      ∙ call-block (callKind (S .settings .t) c) (m .before .state) (m .before .block) (m .lent .inbox) (m .lent .outbox) (kinds .0) (kinds .1)
 
   block-add : (d : ℕ) → d + 3 ≤ last S → call S i (d + 3) .before .block ≡ call S i 2 .after .block
   block-add zero l = ap (λ (h : Held). h .block) (call-next 2 (omega arith) (omega arith))
@@ -152,9 +177,9 @@ module _ (S : System) (H : Supposed S) (i : ℕ) (f : Correct S i) where
 
 -- what i sent to j in round c is what j's next call reads of it
 pub delivered : (S : System) (H : Supposed S) (i j c : ℕ) → Correct S i → Correct S j → 1 ≤ c → c < last S → (g : ℕ → Sent)
-    → ((m : ℕ) → Sized (lenOf S c) (g m)) → call S i c .sends ≡ slots (lenOf S c) g (S .n)
-    → messageOf (call S j (c + 1) .lent .inbox) (lenOf S c) i ≡ content (g j)
+    → ((m : ℕ) → Sized (layoutOf S c) (g m)) → call S i c .sends ≡ slots (layoutOf S c) g (S .settings .n)
+    → messageOf (call S j (c + 1) .lent .inbox) (layoutOf S c) i ≡ content (g j)
 delivered S H i j c fi fj least most g sized e =
-    arrived (lenOf S c) g sized (call S j (c + 1) .lent .inbox) (call S i c .sends) (S .n) i j e (fj .least) (fj .most) (fi .least)
-    (subst (λ (x : ℕ). i * width (lenOf S c) ≤ x) (sym (inbox-long S H j fj c least most)) (mul-le-mul-right (width (lenOf S c)) (fi .most)))
+    arrived (layoutOf S c) g sized (call S j (c + 1) .lent .inbox) (call S i c .sends) (S .settings .n) i j e (fj .least) (fj .most) (fi .least)
+    (subst (λ (x : ℕ). i * width (layoutOf S c) ≤ x) (sym (inbox-long S H j fj c least most)) (mul-le-mul-right (width (layoutOf S c)) (fi .most)))
     (H .arrives i j c fi fj least most)

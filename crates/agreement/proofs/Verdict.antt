@@ -27,37 +27,37 @@ use Rattle.agreement.proofs.Votes.{correctAt, by-index, to-index, most-
 use Rattle.agreement.proofs.Cores.{matrixOf, one-core, one-block, enough-correct}
 use Rattle.agreement.proofs.Ends.{ends-none, ends-agreed}
 
-module _ (S : System) (H : Supposed S) (w : ℕ) (f : Correct S w) (C : Code (S .n) (S .t) (S .k)) (G : Graph (matrixOf S w) (S .n) (S .t)) where
+module _ (S : System) (H : Supposed S) (w : ℕ) (f : Correct S w) (C : Code (S .settings .n) (S .settings .t) (S .settings .k)) (G : Graph (matrixOf S w) (S .settings .n) (S .settings .t)) where
   -- the core
   abbrev pub coreSet : ℕ
-  coreSet = coreOf (matrixOf S w) (S .n) (S .t)
+  coreSet = coreOf (matrixOf S w) (S .settings .n) (S .settings .t)
 
   -- what all correct controllers end with
   pub record Verdict (o : Outcome) (b : List ℕ) : Type 0 where
     pub all : (i : ℕ) → Correct S i → (outcomeOf S i ≡ o) × (blockOf S i ≡ b)
 
-  few-rows : S .n ≤ 16
+  few-rows : S .settings .n ≤ 16
   few-rows = coded S H w f .quorum .n-most
 
-  without : coreSet ≡ 0 → Verdict None (replicate (blockLength (S .k) (S .t)) 0)
+  without : coreSet ≡ 0 → Verdict None (replicate (blockLength (S .settings .k) (S .settings .t)) 0)
   without z = record {
     all = λ i g.
         ends-none S H i g
-        (ap (λ (x : ℕ). restricted x (S .n)) (one-core S H i w g f ∙ z) ∙ restrict-below 0 (S .n) (subst (λ (x : ℕ). x < 2 ^ S .n) z (G .core-lt)));
+        (ap (λ (x : ℕ). restricted x (S .settings .n)) (one-core S H i w g f ∙ z) ∙ restrict-below 0 (S .settings .n) (subst (λ (x : ℕ). x < 2 ^ S .settings .n) z (G .core-lt)));
   }
 
   -- with a core whose correct members hold B
-  with : (coreSet ≡ 0 → ⊥) → (B : List ℕ) → IsBlock (S .k) (S .t) B → ((i : ℕ) → Correct S i → member coreSet (i - 1) ≡ true → held S i ≡ B) → Verdict Agreed B
+  with : (coreSet ≡ 0 → ⊥) → (B : List ℕ) → IsBlock (S .settings .k) (S .settings .t) B → ((i : ℕ) → Correct S i → member coreSet (i - 1) ≡ true → held S i ≡ B) → Verdict Agreed B
   with z B is holds = record {
     all =
-        ends-agreed S H C coreSet B is (λ i g. one-core S H i w g f) (λ q. z (sym (restrict-below coreSet (S .n) (G .core-lt)) ∙ q))
+        ends-agreed S H C coreSet B is (λ i g. one-core S H i w g f) (λ q. z (sym (restrict-below coreSet (S .settings .n) (G .core-lt)) ∙ q))
         (enough-correct S H w f C G z) holds;
   }
 
   -- a correct member of the core
   heart : (coreSet ≡ 0 → ⊥) → (c : ℕ) × Correct S (c + 1) × (member coreSet c ≡ true)
   heart z =
-      let r = count-member (S .n) (λ x. member coreSet x && correctAt S x) (omega (arith, enough-correct S H w f C G z)) in
+      let r = count-member (S .settings .n) (λ x. member coreSet x && correctAt S x) (omega (arith, enough-correct S H w f C G z)) in
       (r .0, by-index S (r .0) (r .1, and-right (member coreSet (r .0)) (correctAt S (r .0)) (r .2)), and-left (member coreSet (r .0)) (correctAt S (r .0)) (r .2))
 
   -- the common block, held by that member after call 2
@@ -74,12 +74,12 @@ module _ (S : System) (H : Supposed S) (w : ℕ) (f : Correct S w) (C : Code (S 
   pub verdict : (o : Outcome) × (b : List ℕ) × Verdict o b
   verdict =
       ⊎-elim
-      (λ (z : coreSet ≡ 0). (None, replicate (blockLength (S .k) (S .t)) 0, without z))
+      (λ (z : coreSet ≡ 0). (None, replicate (blockLength (S .settings .k) (S .settings .t)) 0, without z))
       (λ (z : coreSet ≡ 0 → ⊥). let r = held-by z in (Agreed, held S (r .0 + 1), r .1))
       (same-or-not coreSet 0)
 
   -- ---- the sender is correct
-  module _ (g : Correct S (S .sender)) where
+  module _ (g : Correct S (S .settings .sender)) where
     -- correct controllers mark each other
     marked : (x y : ℕ) (p : Correct S (x + 1)) (q : Correct S (y + 1)) → member (getD (matrixOf S w) x 0) y ≡ true
     marked x y p q =
@@ -88,7 +88,7 @@ module _ (S : System) (H : Supposed S) (w : ℕ) (f : Correct S w) (C : Code (S 
         let same : held S (y + 1) ≡ held S (x + 1) = sender-block S H g (y + 1) q ∙ sym (sender-block S H g (x + 1) p) in
         ap₂ member (ap (λ (z : ℕ). getD (matrixOf S w) z 0) (sym a) ∙ row-is-marks S H few-rows w (x + 1) f p) (sym b)
         ∙ agree-marks S H C (x + 1) (y + 1) p q
-        (ap (λ (B : List ℕ). pieceOf (S .k) (S .t) B (y + 1)) same) (ap (λ (B : List ℕ). pieceOf (S .k) (S .t) B (x + 1)) same)
+        (ap (λ (B : List ℕ). pieceOf (S .settings .k) (S .settings .t) B (y + 1)) same) (ap (λ (B : List ℕ). pieceOf (S .settings .k) (S .settings .t) B (x + 1)) same)
 
     -- so that they are all in the core
     pub sender-in-core : (i : ℕ) → Correct S i → member coreSet (i - 1) ≡ true
@@ -101,9 +101,9 @@ module _ (S : System) (H : Supposed S) (w : ℕ) (f : Correct S w) (C : Code (S 
         G .marks-near x y (marked x y fx fy) (marked y x fy fx))
         (most-correct S H) (i - 1) (r .0) (r .1)
 
-    pub sender-verdict : Verdict Agreed (S .block (S .sender))
+    pub sender-verdict : Verdict Agreed (S .block (S .settings .sender))
     sender-verdict =
         with (λ z. true≢false (sym (ap (λ (x : ℕ). member x (w - 1)) (sym z) ∙ sender-in-core w f) ∙ member-over 0 0 (w - 1) (lit< tt) (omega arith)))
-        (S .block (S .sender))
-        (subst (IsBlock (S .k) (S .t)) (sender-block S H g w f) (is-block S H w f))
+        (S .block (S .settings .sender))
+        (subst (IsBlock (S .settings .k) (S .settings .t)) (sender-block S H g w f) (is-block S H w f))
         (λ i h m. sender-block S H g i h)

@@ -1,10 +1,11 @@
 -- Demand 3, as one proposition on the lists of steps of all correct controllers of a system together (document 01, 'The house').
---   System                 n, t, k and the sender; who is correct; the block that each was started with; the steps each made after its start
+--   System                 the settings; who is correct; the block that each was started with; the steps each made after its start
 --   Correct S i            controller i is one of 1 .. n, and correct (document 01: it follows the steps)
 --   atStart, callsOf, atEnd   what a controller holds at its start, its calls, and what it holds after all its steps
 --   last S                 the number of the last call
 --   noCall                 a call with nothing in it
 --   call S i c             call c of controller i; past its calls `noCall`
+--   layoutOf S c           the layout of the slots of round c
 --   Arrives S i j c        the message from i to j arrives unchanged in round c
 --   Supposed S             what is supposed
 --   lastCore, lastInbox    the core before the last call, and the inbox lent to it
@@ -21,9 +22,11 @@ use mathlib.Core.List.{List, []}
 use Prim.Native.Nat.{ℕ, _+_, _-_, _*_, _≤_, _<_}
 use lib.ListN.{length, getD, replicate}
 use Rattle.lists.specs.Sum.{count}
+use Rattle.settings.specs.declared.Settings.{Settings}
 use Rattle.bitset.specs.Set.{restricted}
 use Rattle.polynomial.specs.Polynomial.{Bytes}
-use Rattle.wire.specs.Length.{messageLength}
+use Rattle.wire.specs.declared.slot.Layout.{Layout}
+use Rattle.wire.specs.Length.{roundLayout}
 use Rattle.wire.specs.Slot.{slotOf}
 use Rattle.reed_solomon.specs.Decode.{Decodes}
 use Rattle.reconstruction.specs.declared.Outcome.{Outcome}
@@ -34,10 +37,7 @@ use Rattle.agreement.specs.Run.{Lent, Held, Made, stepped, left, ends, c
 
 -- of a controller that is not correct, neither block nor steps are read: nothing is supposed of it
 pub record System : Type 0 where
-  pub n : ℕ
-  pub t : ℕ
-  pub k : ℕ
-  pub sender : ℕ
+  pub settings : Settings
   pub correct : ℕ → Bool
   pub block : ℕ → List ℕ
   pub block-bytes : (i : ℕ) → Bytes (block i)
@@ -45,11 +45,11 @@ pub record System : Type 0 where
 
 pub record Correct (S : System) (i : ℕ) : Type 0 where
   pub least : 1 ≤ i
-  pub most : i ≤ S .n
+  pub most : i ≤ S .settings .n
   pub is : S .correct i ≡ true
 
 abbrev pub atStart : System → ℕ → Held
-atStart S i = begun (S .n) (S .t) (S .k) i (S .sender) (S .block i)
+atStart S i = begun (S .settings) i (S .block i)
 
 abbrev pub callsOf : System → ℕ → List Made
 callsOf S i = calls (atStart S i) (S .steps i)
@@ -58,7 +58,7 @@ abbrev pub atEnd : System → ℕ → Held
 atEnd S i = ends (atStart S i) (S .steps i)
 
 abbrev pub last : System → ℕ
-last S = 3 * S .t + 9
+last S = 3 * S .settings .t + 9
 
 abbrev pub noCall : Made
 noCall = record {
@@ -71,18 +71,21 @@ noCall = record {
 abbrev pub call : System → ℕ → ℕ → Made
 call S i c = getD (callsOf S i) (c - 1) noCall
 
+abbrev pub layoutOf : System → ℕ → Layout
+layoutOf S c = roundLayout (S .settings .n) (S .settings .t) (S .settings .k) c
+
 -- slot i of the inbox of j's call c + 1 is, byte for byte, slot j of the outbox that i's call c left
 abbrev pub Arrives : System → (i j c : ℕ) → Type 0
 Arrives S i j c =
-    slotOf (call S j (c + 1) .lent .inbox) (messageLength (S .n) (S .t) (S .k) c) i
-    ≡ slotOf (call S i c .sends) (messageLength (S .n) (S .t) (S .k) c) j
+    slotOf (call S j (c + 1) .lent .inbox) (layoutOf S c) i
+    ≡ slotOf (call S i c .sends) (layoutOf S c) j
 
 pub record Supposed (S : System) : Type 0 where
   -- n is at least 3t + 1, and at most t controllers are not correct
-  pub tolerance : 3 * S .t + 1 ≤ S .n
-  pub few : count (S .n) (λ i. not (S .correct (i + 1))) ≤ S .t
+  pub tolerance : 3 * S .settings .t + 1 ≤ S .settings .n
+  pub few : count (S .settings .n) (λ i. not (S .correct (i + 1))) ≤ S .settings .t
   -- each correct controller's start, with the system's settings and its own number, is carried out
-  pub started : (i : ℕ) → Correct S i → startOf (S .n) (S .t) (S .k) i (S .sender) (length (S .block i)) .number ≡ 0
+  pub started : (i : ℕ) → Correct S i → startOf (S .settings) i (length (S .block i)) .number ≡ 0
   -- all its 3t + 9 calls are carried out, whatever steps are refused before, between and after them
   pub finished : (i : ℕ) → Correct S i → length (callsOf S i) ≡ last S
   -- each message between correct controllers, or to oneself, arrives unchanged in its round
@@ -103,10 +106,10 @@ blockOf S i = atEnd S i .block
 
 -- document 01's last call: no core: none, and zeros; else agreed and the block that decoding's rule gives; if there is none, beyond and zeros
 pub record SetByLast (S : System) (i : ℕ) : Type 0 where
-  pub none : restricted (lastCore S i) (S .n) ≡ 0 → (outcomeOf S i ≡ None) × (blockOf S i ≡ replicate (length (S .block i)) 0)
-  pub agreed : (restricted (lastCore S i) (S .n) ≡ 0 → ⊥) → (B : List ℕ) → Decodes (S .n) (S .t) (S .k) (lastInbox S i) B
+  pub none : restricted (lastCore S i) (S .settings .n) ≡ 0 → (outcomeOf S i ≡ None) × (blockOf S i ≡ replicate (length (S .block i)) 0)
+  pub agreed : (restricted (lastCore S i) (S .settings .n) ≡ 0 → ⊥) → (B : List ℕ) → Decodes (S .settings .n) (S .settings .t) (S .settings .k) (lastInbox S i) B
       → (outcomeOf S i ≡ Agreed) × (blockOf S i ≡ B)
-  pub beyond : (restricted (lastCore S i) (S .n) ≡ 0 → ⊥) → ((B : List ℕ) → Decodes (S .n) (S .t) (S .k) (lastInbox S i) B → ⊥)
+  pub beyond : (restricted (lastCore S i) (S .settings .n) ≡ 0 → ⊥) → ((B : List ℕ) → Decodes (S .settings .n) (S .settings .t) (S .settings .k) (lastInbox S i) B → ⊥)
       → (outcomeOf S i ≡ Beyond) × (blockOf S i ≡ replicate (length (S .block i)) 0)
 
 abbrev pub Finished : System → ℕ → Type 0
@@ -120,8 +123,8 @@ pub record Concluded (S : System) : Type 0 where
   pub same-outcome : (i j : ℕ) → Correct S i → Correct S j → outcomeOf S i ≡ outcomeOf S j
   pub same-block : (i j : ℕ) → Correct S i → Correct S j → blockOf S i ≡ blockOf S j
   -- if the sender is correct, every outcome is agreed, and every block is the one that the sender was started with
-  pub sender-outcome : (i : ℕ) → Correct S (S .sender) → Correct S i → outcomeOf S i ≡ Agreed
-  pub sender-block : (i : ℕ) → Correct S (S .sender) → Correct S i → blockOf S i ≡ S .block (S .sender)
+  pub sender-outcome : (i : ℕ) → Correct S (S .settings .sender) → Correct S i → outcomeOf S i ≡ Agreed
+  pub sender-block : (i : ℕ) → Correct S (S .settings .sender) → Correct S i → blockOf S i ≡ S .block (S .settings .sender)
 
 abbrev pub Agreement : Type 0
 Agreement = (S : System) → Supposed S → Concluded S

@@ -8,12 +8,13 @@
 --   ends h ls             what is held after a list of steps
 --   Made, made h l        a step that was carried out: what it was made on, what was lent, what it left, and what it sends
 --   calls h ls            the calls among a list of steps: those carried out, in order
---   begun n t k own sender b   what the first step gets: the state that start returned, and the block lent to start
+--   begun s own b         what the first step gets: the state that start returned, and the block lent to start
 use mathlib.Core.Bool.{Bool, cond}
 use mathlib.Core.List.{List, [], _∷_}
 use Prim.Native.Nat.{ℕ}
 use lib.Dec.{eqb}
 use lib.ListN.{length}
+use Rattle.settings.specs.declared.Settings.{Settings}
 use Rattle.polynomial.specs.Polynomial.{Bytes}
 use Rattle.protocol.specs.declared.State.{State}
 use Rattle.protocol.specs.Step.{startOf, stepOf, After}
@@ -53,5 +54,5 @@ abbrev pub calls : Held → List Lent → List Made
 calls h [] = []
 calls h (l ∷ ls) = cond (carriedOut h l) (made h l ∷ calls (left h l) ls) (calls (left h l) ls)
 
-abbrev pub begun : (n t k own sender : ℕ) → List ℕ → Held
-begun n t k own sender b = record { state = startOf n t k own sender (length b) .state; block = b }
+abbrev pub begun : Settings → (own : ℕ) → List ℕ → Held
+begun s own b = record { state = startOf s own (length b) .state; block = b }

@@ -1,5 +1,6 @@
--- Laws for the crates above.
+-- Laws for the crates above (Laws), and what they and the code rest on.
 pub mod Laws
 pub mod Rows
-pub mod Operations
+mod Sets
+mod Operations
 mod Digits

@@ -1,14 +1,14 @@
 -- Laws of the operations on two sets: who is a member of the result, and that it is a number of 16 digits. Then the processor's `&`, `|` and `^`,
 -- by which the code makes them. The main ones: `member-intersection`, `member-difference`, `member-union`.
 use mathlib.Core.Path.{_≡_, refl, sym, ap, _∙_}
-use mathlib.Core.Bool.{Bool, not, _&&_, _||_}
+use mathlib.Core.Bool.{Bool, true, false, not, _&&_, _||_}
 use Prim.Native.Nat.{ℕ, zero, suc, _/_, _%_, _^_, _<_}
 use native.Mathlib.Omega.{arith}
 use lib.Bits.{bitAnd, bitOr, bitXor, and-shr, or-shr, xor-shr, and-mod, or-mod, xor-mod, and-lt, or-lt, xor-lt}
 use lib.Dec.{eqb}
 use Rattle.lists.specs.Sum.{count}
 use Rattle.bitset.specs.Set.{member, setOf, sizeOf, intersection, difference, union}
-use Rattle.bitset.proofs.Laws.{set-lt, member-set, ext, size-set}
+use Rattle.bitset.proofs.Sets.{set-lt, member-set, ext, size-set}
 
 pub member-intersection : (a b i : ℕ) → i < 16 → member (intersection a b) i ≡ (member a i && member b i)
 unfolding intersection
@@ -39,33 +39,26 @@ unfolding union
 union-lt a b = set-lt 16 (λ i. member a i || member b i)
 
 -- ---- the processor's operations, digit by digit
+-- what two digits say, from its four cases
+two-digits : (f : ℕ → ℕ → ℕ) (g : Bool → Bool → Bool) → eqb (f 0 0) 1 ≡ g false false → eqb (f 0 1) 1 ≡ g false true → eqb (f 1 0) 1 ≡ g true false
+    → eqb (f 1 1) 1 ≡ g true true → (x y : ℕ) → x < 2 → y < 2 → eqb (f x y) 1 ≡ g (eqb x 1) (eqb y 1)
+two-digits f g a b c d zero zero _ _ = a
+two-digits f g a b c d zero (suc zero) _ _ = b
+two-digits f g a b c d (suc zero) zero _ _ = c
+two-digits f g a b c d (suc zero) (suc zero) _ _ = d
+two-digits f g a b c d (suc (suc x)) y h _ = absurd (omega arith)
+two-digits f g a b c d zero (suc (suc y)) _ h = absurd (omega arith)
+two-digits f g a b c d (suc zero) (suc (suc y)) _ h = absurd (omega arith)
+
 digit-and : (x y : ℕ) → x < 2 → y < 2 → eqb (bitAnd x y) 1 ≡ (eqb x 1 && eqb y 1)
-digit-and zero zero _ _ = refl
-digit-and zero (suc zero) _ _ = refl
-digit-and (suc zero) zero _ _ = refl
-digit-and (suc zero) (suc zero) _ _ = refl
-digit-and (suc (suc x)) y h g = absurd (omega arith)
-digit-and zero (suc (suc y)) h g = absurd (omega arith)
-digit-and (suc zero) (suc (suc y)) h g = absurd (omega arith)
+digit-and = two-digits bitAnd (λ p q. p && q) refl refl refl refl
 
 digit-or : (x y : ℕ) → x < 2 → y < 2 → eqb (bitOr x y) 1 ≡ (eqb x 1 || eqb y 1)
-digit-or zero zero _ _ = refl
-digit-or zero (suc zero) _ _ = refl
-digit-or (suc zero) zero _ _ = refl
-digit-or (suc zero) (suc zero) _ _ = refl
-digit-or (suc (suc x)) y h g = absurd (omega arith)
-digit-or zero (suc (suc y)) h g = absurd (omega arith)
-digit-or (suc zero) (suc (suc y)) h g = absurd (omega arith)
+digit-or = two-digits bitOr (λ p q. p || q) refl refl refl refl
 
 -- exclusive or with a part of x
 digit-less : (x y : ℕ) → x < 2 → y < 2 → eqb (bitXor x (bitAnd x y)) 1 ≡ (eqb x 1 && not (eqb y 1))
-digit-less zero zero _ _ = refl
-digit-less zero (suc zero) _ _ = refl
-digit-less (suc zero) zero _ _ = refl
-digit-less (suc zero) (suc zero) _ _ = refl
-digit-less (suc (suc x)) y h g = absurd (omega arith)
-digit-less zero (suc (suc y)) h g = absurd (omega arith)
-digit-less (suc zero) (suc (suc y)) h g = absurd (omega arith)
+digit-less = two-digits (λ x y. bitXor x (bitAnd x y)) (λ p q. p && not q) refl refl refl refl
 
 digit-lt : (x : ℕ) → x % 2 < 2
 digit-lt x = omega arith

@@ -15,7 +15,7 @@ use Rattle.lists.specs.Fill.{filled}
 use Rattle.lists.proofs.Fills.{length-tabulate, getD-tabulate, filled-split}
 use Rattle.bitset.specs.Set.{restricted}
 use Rattle.bitset.specs.Row.{wordAt, rowOf, rowByte, rowsOf}
-use Rattle.bitset.proofs.Laws.{restrict-lt, restrict-below}
+use Rattle.bitset.proofs.Sets.{restrict-lt, restrict-below}
 use mathlib.Core.Logic.{⊎-elim}
 
 -- a row that the message holds whole, and one that it does not

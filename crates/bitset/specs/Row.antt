@@ -3,6 +3,7 @@
 --   wordAt m r         the 16 bits of row r of the message m, low byte first
 --   rowOf n m r        the set in row r of the message m, of the indices below n; empty where m does not hold the row whole
 --   rowByte n rows b   byte b of the message that holds these rows, each without the bits past n
+--   rowsLength n       how many bytes n rows take, of 16 at most
 --   rowsOf n rows      the message of the first n rows, of 16 at most
 use mathlib.Core.Bool.{cond}
 use mathlib.Core.List.{List}
@@ -21,5 +22,8 @@ rowOf n m r = cond (ltb r (length m / 2)) (restricted (wordAt m r) n) 0
 unfoldable pub rowByte : ℕ → List ℕ → ℕ → ℕ
 rowByte n rows b = cond (eqb (b % 2) 0) (restricted (getD rows (b / 2) 0) n % 256) (restricted (getD rows (b / 2) 0) n / 256)
 
+abbrev pub rowsLength : ℕ → ℕ
+rowsLength n = 2 * min n 16
+
 unfoldable pub rowsOf : ℕ → List ℕ → List ℕ
-rowsOf n rows = tabulate (rowByte n rows) (2 * min n 16)
+rowsOf n rows = tabulate (rowByte n rows) (rowsLength n)

@@ -5,7 +5,7 @@ ghost use mathlib.Core.Bool.{true};
 ghost use Prim.Native.Nat.{_*_, _/_, _%_, _^_, _<_, min};
 ghost use Rattle.lists.specs.Fill.{filled};
 ghost use Rattle.bitset.specs.Set.{member, setOf, sizeOf, inserted, removed, intersection, difference, union, restricted, lowestOf};
-ghost use Rattle.bitset.specs.Row.{rowOf, rowByte};
+ghost use Rattle.bitset.specs.Row.{rowOf, rowByte, rowsLength};
 
 // Whether i is in the set s.
 // Shut out: 15 in no set; the digit 0 taken for a member.
@@ -114,7 +114,8 @@ pub fn below(n: usize) -> u16
 }
 
 // A byte as a wider number.
-fn wide(x: u8) -> u16
+// Shut out: its low seven bits; the byte and 256.
+pub fn wide(x: u8) -> u16
     ensures { λ r. ⌜ (r ≡ x) × (r < 256) ⌝ }
 {
     x as u16
@@ -132,14 +133,16 @@ pub fn read_row(m: &[u8], n: usize, r: usize) -> u16
 }
 
 // The low byte.
-fn low(x: u16) -> u8
+// Shut out: the high byte; the low seven bits.
+pub fn low(x: u16) -> u8
     ensures { λ r. ⌜ r ≡ x % 256 ⌝ }
 {
     (x % 256) as u8
 }
 
 // The high byte.
-fn high(x: u16) -> u8
+// Shut out: the low byte; the high nine bits.
+pub fn high(x: u16) -> u8
     ensures { λ r. ⌜ r ≡ x / 256 ⌝ }
 {
     (x / 256) as u8
@@ -158,8 +161,9 @@ fn row_byte(rows: &[u16; 16], n: usize, b: usize) -> u8
 }
 
 // How many bytes n rows take, of 16 at most.
-fn rows_length(n: usize) -> usize
-    ensures { λ r. ⌜ r ≡ 2 * min n 16 ⌝ }
+// Shut out: TODO.
+pub fn rows_length(n: usize) -> usize
+    ensures { λ r. ⌜ r ≡ rowsLength n ⌝ }
 {
     if 16 <= n {
         return 32;
@@ -170,7 +174,7 @@ fn rows_length(n: usize) -> usize
 // Writes the first n rows, of 16 at most, without the bits past n, as far as `out` reaches; the rest of `out` stays.
 // Shut out: bits past n written; a byte written past the end.
 pub fn write_rows(out: &mut [u8], rows: &[u16; 16], n: usize)
-    ensures { λ _. ⌜ now (out .exit) ≡ filled (rowByte n (now (rows .entry))) (2 * min n 16) (now (out .entry)) ⌝ }
+    ensures { λ _. ⌜ now (out .exit) ≡ filled (rowByte n (now (rows .entry))) (rowsLength n) (now (out .entry)) ⌝ }
 {
     let end = rows_length(n);
     let mut b: usize = 0;

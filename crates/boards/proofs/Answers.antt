@@ -1,6 +1,6 @@
 -- The answers of the exported functions, case by case, from what the functions of the crates below ensure. The main ones: `step-carried` and
 -- `step-refused`.
-use mathlib.Core.Path.{_≡_, refl, sym, ap, ap₂, _∙_}
+use mathlib.Core.Path.{_≡_, sym, ap, ap₂, _∙_}
 use mathlib.Core.Bool.{Bool, false, cond, _&&_}
 use mathlib.Core.List.{List}
 use Prim.Native.Nat.{ℕ, _*_, min}
@@ -12,11 +12,9 @@ use Rattle.lists.specs.Fill.{filled}
 use Rattle.lists.proofs.Fills.{filled-all, filled-over}
 use Rattle.lists.proofs.Tests.{cond-yes, cond-no, and-both, and-no-left, and-no-right}
 use Rattle.bitset.specs.Row.{rowByte}
+use Rattle.settings.specs.declared.Settings.{Settings}
 use Rattle.wire.specs.Slot.{copied}
 use Rattle.wire.proofs.Laws.{copied-all}
-use Rattle.reed_solomon.specs.declared.Decoded.{Decoded}
-use Rattle.reed_solomon.specs.declared.Decoded.the-variants.{Block, Beyond, Refused}
-use Rattle.reed_solomon.specs.Decode.{answerOf, decodeOf}
 use Rattle.graph.specs.Neighbour.{neighbour}
 use Rattle.graph.specs.Bits.{bitsOf}
 use Rattle.graph.proofs.Laws.{length-bits}
@@ -26,7 +24,8 @@ use Rattle.protocol.specs.declared.Started.{Started}
 use Rattle.protocol.specs.declared.State.{State}
 use Rattle.protocol.specs.declared.Stepped.{Stepped}
 use Rattle.protocol.specs.Step.{after, startOf, stepOf}
-use Rattle.state_bytes.specs.State.{stateLength, bytesOf, stateOf, outcomeNumber}
+use Rattle.state_bytes.specs.State.{stateLength, bytesOf, stateOf}
+use Rattle.reconstruction.specs.Outcomes.{outcomeNumber}
 use Rattle.boards.specs.Boards.{
   badLength,
   Written,
@@ -41,9 +40,6 @@ use Rattle.boards.specs.Boards.{
   finalSize,
   finalFits,
   finalBytes,
-  decodeNumber,
-  decodeWritten,
-  decodeBytes,
   setRows,
   setBytes,
   starWritten,
@@ -59,21 +55,29 @@ kept-all : (state b v : List ℕ) → length state ≡ stateLength → v ≡ con
 kept-all state b v e is = is ∙ cond-yes (eqb (length state) stateLength) b state (eq-eqb (length state) stateLength e)
 
 -- ---- start
-module _ (n t k own sender b : ℕ) (state : List ℕ) where
-  pub start-wrong : (length state ≡ stateLength → ⊥) → written badLength state ≡ startBytes n t k own sender b state
+module _ (s : Settings) (own b : ℕ) (state : List ℕ) where
+  pub start-wrong : (length state ≡ stateLength → ⊥) → written badLength state ≡ startBytes s own b state
   unfolding startBytes
   start-wrong e =
       sym
-      (cond-no (eqb (length state) stateLength) (startWritten (startOf n t k own sender b)) (written badLength state) (ne-eqb (length state) stateLength e))
+      (cond-no (eqb (length state) stateLength) (startWritten state (startOf s own b)) (written badLength state) (ne-eqb (length state) stateLength e))
 
-  pub start-written : length state ≡ stateLength → (a : Started) (v : List ℕ) → a ≡ startOf n t k own sender b
-      → v ≡ cond (eqb (length state) stateLength) (bytesOf (a .state)) state → written (a .number) v ≡ startBytes n t k own sender b state
-  unfolding startBytes
-  start-written e a v is-a is-v =
-      ap (written (a .number)) (kept-all state (bytesOf (a .state)) v e is-v)
-      ∙ ap startWritten is-a
-      ∙ sym
-      (cond-yes (eqb (length state) stateLength) (startWritten (startOf n t k own sender b)) (written badLength state) (eq-eqb (length state) stateLength e))
+  module _ (e : length state ≡ stateLength) (a : Started) (is-a : a ≡ startOf s own b) where
+    started : startWritten state a ≡ startBytes s own b state
+    unfolding startBytes
+    started =
+        ap (startWritten state) is-a
+        ∙ sym (cond-yes (eqb (length state) stateLength) (startWritten state (startOf s own b)) (written badLength state) (eq-eqb (length state) stateLength e))
+
+    pub start-refused : (a .number ≡ 0 → ⊥) → written (a .number) state ≡ startBytes s own b state
+    start-refused z =
+        sym (cond-no (eqb (a .number) 0) (written 0 (bytesOf (a .state))) (written (a .number) state) (ne-eqb (a .number) 0 z)) ∙ started
+
+    pub start-written : a .number ≡ 0 → (v : List ℕ) → v ≡ cond (eqb (length state) stateLength) (bytesOf (a .state)) state
+        → written 0 v ≡ startBytes s own b state
+    start-written z v is-v =
+        ap (written 0) (kept-all state (bytesOf (a .state)) v e is-v)
+        ∙ sym (cond-yes (eqb (a .number) 0) (written 0 (bytesOf (a .state))) (written (a .number) state) (eq-eqb (a .number) 0 z)) ∙ started
 
 -- ---- step
 module _ (state b i o : List ℕ) where
@@ -161,17 +165,6 @@ module _ (state block out : List ℕ) where
     final-copied r is-r n v is-v =
         ap₂ written is-r (is-v ∙ copied-all block out (f ∙ sym g))
         ∙ sym (cond-no (eqb (outcomeIn state) 0) (written 0 out) (written (outcomeIn state) block) (ne-eqb (outcomeIn state) 0 (λ z. n (is-r ∙ z)))) ∙ right
-
--- ---- decoding
-block-left : (r : Decoded) (b : List ℕ) → b ≡ answerOf r b .block
-block-left Block b = refl
-block-left Beyond b = refl
-block-left (Refused x) b = refl
-
-pub decode-written : (n t k : ℕ) (slots block : List ℕ) (r : Decoded) (b : List ℕ) (x : ℕ) → answerOf r b ≡ decodeOf n t k slots block
-    → x ≡ decodeNumber (answerOf r b) → written x b ≡ decodeBytes n t k slots block
-unfolding decodeBytes
-decode-written n t k slots block r b x is-r is-x = ap₂ written is-x (block-left r b) ∙ ap decodeWritten is-r
 
 -- ---- the star
 pub sets-written : (s : Sets) (sets v : List ℕ) → length sets ≡ 8 → v ≡ filled (rowByte 16 (setRows s)) (2 * min 16 16) sets → v ≡ setBytes s

@@ -9,11 +9,13 @@ use borrow.Author.Tests.{eq-eqb, ne-eqb}
 use lib.Dec.{eqb}
 use lib.ListN.{length}
 use Rattle.lists.proofs.Tests.{same-or-not, cond-yes, cond-no, and-both}
+use Rattle.settings.specs.declared.Settings.{Settings}
 use Rattle.wire.specs.Length.{blockSize}
 use Rattle.protocol.specs.declared.State.{State}
 use Rattle.protocol.specs.Step.{After, startOf, stepOf}
 use Rattle.protocol.proofs.Laws.{step-number, refused}
-use Rattle.state_bytes.specs.State.{stateLength, bytesOf, stateOf, outcomeNumber, Words}
+use Rattle.state_bytes.specs.State.{stateLength, bytesOf, stateOf, Words}
+use Rattle.reconstruction.specs.Outcomes.{outcomeNumber}
 use Rattle.state_bytes.proofs.Laws.{length-bytes, read-written}
 use Rattle.boards.specs.Boards.{
   badLength,
@@ -30,12 +32,14 @@ use Rattle.boards.specs.Boards.{
   finalBytes,
 }
 
--- start writes the state that it returns to a buffer of the right length
-pub start-bytes : (n t k own sender b : ℕ) (state : List ℕ) → length state ≡ stateLength
-    → startBytes n t k own sender b state ≡ written (startOf n t k own sender b .number) (bytesOf (startOf n t k own sender b .state))
+-- a start that is carried out writes the state that it returns to a buffer of the right length
+pub start-bytes : (s : Settings) (own b : ℕ) (state : List ℕ) → length state ≡ stateLength → startOf s own b .number ≡ 0
+    → startBytes s own b state ≡ written 0 (bytesOf (startOf s own b .state))
 unfolding startBytes
-start-bytes n t k own sender b state e =
-    cond-yes (eqb (length state) stateLength) (startWritten (startOf n t k own sender b)) (written badLength state) (eq-eqb (length state) stateLength e)
+start-bytes s own b state e z =
+    cond-yes (eqb (length state) stateLength) (startWritten state (startOf s own b)) (written badLength state) (eq-eqb (length state) stateLength e)
+    ∙ cond-yes (eqb (startOf s own b .number) 0) (written 0 (bytesOf (startOf s own b .state))) (written (startOf s own b .number) state)
+    (eq-eqb (startOf s own b .number) 0 z)
 
 module _ (s : State) (w : Words s) where
   -- a step, refused or carried out
@@ -62,11 +66,11 @@ module _ (s : State) (w : Words s) where
       (eq-eqb (length (bytesOf s)) stateLength (length-bytes s))
       ∙ ap (λ (x : State). outcomeNumber (x .outcome)) (read-written s w)
 
-  size-bytes : finalSize (bytesOf s) ≡ blockSize (s .n) (s .t) (s .k)
-  size-bytes = ap (λ (x : State). blockSize (x .n) (x .t) (x .k)) (read-written s w)
+  size-bytes : finalSize (bytesOf s) ≡ blockSize (s .settings .n) (s .settings .t) (s .settings .k)
+  size-bytes = ap (λ (x : State). blockSize (x .settings .n) (x .settings .t) (x .settings .k)) (read-written s w)
 
   -- the final block of a run that is at its end
-  pub final-bytes : (block out : List ℕ) → length block ≡ blockSize (s .n) (s .t) (s .k) → length out ≡ blockSize (s .n) (s .t) (s .k)
+  pub final-bytes : (block out : List ℕ) → length block ≡ blockSize (s .settings .n) (s .settings .t) (s .settings .k) → length out ≡ blockSize (s .settings .n) (s .settings .t) (s .settings .k)
       → (outcomeNumber (s .outcome) ≡ 0 → ⊥) → finalBytes (bytesOf s) block out ≡ written (outcomeNumber (s .outcome)) block
   unfolding finalBytes
   final-bytes block out e f n =
@@ -81,7 +85,7 @@ module _ (s : State) (w : Words s) where
 
 -- two states with one outcome and one block length have one final block of the same block
 pub final-same : (s s′ : State) → Words s → Words s′ → (block block′ out : List ℕ) → s .outcome ≡ s′ .outcome
-    → blockSize (s .n) (s .t) (s .k) ≡ blockSize (s′ .n) (s′ .t) (s′ .k) → block ≡ block′ → finalBytes (bytesOf s) block out ≡ finalBytes (bytesOf s′) block′ out
+    → blockSize (s .settings .n) (s .settings .t) (s .settings .k) ≡ blockSize (s′ .settings .n) (s′ .settings .t) (s′ .settings .k) → block ≡ block′ → finalBytes (bytesOf s) block out ≡ finalBytes (bytesOf s′) block′ out
 unfolding finalBytes
 final-same s s′ w w′ block block′ out e f g =
     rw (length-bytes s, length-bytes s′, outcome-bytes s w, outcome-bytes s′ w′, size-bytes s w, size-bytes s′ w′, e, f, g) refl

@@ -1,10 +1,10 @@
 -- What the exported functions answer and leave: the definitions of the crates below, with the state as bytes. A lent state of another length is
 -- refused with 6, which is tried first.
 --   badLength                       6, row 6 of the refusal table
---   beyondNumber                    what decoding answers where no block meets the rule: 9, since rows 1 to 8 are refusals
+--   beyondNumber                    what decoding answers where no block meets the rule: 255, the number of no refusal
 --   Written, written r bytes        a number answered, and the lent bytes as the call leaves them
---   startWritten a                  an answer of `start`, with the state as bytes
---   startBytes n t k own sender b state   start to a lent state; b is the length of the lent block
+--   startWritten state a            an answer of `start`, with the state as bytes; refused, the lent bytes stay
+--   startBytes s own b state        start to a lent state; b is the length of the lent block
 --   Left, left r state b o          what a step leaves: its number, the state, the block and the outbox
 --   leftOf a                        an answer of `step`, with the state as bytes
 --   stepLeft state a                the same where it was carried out; refused, the state stays byte for byte
@@ -13,9 +13,8 @@
 --   finalSize state                 the length of a block by the state's settings
 --   finalFits state block final     both lent blocks have it
 --   finalBytes state block final    the outcome, and the final block: the block as it is, once the outcome is set
---   wordNumber w r, decodeNumber a  the number for an answer of decoding
---   decodeWritten a                 an answer of decoding
---   decodeBytes n t k slots block   decoding
+--   decodeNumber d                  the number for an answer of decoding
+--   DecodeLeaves n t k slots before r after   decoding: r is the number of its answer, and `after` the block that it leaves
 --   setRows s                       the sets C, D, F and E as the first of 16 rows of marks
 --   setBytes s                      the bytes of these four rows
 --   starWritten s sets              an answer of the star; refused, the lent bytes stay
@@ -24,6 +23,7 @@
 --   starBytes n t rows sets         the star of the rows in 32 bytes, to 8 bytes
 --   pairBytes n rows pairs          the missing pairs of the rows in 32 bytes, to 15 bytes
 --   pairStarBytes n t pairs sets    the star of the missing pairs in 15 bytes, to 8 bytes
+use mathlib.Core.Path.{_≡_}
 use mathlib.Core.Bool.{Bool, cond, _&&_}
 use mathlib.Core.List.{List, _∷_}
 use Prim.Native.Nat.{ℕ}
@@ -31,21 +31,25 @@ use lib.Dec.{eqb}
 use lib.ListN.{length, replicate}
 use Rattle.lists.specs.Fill.{tabulate}
 use Rattle.bitset.specs.Row.{rowByte, rowOf}
+use Rattle.settings.specs.declared.Settings.{Settings}
 use Rattle.wire.specs.Length.{blockSize}
-use Rattle.reed_solomon.specs.Decode.{Answer, Word, decoded, beyond, refused, decodeOf}
+use Rattle.reed_solomon.specs.declared.Decoded.{Decoded}
+use Rattle.reed_solomon.specs.declared.Decoded.the-variants.{Block, Beyond, Refused}
+use Rattle.reed_solomon.specs.Decode.{Answers}
+use Rattle.reconstruction.specs.Outcomes.{outcomeNumber}
 use Rattle.graph.specs.Neighbour.{neighbour}
 use Rattle.graph.specs.Bits.{bitsOf}
 use Rattle.star.specs.declared.Sets.{Sets}
 use Rattle.star.specs.Star.{starOf, starOfBits}
 use Rattle.protocol.specs.declared.Started.{Started}
 use Rattle.protocol.specs.Step.{After, startOf, stepOf}
-use Rattle.state_bytes.specs.State.{stateLength, bytesOf, stateOf, outcomeNumber}
+use Rattle.state_bytes.specs.State.{stateLength, bytesOf, stateOf}
 
 abbrev pub badLength : ℕ
 badLength = 6
 
 abbrev pub beyondNumber : ℕ
-beyondNumber = 9
+beyondNumber = 255
 
 pub record Written : Type 0 where
   pub number : ℕ
@@ -54,12 +58,12 @@ pub record Written : Type 0 where
 abbrev pub written : ℕ → List ℕ → Written
 written r bytes = record { number = r; bytes = bytes }
 
-abbrev pub startWritten : Started → Written
-startWritten a = written (a .number) (bytesOf (a .state))
+abbrev pub startWritten : List ℕ → Started → Written
+startWritten state a = cond (eqb (a .number) 0) (written 0 (bytesOf (a .state))) (written (a .number) state)
 
-unfoldable pub startBytes : (n t k own sender b : ℕ) → List ℕ → Written
-startBytes n t k own sender b state =
-    cond (eqb (length state) stateLength) (startWritten (startOf n t k own sender b)) (written badLength state)
+unfoldable pub startBytes : Settings → (own b : ℕ) → List ℕ → Written
+startBytes s own b state =
+    cond (eqb (length state) stateLength) (startWritten state (startOf s own b)) (written badLength state)
 
 pub record Left : Type 0 where
   pub number : ℕ
@@ -84,7 +88,7 @@ unfoldable pub outcomeIn : List ℕ → ℕ
 outcomeIn state = cond (eqb (length state) stateLength) (outcomeNumber (stateOf state .outcome)) badLength
 
 abbrev pub finalSize : List ℕ → ℕ
-finalSize state = blockSize (stateOf state .n) (stateOf state .t) (stateOf state .k)
+finalSize state = blockSize (stateOf state .settings .n) (stateOf state .settings .t) (stateOf state .settings .k)
 
 abbrev pub finalFits : (state block final : List ℕ) → Bool
 finalFits state block final = eqb (length block) (finalSize state) && eqb (length final) (finalSize state)
@@ -95,19 +99,13 @@ finalBytes state block final =
     (cond (eqb (outcomeIn state) 0) (written 0 final) (written (outcomeIn state) block))
     (written badLength final)
 
-abbrev pub wordNumber : Word → ℕ → ℕ
-wordNumber decoded r = 0
-wordNumber beyond r = beyondNumber
-wordNumber refused r = r
+abbrev pub decodeNumber : Decoded → ℕ
+decodeNumber Block = 0
+decodeNumber Beyond = beyondNumber
+decodeNumber (Refused r) = r
 
-abbrev pub decodeNumber : Answer → ℕ
-decodeNumber a = wordNumber (a .word) (a .number)
-
-abbrev pub decodeWritten : Answer → Written
-decodeWritten a = written (decodeNumber a) (a .block)
-
-unfoldable pub decodeBytes : (n t k : ℕ) → List ℕ → List ℕ → Written
-decodeBytes n t k slots block = decodeWritten (decodeOf n t k slots block)
+abbrev pub DecodeLeaves : (n t k : ℕ) (slots before : List ℕ) → ℕ → List ℕ → Type 0
+DecodeLeaves n t k slots before r after = (d : Decoded) × (r ≡ decodeNumber d) × Answers n t k slots before d after
 
 abbrev pub setRows : Sets → List ℕ
 setRows s = s .c ∷ s .d ∷ s .f ∷ s .e ∷ replicate 12 0

@@ -8,21 +8,21 @@ ghost use lib.ListN.{length};
 ghost use Rattle.settings.specs.Refusal.{outside};
 ghost use Rattle.wire.specs.Round.{callCount};
 ghost use Rattle.wire.specs.Length.{blockSize, messageLength, inboxLength, outboxLength};
-ghost use Rattle.wire.specs.Slot.{messageOf, offsetOf};
+ghost use Rattle.wire.specs.Slot.{layoutWith, messageOf, offsetOf};
 ghost use Rattle.reed_solomon.specs.Encode.{encoded, encodeOf};
-ghost use Rattle.reed_solomon.specs.Decode.{answerOf};
 ghost use Rattle.state_bytes.specs.State.{stateOf};
-ghost use Rattle.boards.specs.Boards.{written, startBytes, left, stepBytes, outcomeIn, finalBytes, decodeNumber, decodeBytes, setBytes, starWritten, starBytes, pairBytes, pairStarBytes};
+ghost use Rattle.boards.specs.Boards.{written, startBytes, left, stepBytes, outcomeIn, finalBytes, decodeNumber, DecodeLeaves, setBytes, starWritten, starBytes, pairBytes, pairStarBytes};
 use reed_solomon::Decoded;
+use settings::Settings;
 use star::Sets;
 
 // The number of a lent length that is wrong.
 const BAD_LENGTH: u8 = 6;
 
 // What decoding answers where no block meets the rule.
-const BEYOND: u8 = 9;
+const BEYOND: u8 = 255;
 
-// Start: the number, and the state to the lent bytes; refused by a setting or the block's length, the zero state.
+// Start: the number, and the state to the lent bytes. Refused: no lent byte changes.
 // Shut out: own number and sender the other way round; 6 whatever start answers.
 #[no_mangle]
 pub extern "C" fn potekawhi_start(
@@ -34,15 +34,20 @@ pub extern "C" fn potekawhi_start(
     block: &[u8],
     state: &mut [u8],
 ) -> u8
-    ensures { λ r. ⌜ written r (now (state .exit)) ≡ startBytes n t k own sender (length (now (block .entry))) (now (state .entry)) ⌝ }
+    ensures { λ r. ⌜ written r (now (state .exit)) ≡ startBytes (record { n = n; t = t; k = k; sender = sender }) own (length (now (block .entry))) (now (state .entry)) ⌝ }
 {
     if state.len() != state_bytes::length() {
         return BAD_LENGTH;
     }
-    let started = controller::start(n, t, k, own, sender, block);
+    let settings = Settings { n, t, k, sender };
+    let started = controller::start(settings, own, block);
+    let number = started.number;
+    if number != 0 {
+        return number;
+    }
     let fresh = started.state;
     state_bytes::write(fresh, state);
-    started.number
+    0
 }
 
 // One step on the state in the lent bytes. Refused: no lent byte changes.
@@ -104,7 +109,7 @@ pub extern "C" fn potekawhi_final_block(state: &[u8], block: &[u8], out: &mut [u
         return BAD_LENGTH;
     }
     let s = state_bytes::read(state);
-    let size = wire::block_length(s.n, s.t, s.k);
+    let size = wire::block_length(s.settings.n, s.settings.t, s.settings.k);
     if block.len() != size {
         return BAD_LENGTH;
     }
@@ -123,11 +128,12 @@ pub extern "C" fn potekawhi_final_block(state: &[u8], block: &[u8], out: &mut [u
 // Shut out: slot number and length the other way round, in the length answered; the same in the offset.
 #[no_mangle]
 pub extern "C" fn potekawhi_message(inbox: &[u8], len: usize, j: usize, offset: &mut usize) -> usize
-    ensures { λ r. ⌜ (r ≡ length (messageOf (now (inbox .entry)) len j)) × (now (offset .exit) ≡ offsetOf (now (inbox .entry)) len j) ⌝ }
+    ensures { λ r. ⌜ (r ≡ length (messageOf (now (inbox .entry)) (layoutWith len) j)) × (now (offset .exit) ≡ offsetOf (now (inbox .entry)) (layoutWith len) j) ⌝ }
 {
-    let start = wire::offset(inbox, len, j);
+    let layout = wire::layout_with(len);
+    let start = wire::offset(inbox, layout, j);
     *offset = start;
-    let m = wire::message(inbox, len, j);
+    let m = wire::message(inbox, layout, j);
     m.len()
 }
 
@@ -149,7 +155,7 @@ pub extern "C" fn potekawhi_encode(
 
 // The number for an answer of decoding.
 fn decoded_number(r: Decoded) -> u8
-    ensures { λ x. ⌜ ((b : List ℕ) → x ≡ decodeNumber (answerOf r b)) ⌝ }
+    ensures { λ x. ⌜ x ≡ decodeNumber r ⌝ }
 {
     match r {
         Decoded::Block => 0,
@@ -158,7 +164,7 @@ fn decoded_number(r: Decoded) -> u8
     }
 }
 
-// Decoding: the block to the lent bytes.
+// Decoding: the block to the lent bytes, by the relation `Answers`.
 // Shut out: 0 for beyond; n and t the other way round.
 #[no_mangle]
 pub extern "C" fn potekawhi_decode(
@@ -168,7 +174,7 @@ pub extern "C" fn potekawhi_decode(
     slots: &[u8],
     block: &mut [u8],
 ) -> u8
-    ensures { λ r. ⌜ written r (now (block .exit)) ≡ decodeBytes n t k (now (slots .entry)) (now (block .entry)) ⌝ }
+    ensures { λ r. ⌜ DecodeLeaves n t k (now (slots .entry)) (now (block .entry)) r (now (block .exit)) ⌝ }
 {
     let decoded = reed_solomon::decode(n, t, k, slots, block);
     decoded_number(decoded)

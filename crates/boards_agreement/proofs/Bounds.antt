@@ -10,6 +10,7 @@ use lib.ListN.{length, getD, replicate}
 use lib.Pow.{pow-mono}
 use Rattle.lists.proofs.Parts.{all-zeros}
 use Rattle.lists.proofs.Tests.{same-or-not}
+use Rattle.settings.specs.declared.Settings.{Settings}
 use Rattle.settings.specs.Valid.{Valid}
 use Rattle.wire.specs.declared.Call.{Call}
 use Rattle.wire.specs.declared.Call.the-variants.{Send, Receive, Compare, Collect, Tally, Hold, Settle, Core, Choose, Finish, Outside}
@@ -23,7 +24,7 @@ use Rattle.reconstruction.specs.Reconstruction.{finished}
 use Rattle.protocol.specs.declared.State.{State}
 use Rattle.protocol.specs.declared.Started.{Started}
 use Rattle.protocol.specs.State.{zeroState, freshState, advanced, withMatrix, withVotes, withCore}
-use Rattle.protocol.specs.Calls.{Carried, inboxLen, readPhase, coreOf, settledMatrix, callOf}
+use Rattle.protocol.specs.Calls.{Carried, inboxLayout, readPhase, coreOf, settledMatrix, callOf}
 use Rattle.protocol.specs.Step.{startRefusal, startOf, stepRefusal, After, stepOf}
 use Rattle.protocol.proofs.Laws.{
   start-0,
@@ -63,25 +64,25 @@ zeros-words s h m w c = record {
 zero-words : Words zeroState
 zero-words = zeros-words zeroState (numbers-below zeroState (lit< tt) (lit< tt) (lit< tt) (lit< tt) (lit< tt) (lit< tt)) refl refl refl
 
-fresh-words : (n t k own sender : ℕ) → Valid (record { n = n; t = t; k = k; number = own; sender = sender }) → Words (freshState n t k own sender)
-fresh-words n t k own sender v =
+fresh-words : (s : Settings) (own : ℕ) → Valid s own → Words (freshState s own)
+fresh-words s own v =
     let q = v .coded .quorum in
-    zeros-words (freshState n t k own sender)
-    (numbers-below (freshState n t k own sender) (omega (arith, q .n-most)) (omega (arith, q .n-most, q .t-most)) (omega (arith, v .coded .k-most))
+    zeros-words (freshState s own)
+    (numbers-below (freshState s own) (omega (arith, q .n-most)) (omega (arith, q .n-most, q .t-most)) (omega (arith, v .coded .k-most))
     (omega (arith, q .n-most, v .number .most)) (omega (arith, q .n-most, v .sender .most)) (lit< tt))
     refl
     refl
     refl
 
-pub start-words : (n t k own sender b : ℕ) → Words (startOf n t k own sender b .state)
-start-words n t k own sender b =
+pub start-words : (s : Settings) (own b : ℕ) → Words (startOf s own b .state)
+start-words s own b =
     ⊎-elim
-    (λ (z : startRefusal n t k own sender b ≡ 0).
-    subst (λ (a : Started). Words (a .state)) (sym (start-found n t k own sender b (startRefusal n t k own sender b) refl z))
-    (fresh-words n t k own sender (start-0 n t k own sender b (start-number n t k own sender b ∙ z) .0)))
-    (λ (z : startRefusal n t k own sender b ≡ 0 → ⊥).
-    subst (λ (a : Started). Words (a .state)) (sym (start-refused n t k own sender b (startRefusal n t k own sender b) refl z)) zero-words)
-    (same-or-not (startRefusal n t k own sender b) 0)
+    (λ (z : startRefusal s own b ≡ 0).
+    subst (λ (a : Started). Words (a .state)) (sym (start-found s own b (startRefusal s own b) refl z))
+    (fresh-words s own (start-0 s own b (start-number s own b ∙ z) .0)))
+    (λ (z : startRefusal s own b ≡ 0 → ⊥).
+    subst (λ (a : Started). Words (a .state)) (sym (start-refused s own b (startRefusal s own b) refl z)) zero-words)
+    (same-or-not (startRefusal s own b) 0)
 
 -- ---- the changes of a call
 advanced-words : (s : State) (w : Outcome) → Words s → s .next ≤ 24 → Words (advanced s w)
@@ -126,7 +127,7 @@ core-words s m e h l r c = record {
 }
 
 -- ---- each call
-module _ (s : State) (b i o : List ℕ) (h : Words s) (few : s .n ≤ 16) (l : s .next ≤ 24) where
+module _ (s : State) (b i o : List ℕ) (h : Words s) (few : s .settings .n ≤ 16) (l : s .next ≤ 24) where
   open-words : Words (advanced s Open)
   open-words = advanced-words s Open h l
 
@@ -135,14 +136,14 @@ module _ (s : State) (b i o : List ℕ) (h : Words s) (few : s .n ≤ 16) (l : s
 
   settled-length : length settled ≡ 16
   unfolding settled
-  settled-length = length-settled (s .matrix) (s .weak) i (inboxLen s) (s .n) (readPhase s)
+  settled-length = length-settled (s .matrix) (s .weak) i (inboxLayout s) (s .settings .n) (readPhase s)
 
   settled-rows : (r : ℕ) → getD settled r 0 < 2 ^ 16
   unfolding settled
-  settled-rows r = settled-below (s .matrix) (s .weak) i (inboxLen s) (s .n) (readPhase s) r
+  settled-rows r = settled-below (s .matrix) (s .weak) i (inboxLayout s) (s .settings .n) (readPhase s) r
 
-  core-below : coreOf settled (s .n) (s .t) < 2 ^ 16
-  core-below = lt-of-lt-of-le (e-below settled (s .n) (s .t)) (pow-mono few)
+  core-below : coreOf settled (s .settings .n) (s .settings .t) < 2 ^ 16
+  core-below = lt-of-lt-of-le (e-below settled (s .settings .n) (s .settings .t)) (pow-mono few)
 
   by : (c : Call) (a : Carried) → callOf c s b i o ≡ a → Words (a .state) → Words (callOf c s b i o .state)
   by c a e w = subst (λ (x : Carried). Words (x .state)) (sym e) w
@@ -154,19 +155,19 @@ module _ (s : State) (b i o : List ℕ) (h : Words s) (few : s .n ≤ 16) (l : s
   call-words Compare = by Compare _ (of-compare s b i o) open-words
   call-words Collect =
       by Collect _ (of-collect s b i o)
-      (matrix-words (advanced s Open) (firstMatrix i (inboxLen s) (s .n)) open-words (length-first i (inboxLen s) (s .n)) (first-below i (inboxLen s) (s .n)))
+      (matrix-words (advanced s Open) (firstMatrix i (inboxLayout s) (s .settings .n)) open-words (length-first i (inboxLayout s) (s .settings .n)) (first-below i (inboxLayout s) (s .settings .n)))
   call-words Tally = by Tally _ (of-tally s b i o) open-words
   call-words Hold =
       by Hold _ (of-hold s b i o)
-      (votes-words (advanced s Open) (heldOf i (inboxLen s) (s .n) (s .t)) (weakOf i (inboxLen s) (s .n) (s .t)) open-words
-      (length-held i (inboxLen s) (s .n) (s .t)) (held-below i (inboxLen s) (s .n) (s .t)) (length-weak i (inboxLen s) (s .n) (s .t))
-      (weak-below i (inboxLen s) (s .n) (s .t)))
+      (votes-words (advanced s Open) (heldOf i (inboxLayout s) (s .settings .n) (s .settings .t)) (weakOf i (inboxLayout s) (s .settings .n) (s .settings .t)) open-words
+      (length-held i (inboxLayout s) (s .settings .n) (s .settings .t)) (held-below i (inboxLayout s) (s .settings .n) (s .settings .t)) (length-weak i (inboxLayout s) (s .settings .n) (s .settings .t))
+      (weak-below i (inboxLayout s) (s .settings .n) (s .settings .t)))
   call-words Settle = by Settle _ (of-settle s b i o) (matrix-words (advanced s Open) settled open-words settled-length settled-rows)
   call-words Core =
-      by Core _ (of-core s b i o) (core-words (advanced s Open) settled (coreOf settled (s .n) (s .t)) open-words settled-length settled-rows core-below)
+      by Core _ (of-core s b i o) (core-words (advanced s Open) settled (coreOf settled (s .settings .n) (s .settings .t)) open-words settled-length settled-rows core-below)
   call-words Choose = by Choose _ (of-choose s b i o) open-words
   call-words Finish =
-      by Finish _ (of-finish s b i o) (advanced-words s (finished (s .n) (s .t) (s .k) (s .core) i b .outcome) h l)
+      by Finish _ (of-finish s b i o) (advanced-words s (finished (s .settings .n) (s .settings .t) (s .settings .k) (s .core) i b .outcome) h l)
   call-words Outside = by Outside _ (of-outside s b i o) h
 
 pub step-words : (s : State) (b i o : List ℕ) → Words s → Words (stepOf s b i o .answer .state)
@@ -177,6 +178,6 @@ step-words s b i o h =
     let ready = ready-of s (length b) (length i) (length o) z in
     let q = ready .valid .coded .quorum in
     subst (λ (a : After). Words (a .answer .state)) (sym (performed s b i o z))
-    (call-words s b i o h (q .n-most) (omega (arith, ready .next-most, q .t-most, q .n-most)) (callKind (s .t) (s .next))))
+    (call-words s b i o h (q .n-most) (omega (arith, ready .next-most, q .t-most, q .n-most)) (callKind (s .settings .t) (s .next))))
     (λ (z : r ≡ 0 → ⊥). subst (λ (a : After). Words (a .answer .state)) (sym (refused s b i o z)) h)
     (same-or-not r 0)

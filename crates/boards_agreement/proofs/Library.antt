@@ -5,19 +5,22 @@ use mathlib.Core.List.{List, [], _∷_}
 use Prim.Native.Nat.{ℕ, _+_}
 use native.Mathlib.Omega.{arith}
 use lib.ListN.{length}
+use Rattle.settings.specs.declared.Settings.{Settings}
 use Rattle.wire.specs.Length.{blockSize}
 use Rattle.wire.proofs.Laws.{block-size as stated-size}
 use Rattle.protocol.specs.declared.State.{State}
+use Rattle.protocol.specs.Step.{startOf}
+use Rattle.protocol.proofs.Laws.{refused, step-number}
 use Rattle.agreement.specs.Run.{Lent, Held, stepped, left, ends, begun}
 use Rattle.agreement.specs.Agreement.{System, Correct, Supposed, atStart, atEnd, last}
 use Rattle.agreement.proofs.Run.{At}
 use Rattle.agreement.proofs.System.{coded, block-size, call-at, call-last}
 use Rattle.agreement.proofs.Agreement.{agreement}
-use Rattle.state_bytes.specs.State.{stateLength, bytesOf, outcomeNumber, Words}
-use Rattle.state_bytes.proofs.Laws.{number-agreed}
-use Rattle.boards.specs.Boards.{Left, leftOf, written, Written, outcomeIn, finalBytes}
+use Rattle.state_bytes.specs.State.{stateLength, bytesOf, Words}
+use Rattle.reconstruction.specs.Outcomes.{outcomeNumber}
+use Rattle.boards.specs.Boards.{Left, left as numbered, leftOf, written, Written, outcomeIn, finalBytes}
 use Rattle.boards.proofs.Laws.{start-bytes, step-bytes, outcome-bytes, final-bytes, final-same}
-use Rattle.boards_agreement.specs.Library.{Kept, makes, kept, keptAfter, keptFrom, LibraryRuns, keptAt, LibraryAgrees}
+use Rattle.boards_agreement.specs.Library.{Kept, makes, kept, keptAfter, keptFrom, LibraryRuns, keptAt, SetByLastCall, LibraryAgrees}
 use Rattle.boards_agreement.proofs.Bounds.{start-words, step-words}
 
 -- what is held, with the state as bytes
@@ -45,75 +48,99 @@ after-same h [] w = refl
 after-same h (l ∷ ls) w = ap (λ (c : Kept). keptAfter c ls) (kept-same h w l) ∙ after-same (left h l) ls (left-words h l w)
 
 -- ---- from the start
-module _ (n t k own sender : ℕ) (b buffer : List ℕ) (size : length buffer ≡ stateLength) where
-  from-same : keptFrom n t k own sender b buffer ≡ asKept (begun n t k own sender b)
+module _ (s : Settings) (own : ℕ) (b buffer : List ℕ) (size : length buffer ≡ stateLength) (started : startOf s own (length b) .number ≡ 0) where
+  from-same : keptFrom s own b buffer ≡ asKept (begun s own b)
   unfolding asKept
-  from-same = ap (λ (x : Written). record { state = x .bytes; block = b }) (start-bytes n t k own sender (length b) buffer size)
+  from-same = ap (λ (x : Written). record { state = x .bytes; block = b }) (start-bytes s own (length b) buffer size started)
 
-  begun-words : Words (begun n t k own sender b .state)
-  begun-words = start-words n t k own sender (length b)
+  begun-words : Words (begun s own b .state)
+  begun-words = start-words s own (length b)
 
-  run-same : (ls : List Lent) → keptAfter (keptFrom n t k own sender b buffer) ls ≡ asKept (ends (begun n t k own sender b) ls)
-  run-same ls = ap (λ (c : Kept). keptAfter c ls) from-same ∙ after-same (begun n t k own sender b) ls begun-words
+  run-same : (ls : List Lent) → keptAfter (keptFrom s own b buffer) ls ≡ asKept (ends (begun s own b) ls)
+  run-same ls = ap (λ (c : Kept). keptAfter c ls) from-same ∙ after-same (begun s own b) ls begun-words
 
 pub library-runs : LibraryRuns
-library-runs n t k own sender b buffer size ls l =
-    ap (λ (c : Kept). makes c l) (run-same n t k own sender b buffer size ls)
-    ∙ makes-same (ends (begun n t k own sender b) ls) (ends-words (begun n t k own sender b) ls (begun-words n t k own sender b buffer size)) l
+library-runs s own b buffer size ls l started =
+    ap (λ (c : Kept). makes c l) (run-same s own b buffer size started ls)
+    ∙ makes-same (ends (begun s own b) ls) (ends-words (begun s own b) ls (begun-words s own b buffer size started)) l
 
 -- ---- systems
 module _ (S : System) (supposed : Supposed S) (buffers : ℕ → List ℕ) (sizes : (i : ℕ) → length (buffers i) ≡ stateLength) where
-  at : (i : ℕ) → keptAt S buffers i ≡ asKept (atEnd S i)
-  at i = run-same (S .n) (S .t) (S .k) i (S .sender) (S .block i) (buffers i) (sizes i) (S .steps i)
+  at : (i : ℕ) → Correct S i → keptAt S buffers i ≡ asKept (atEnd S i)
+  at i c = run-same (S .settings) i (S .block i) (buffers i) (sizes i) (supposed .started i c) (S .steps i)
 
   end-words : (i : ℕ) → Words (atEnd S i .state)
-  end-words i = ends-words (atStart S i) (S .steps i) (begun-words (S .n) (S .t) (S .k) i (S .sender) (S .block i) (buffers i) (sizes i))
+  end-words i = ends-words (atStart S i) (S .steps i) (start-words (S .settings) i (length (S .block i)))
+
+  -- what the state and the block at the end are, as the library keeps them
+  outcome-at : (i : ℕ) → Correct S i → outcomeIn (keptAt S buffers i .state) ≡ outcomeNumber (atEnd S i .state .outcome)
+  unfolding asKept
+  outcome-at i c = ap (λ (x : Kept). outcomeIn (x .state)) (at i c) ∙ outcome-bytes (atEnd S i .state) (end-words i)
+
+  block-at : (i : ℕ) → Correct S i → keptAt S buffers i .block ≡ atEnd S i .block
+  unfolding asKept
+  block-at i c = ap (λ (x : Kept). x .block) (at i c)
+
+  set-by-last : (i : ℕ) → Correct S i → SetByLastCall S buffers i
+  set-by-last i c =
+      let q = agreement S supposed .set i c in
+      record {
+        none = λ z. let r = q .none z in (outcome-at i c ∙ ap outcomeNumber (r .0), block-at i c ∙ r .1);
+        agreed = λ z B d. let r = q .agreed z B d in (outcome-at i c ∙ ap outcomeNumber (r .0), block-at i c ∙ r .1);
+        beyond = λ z d. let r = q .beyond z d in (outcome-at i c ∙ ap outcomeNumber (r .0), block-at i c ∙ r .1);
+      }
+
+  later-steps : (i : ℕ) → Correct S i → (l : Lent)
+      → makes (keptAt S buffers i) l ≡ numbered 8 (keptAt S buffers i .state) (keptAt S buffers i .block) (l .outbox)
+  unfolding asKept
+  later-steps i c l =
+      let h = atEnd S i in
+      let e : stepped h l .answer .number ≡ 8 = agreement S supposed .later i c l .0 in
+      let q = refused (h .state) (h .block) (l .inbox) (l .outbox) (λ z. omega (arith, e, step-number (h .state) (h .block) (l .inbox) (l .outbox), z)) in
+      ap (λ (x : Kept). makes x l) (at i c)
+      ∙ makes-same h (end-words i) l
+      ∙ (λ x. numbered (e x) (bytesOf (q x .answer .state)) (q x .block) (q x .outbox))
+      ∙ sym (ap (λ (x : Kept). numbered 8 (x .state) (x .block) (l .outbox)) (at i c))
 
   -- the settings at the end are the system's
-  end-size : (i : ℕ) → Correct S i → blockSize (atEnd S i .state .n) (atEnd S i .state .t) (atEnd S i .state .k) ≡ blockSize (S .n) (S .t) (S .k)
+  end-size : (i : ℕ) → Correct S i → blockSize (atEnd S i .state .settings .n) (atEnd S i .state .settings .t) (atEnd S i .state .settings .k) ≡ blockSize (S .settings .n) (S .settings .t) (S .settings .k)
   end-size i c =
-      let a = subst (At (S .n) (S .t) (S .k) i (S .sender) (last S + 1)) (call-last S supposed i c)
+      let a = subst (At (S .settings) i (last S + 1)) (call-last S supposed i c)
       (call-at S supposed i c (last S) (omega arith) (omega arith) .after-at) in
-      rw (a .n-is, a .t-is, a .k-is) refl
+      ap (λ (x : Settings). blockSize (x .n) (x .t) (x .k)) (a .settings-is)
 
   one-outcome : (i j : ℕ) → Correct S i → Correct S j → outcomeIn (keptAt S buffers i .state) ≡ outcomeIn (keptAt S buffers j .state)
-  unfolding asKept
-  one-outcome i j ci cj =
-      ap (λ (c : Kept). outcomeIn (c .state)) (at i)
-      ∙ outcome-bytes (atEnd S i .state) (end-words i)
-      ∙ ap outcomeNumber (agreement S supposed .same-outcome i j ci cj)
-      ∙ sym (outcome-bytes (atEnd S j .state) (end-words j))
-      ∙ sym (ap (λ (c : Kept). outcomeIn (c .state)) (at j))
+  one-outcome i j ci cj = outcome-at i ci ∙ ap outcomeNumber (agreement S supposed .same-outcome i j ci cj) ∙ sym (outcome-at j cj)
 
   one-block : (i j : ℕ) → Correct S i → Correct S j → keptAt S buffers i .block ≡ keptAt S buffers j .block
-  unfolding asKept
-  one-block i j ci cj =
-      ap (λ (c : Kept). c .block) (at i) ∙ agreement S supposed .same-block i j ci cj ∙ sym (ap (λ (c : Kept). c .block) (at j))
+  one-block i j ci cj = block-at i ci ∙ agreement S supposed .same-block i j ci cj ∙ sym (block-at j cj)
 
   one-final : (i j : ℕ) → Correct S i → Correct S j → (out : List ℕ)
       → finalBytes (keptAt S buffers i .state) (keptAt S buffers i .block) out ≡ finalBytes (keptAt S buffers j .state) (keptAt S buffers j .block) out
   unfolding asKept
   one-final i j ci cj out =
-      ap (λ (c : Kept). finalBytes (c .state) (c .block) out) (at i)
+      ap (λ (c : Kept). finalBytes (c .state) (c .block) out) (at i ci)
       ∙ final-same (atEnd S i .state) (atEnd S j .state) (end-words i) (end-words j) (atEnd S i .block) (atEnd S j .block) out
       (agreement S supposed .same-outcome i j ci cj) (end-size i ci ∙ sym (end-size j cj)) (agreement S supposed .same-block i j ci cj)
-      ∙ sym (ap (λ (c : Kept). finalBytes (c .state) (c .block) out) (at j))
+      ∙ sym (ap (λ (c : Kept). finalBytes (c .state) (c .block) out) (at j cj))
 
-  senders-final : (i : ℕ) → Correct S (S .sender) → Correct S i → (out : List ℕ) → length out ≡ length (S .block (S .sender))
-      → finalBytes (keptAt S buffers i .state) (keptAt S buffers i .block) out ≡ written 1 (S .block (S .sender))
+  senders-final : (i : ℕ) → Correct S (S .settings .sender) → Correct S i → (out : List ℕ) → length out ≡ length (S .block (S .settings .sender))
+      → finalBytes (keptAt S buffers i .state) (keptAt S buffers i .block) out ≡ written 1 (S .block (S .settings .sender))
   unfolding asKept
   senders-final i cs ci out e =
       let o = agreement S supposed .sender-outcome i cs ci in
       let b = agreement S supposed .sender-block i cs ci in
-      let r : outcomeNumber (atEnd S i .state .outcome) ≡ 1 = ap outcomeNumber o ∙ number-agreed in
-      let size : length (S .block (S .sender)) ≡ blockSize (atEnd S i .state .n) (atEnd S i .state .t) (atEnd S i .state .k)
-      = block-size S supposed (S .sender) cs ∙ sym (stated-size (coded S supposed (S .sender) cs)) ∙ sym (end-size i ci) in
-      ap (λ (c : Kept). finalBytes (c .state) (c .block) out) (at i)
+      let r : outcomeNumber (atEnd S i .state .outcome) ≡ 1 = ap outcomeNumber o in
+      let size : length (S .block (S .settings .sender)) ≡ blockSize (atEnd S i .state .settings .n) (atEnd S i .state .settings .t) (atEnd S i .state .settings .k)
+      = block-size S supposed (S .settings .sender) cs ∙ sym (stated-size (coded S supposed (S .settings .sender) cs)) ∙ sym (end-size i ci) in
+      ap (λ (c : Kept). finalBytes (c .state) (c .block) out) (at i ci)
       ∙ final-bytes (atEnd S i .state) (end-words i) (atEnd S i .block) out (ap length b ∙ size) (e ∙ size) (λ z. omega (arith, r, z))
       ∙ ap₂ written r b
 
 pub library-agrees : LibraryAgrees
 library-agrees S supposed buffers sizes = record {
+  set = set-by-last S supposed buffers sizes;
+  later = later-steps S supposed buffers sizes;
   same-outcome = one-outcome S supposed buffers sizes;
   same-block = one-block S supposed buffers sizes;
   same-final = one-final S supposed buffers sizes;

@@ -5,20 +5,28 @@
 --   makes c l             one step through the library
 --   kept c l              what it leaves to the next
 --   keptAfter c ls        what is kept after a list of steps
---   keptFrom n t k own sender b buffer   what start leaves in a buffer, and the block lent to it
---   LibraryRuns           every step of every list of steps through the library is that of the run of `agreement`: its number, block and
---                         outbox, and the state as bytes
+--   keptFrom s own b buffer   what start leaves in a buffer, and the block lent to it
+--   LibraryRuns           after a start that is carried out, every step of every list of steps through the library is that of the run of
+--                         `agreement`: its number, block and outbox, and the state as bytes
 --   keptAt S buffers i    what controller i keeps after all its steps, with a buffer of its own
---   OneOutcome S buffers  one outcome and one block; one final block; with a correct sender the outcome agreed, 1, and the sender's block
+--   SetByLastCall ..      controller i's outcome and block are those that the last call sets
+--   OneOutcome S buffers  these; later steps answer 8 and change nothing; one outcome and one block; one final block; with a correct sender
+--                         the outcome agreed, 1, and the sender's block
 --   LibraryAgrees         that holds of every system that `agreement` supposes, run through the library
 use mathlib.Core.Path.{_≡_}
 use mathlib.Core.List.{List, [], _∷_}
 use Prim.Native.Nat.{ℕ}
-use lib.ListN.{length}
+use lib.ListN.{length, replicate}
+use Rattle.settings.specs.declared.Settings.{Settings}
+use Rattle.bitset.specs.Set.{restricted}
+use Rattle.reed_solomon.specs.Decode.{Decodes}
+use Rattle.reconstruction.specs.declared.Outcome.the-variants.{Agreed, None, Beyond}
+use Rattle.reconstruction.specs.Outcomes.{outcomeNumber}
+use Rattle.protocol.specs.Step.{startOf}
 use Rattle.agreement.specs.Run.{Lent, stepped, ends, begun}
-use Rattle.agreement.specs.Agreement.{System, Correct, Supposed}
+use Rattle.agreement.specs.Agreement.{System, Correct, Supposed, lastCore, lastInbox}
 use Rattle.state_bytes.specs.State.{stateLength}
-use Rattle.boards.specs.Boards.{Left, leftOf, startBytes, stepBytes, outcomeIn, finalBytes, written}
+use Rattle.boards.specs.Boards.{Left, left, leftOf, startBytes, stepBytes, outcomeIn, finalBytes, written}
 
 pub record Kept : Type 0 where
   pub state : List ℕ
@@ -34,25 +42,41 @@ abbrev pub keptAfter : Kept → List Lent → Kept
 keptAfter c [] = c
 keptAfter c (l ∷ ls) = keptAfter (kept c l) ls
 
-abbrev pub keptFrom : (n t k own sender : ℕ) → List ℕ → List ℕ → Kept
-keptFrom n t k own sender b buffer = record { state = startBytes n t k own sender (length b) buffer .bytes; block = b }
+abbrev pub keptFrom : Settings → (own : ℕ) → List ℕ → List ℕ → Kept
+keptFrom s own b buffer = record { state = startBytes s own (length b) buffer .bytes; block = b }
 
 abbrev pub LibraryRuns : Type 0
 LibraryRuns =
-    (n t k own sender : ℕ) (b buffer : List ℕ) → length buffer ≡ stateLength → (ls : List Lent) (l : Lent)
-    → makes (keptAfter (keptFrom n t k own sender b buffer) ls) l ≡ leftOf (stepped (ends (begun n t k own sender b) ls) l)
+    (s : Settings) (own : ℕ) (b buffer : List ℕ) → length buffer ≡ stateLength → (ls : List Lent) (l : Lent)
+    → startOf s own (length b) .number ≡ 0
+    → makes (keptAfter (keptFrom s own b buffer) ls) l ≡ leftOf (stepped (ends (begun s own b) ls) l)
 
 abbrev pub keptAt : System → (ℕ → List ℕ) → ℕ → Kept
-keptAt S buffers i = keptAfter (keptFrom (S .n) (S .t) (S .k) i (S .sender) (S .block i) (buffers i)) (S .steps i)
+keptAt S buffers i = keptAfter (keptFrom (S .settings) i (S .block i) (buffers i)) (S .steps i)
+
+-- document 01's last call: no core: none, and zeros; else agreed and the block that decoding's rule gives; if there is none, beyond and zeros
+pub record SetByLastCall (S : System) (buffers : ℕ → List ℕ) (i : ℕ) : Type 0 where
+  pub none : restricted (lastCore S i) (S .settings .n) ≡ 0
+      → (outcomeIn (keptAt S buffers i .state) ≡ outcomeNumber None) × (keptAt S buffers i .block ≡ replicate (length (S .block i)) 0)
+  pub agreed : (restricted (lastCore S i) (S .settings .n) ≡ 0 → ⊥)
+      → (B : List ℕ) → Decodes (S .settings .n) (S .settings .t) (S .settings .k) (lastInbox S i) B
+      → (outcomeIn (keptAt S buffers i .state) ≡ outcomeNumber Agreed) × (keptAt S buffers i .block ≡ B)
+  pub beyond : (restricted (lastCore S i) (S .settings .n) ≡ 0 → ⊥)
+      → ((B : List ℕ) → Decodes (S .settings .n) (S .settings .t) (S .settings .k) (lastInbox S i) B → ⊥)
+      → (outcomeIn (keptAt S buffers i .state) ≡ outcomeNumber Beyond) × (keptAt S buffers i .block ≡ replicate (length (S .block i)) 0)
 
 pub record OneOutcome (S : System) (buffers : ℕ → List ℕ) : Type 0 where
+  -- each correct controller's outcome and block are those that the last call sets, and later steps answer 8 and change nothing
+  pub set : (i : ℕ) → Correct S i → SetByLastCall S buffers i
+  pub later : (i : ℕ) → Correct S i → (l : Lent)
+      → makes (keptAt S buffers i) l ≡ left 8 (keptAt S buffers i .state) (keptAt S buffers i .block) (l .outbox)
   pub same-outcome : (i j : ℕ) → Correct S i → Correct S j → outcomeIn (keptAt S buffers i .state) ≡ outcomeIn (keptAt S buffers j .state)
   pub same-block : (i j : ℕ) → Correct S i → Correct S j → keptAt S buffers i .block ≡ keptAt S buffers j .block
   -- and what the final block is copied to, out, holds the same
   pub same-final : (i j : ℕ) → Correct S i → Correct S j → (out : List ℕ)
       → finalBytes (keptAt S buffers i .state) (keptAt S buffers i .block) out ≡ finalBytes (keptAt S buffers j .state) (keptAt S buffers j .block) out
-  pub sender-final : (i : ℕ) → Correct S (S .sender) → Correct S i → (out : List ℕ) → length out ≡ length (S .block (S .sender))
-      → finalBytes (keptAt S buffers i .state) (keptAt S buffers i .block) out ≡ written 1 (S .block (S .sender))
+  pub sender-final : (i : ℕ) → Correct S (S .settings .sender) → Correct S i → (out : List ℕ) → length out ≡ length (S .block (S .settings .sender))
+      → finalBytes (keptAt S buffers i .state) (keptAt S buffers i .block) out ≡ written 1 (S .block (S .settings .sender))
 
 abbrev pub LibraryAgrees : Type 0
 LibraryAgrees = (S : System) → Supposed S → (buffers : ℕ → List ℕ) → ((i : ℕ) → length (buffers i) ≡ stateLength) → OneOutcome S buffers

@@ -4,6 +4,6 @@ use Prim.Native.Nat.{_≤_}
 use Rattle.protocol.specs.declared.State.{State}
 
 pub record Bounded (s : State) : Type 0 where
-  pub few : s .n ≤ 16
+  pub few : s .settings .n ≤ 16
   pub least : 1 ≤ s .next
   pub most : s .next ≤ 24

@@ -9,11 +9,12 @@
 // of the state answered, and all bytes of block and outbox after it.
 // The expected output comes from the independent reference:
 //     cd bench && cargo run --release --bin controller_vectors > ../crates/controller_cases/stdout
-use libc::STDOUT_FILENO;
+use protocol::Started;
 use protocol::State;
+use protocol::Stepped;
 use reconstruction::Outcome;
+use settings::Settings;
 ghost use Prim.Native.Nat.{_<_};
-ghost use Rattle.io.specs.Counts.{Counts};
 
 // n, t, k, own number, sender and lent length of each start: each row of the refusal table by itself; two rows that apply, of which the first
 // counts; and starts that are taken.
@@ -110,22 +111,38 @@ const STEPS: [[usize; 9]; 40] = [
     [4, 1, 1, 1, 1, 13, 9, 9, 9],
 ];
 
-fn text(s: &[u8]) {
-    io::write_all(STDOUT_FILENO, s);
+// The library's functions, each called in one place.
+fn begin(s: State, block: &[u8]) -> Started {
+    let settings = s.settings;
+    controller::start(settings, s.own, block)
 }
 
-// A space and a number.
-fn number(x: usize) {
-    text(b" ");
-    io::print_decimal(STDOUT_FILENO, x as u64);
+fn advance(s: State, block: &mut [u8], inbox: &[u8], outbox: &mut [u8]) -> Stepped {
+    controller::step(s, block, inbox, outbox)
+}
+
+fn block_length(s: State) -> usize {
+    wire::block_length(s.settings.n, s.settings.t, s.settings.k)
+}
+
+fn inbox_length(s: State) -> usize {
+    wire::inbox_length(s.settings.n, s.settings.t, s.settings.k, s.next)
+}
+
+fn outbox_length(s: State) -> usize {
+    wire::outbox_length(s.settings.n, s.settings.t, s.settings.k, s.next)
+}
+
+fn call_count(t: usize) -> usize {
+    wire::calls(t)
 }
 
 fn same(yes: bool) {
     if yes {
-        text(b" same");
+        cases::text(b" same");
         return;
     }
-    text(b" changed");
+    cases::text(b" changed");
 }
 
 // The byte that a lent slice has at index p before a call; no byte is 00 or 01.
@@ -171,19 +188,19 @@ fn outcome_number(o: Outcome) -> u8 {
 }
 
 fn same_settings(a: State, b: State) -> bool {
-    if a.n != b.n {
+    if a.settings.n != b.settings.n {
         return false;
     }
-    if a.t != b.t {
+    if a.settings.t != b.settings.t {
         return false;
     }
-    if a.k != b.k {
+    if a.settings.k != b.settings.k {
         return false;
     }
     if a.own != b.own {
         return false;
     }
-    a.sender == b.sender
+    a.settings.sender == b.settings.sender
 }
 
 fn same_progress(a: State, b: State) -> bool {
@@ -226,12 +243,10 @@ fn same_state(a: State, b: State) -> bool {
 
 // The state of a run that begins with call `next`; the zero state for zeros.
 fn plain(n: usize, t: usize, k: usize, own: usize, sender: usize, next: usize) -> State {
+    let settings = Settings { n, t, k, sender };
     State {
-        n,
-        t,
-        k,
+        settings,
         own,
-        sender,
         next,
         outcome: Outcome::Open,
         matrix: [0u16; 16],
@@ -242,12 +257,10 @@ fn plain(n: usize, t: usize, k: usize, own: usize, sender: usize, next: usize) -
 
 // A state with every other field set.
 fn given(n: usize, t: usize, k: usize, own: usize, sender: usize, next: usize) -> State {
+    let settings = Settings { n, t, k, sender };
     State {
-        n,
-        t,
-        k,
+        settings,
         own,
-        sender,
         next,
         outcome: Outcome::Beyond,
         matrix: [
@@ -273,54 +286,40 @@ fn given(n: usize, t: usize, k: usize, own: usize, sender: usize, next: usize) -
     }
 }
 
-fn print_settings(s: State) {
-    number(s.n);
-    number(s.t);
-    number(s.k);
-    number(s.own);
-    number(s.sender);
-}
-
-// The length x for a part of s; 0 where s is shorter.
-fn fitting(x: usize, s: &[u8]) -> usize
-    ensures { λ r. ⌜ Counts r (now (s .entry)) ⌝ }
-{
-    if s.len() < x {
-        return 0;
-    }
-    x
+// A name and the settings.
+fn print_settings(name: &[u8], s: State) {
+    let x = s.settings;
+    cases::numbers(name, &[x.n, x.t, x.k, s.own, x.sender]);
 }
 
 // Which state a start with these settings answered.
 fn print_started(s: State, r: State) {
     if same_state(r, plain(0, 0, 0, 0, 0, 0)) {
-        text(b" zero");
+        cases::text(b" zero");
         return;
     }
     if same_state(r, s) {
-        text(b" begun");
+        cases::text(b" begun");
         return;
     }
-    text(b" other");
+    cases::text(b" other");
 }
 
 // A start with the settings of s.
 fn start_with(s: State, block: &mut [u8]) {
     fill(block);
-    let r = controller::start(s.n, s.t, s.k, s.own, s.sender, block);
+    let r = begin(s, block);
     let state = r.state;
-    text(b"start");
-    print_settings(s);
-    number(block.len());
-    text(b":");
-    number(r.number as usize);
+    print_settings(b"start", s);
+    cases::numbers(b"", &[block.len()]);
+    cases::numbers(b":", &[r.number as usize]);
     print_started(s, state);
     same(is_filled(block));
-    text(b"\n");
+    cases::newline();
 }
 
 fn start_cut(s: State, length: usize, block: &mut [u8]) {
-    let b = fitting(length, block);
+    let b = cases::fitting(length, block);
     start_with(s, &mut block[..b]);
 }
 
@@ -331,24 +330,19 @@ fn start(n: usize, t: usize, k: usize, own: usize, sender: usize, length: usize)
 }
 
 fn print_step(s: State, b: usize, i: usize, o: usize) {
-    text(b"step");
-    print_settings(s);
-    number(s.next);
-    number(b);
-    number(i);
-    number(o);
-    text(b":");
+    print_settings(b"step", s);
+    cases::numbers(b"", &[s.next, b, i, o]);
 }
 
 // Steps, on lent bytes that are filled.
 fn step_on(s: State, block: &mut [u8], inbox: &[u8], outbox: &mut [u8]) {
-    let r = controller::step(s, block, inbox, outbox);
+    let r = advance(s, block, inbox, outbox);
     let state = r.state;
-    number(r.number as usize);
+    cases::numbers(b":", &[r.number as usize]);
     same(same_state(s, state));
     same(is_filled(block));
     same(is_filled(outbox));
-    text(b"\n");
+    cases::newline();
 }
 
 fn step_with(s: State, block: &mut [u8], inbox: &mut [u8], outbox: &mut [u8]) {
@@ -367,9 +361,9 @@ fn step_cut(
     inbox: &mut [u8],
     outbox: &mut [u8],
 ) {
-    let x = fitting(b, block);
-    let y = fitting(i, inbox);
-    let z = fitting(o, outbox);
+    let x = cases::fitting(b, block);
+    let y = cases::fitting(i, inbox);
+    let z = cases::fitting(o, outbox);
     print_step(s, x, y, z);
     step_with(s, &mut block[..x], &mut inbox[..y], &mut outbox[..z]);
 }
@@ -401,9 +395,9 @@ fn shorter(x: usize) -> usize {
 // Each lent length of a call too long and too short by one byte, and all three.
 fn lengths_at(n: usize, t: usize, k: usize, c: usize) {
     let s = given(n, t, k, n, 1, c);
-    let b = wire::block_length(n, t, k);
-    let i = wire::inbox_length(n, t, k, c);
-    let o = wire::outbox_length(n, t, k, c);
+    let b = block_length(s);
+    let i = inbox_length(s);
+    let o = outbox_length(s);
     step(s, longer(b), i, o);
     step(s, shorter(b), i, o);
     step(s, b, longer(i), o);
@@ -414,7 +408,7 @@ fn lengths_at(n: usize, t: usize, k: usize, c: usize) {
 }
 
 fn lengths(n: usize, t: usize, k: usize) {
-    let last = wire::calls(t);
+    let last = call_count(t);
     let mut c: usize = 0;
     while c < last {
         c += 1;
@@ -463,61 +457,36 @@ fn steps() {
 
 fn print_outcome(o: Outcome) {
     match o {
-        Outcome::Open => text(b" open"),
-        Outcome::Agreed => text(b" agreed"),
-        Outcome::None => text(b" none"),
-        Outcome::Beyond => text(b" beyond"),
+        Outcome::Open => cases::text(b" open"),
+        Outcome::Agreed => cases::text(b" agreed"),
+        Outcome::None => cases::text(b" none"),
+        Outcome::Beyond => cases::text(b" beyond"),
     }
-}
-
-fn print_byte(x: u8) {
-    io::print_hex(STDOUT_FILENO, x as u64, 2);
-}
-
-fn print_bytes(s: &[u8]) {
-    let mut p: usize = 0;
-    while p < s.len() {
-        print_byte(s[p]);
-        p += 1;
-    }
-}
-
-// A space and the bytes; a dash for none.
-fn print_slice(s: &[u8]) {
-    if s.len() == 0 {
-        text(b" -");
-        return;
-    }
-    text(b" ");
-    print_bytes(s);
 }
 
 fn print_call(c: usize, n: u8, s: State) {
     let outcome = s.outcome;
-    text(b"call");
-    number(c);
-    text(b":");
-    number(n as usize);
-    number(s.next);
+    cases::numbers(b"call", &[c]);
+    cases::numbers(b":", &[n as usize, s.next]);
     print_outcome(outcome);
 }
 
 // A step of a run; the outbox is lent with other bytes.
 fn call_with(s: State, block: &mut [u8], inbox: &mut [u8], outbox: &mut [u8]) -> State {
-    wire::silence(inbox);
+    cases::fill(inbox, 0);
     fill(outbox);
-    let r = controller::step(s, block, inbox, outbox);
+    let r = advance(s, block, inbox, outbox);
     let state = r.state;
     print_call(s.next, r.number, state);
-    print_slice(block);
-    print_slice(outbox);
-    text(b"\n");
+    cases::hex(block);
+    cases::hex(outbox);
+    cases::newline();
     state
 }
 
 fn call_cut(s: State, block: &mut [u8], inbox: &mut [u8], outbox: &mut [u8]) -> State {
-    let i = fitting(wire::inbox_length(s.n, s.t, s.k, s.next), inbox);
-    let o = fitting(wire::outbox_length(s.n, s.t, s.k, s.next), outbox);
+    let i = cases::fitting(inbox_length(s), inbox);
+    let o = cases::fitting(outbox_length(s), outbox);
     call_with(s, block, &mut inbox[..i], &mut outbox[..o])
 }
 
@@ -542,13 +511,12 @@ fn calls(s: State, count: usize, block: &mut [u8]) {
 
 // All calls with silent inboxes, and two more steps.
 fn run(n: usize, t: usize, k: usize, own: usize, sender: usize, block: &mut [u8]) {
-    let r = controller::start(n, t, k, own, sender, block);
+    let r = begin(plain(n, t, k, own, sender, 1), block);
     let s = r.state;
-    text(b"run");
-    print_settings(s);
-    print_slice(block);
-    text(b"\n");
-    calls(s, longer(longer(wire::calls(t))), block);
+    print_settings(b"run", s);
+    cases::hex(block);
+    cases::newline();
+    calls(s, longer(longer(call_count(t))), block);
 }
 
 fn run_small() {

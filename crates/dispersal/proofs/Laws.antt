@@ -20,52 +20,56 @@ use Rattle.bitset.specs.Row.{rowOf}
 use Rattle.bitset.proofs.Laws.{restrict-lt}
 use Rattle.bitset.proofs.Rows.{row-pair, halves}
 use Rattle.settings.specs.Valid.{Coded, Numbered}
-use Rattle.wire.specs.Length.{blockLength}
+use Rattle.wire.specs.declared.slot.Layout.{Layout}
+use Rattle.wire.specs.declared.Round.the-variants.{Pieces}
+use Rattle.wire.specs.Length.{blockLength, kindLayout}
 use Rattle.wire.specs.Slot.{width, messageOf, bytes, slots, toAll, copied}
 use Rattle.wire.proofs.Laws.{to-all, length-message, message-all, copied-all, length-copied}
 use Rattle.reed_solomon.specs.Encode.{pieceOf, isReady}
 use Rattle.reed_solomon.proofs.Laws.{ready-of}
-use Rattle.dispersal.specs.Dispersal.{sentBlock, receivedBlock, traded, sentPieces, isMarked, marksOf, marksMessage, sentMarks}
+use Rattle.dispersal.specs.Dispersal.{sentBlock, receivedBlock, twoPieces, sentPieces, isMarked, marksOf, marksMessage, sentMarks}
 
 -- ---- call 1
-pub sent-block : (n own sender : ℕ) (b o : List ℕ) → own ≡ sender → length o ≡ n * width (length b)
-    → sentBlock n own sender b o ≡ slots (length b) (λ _. bytes b) n
-unfolding sentBlock
-sent-block n own sender b o e l = cond-yes (eqb own sender) (toAll n b o) (replicate (length o) 0) (eq-eqb own sender e) ∙ to-all n b o l
+module _ (layout : Layout) (n own sender : ℕ) (b o : List ℕ) where
+  pub sent-block : own ≡ sender → length b ≡ layout .length → length o ≡ n * width layout
+      → sentBlock layout n own sender b o ≡ slots layout (λ _. bytes b) n
+  unfolding sentBlock
+  sent-block e d l =
+      cond-yes (eqb own sender) (toAll layout n b o) (replicate (length o) 0) (eq-eqb own sender e) ∙ to-all layout n b o d l
 
--- the others are silent
-pub sent-silence : (n own sender : ℕ) (b o : List ℕ) → (own ≡ sender → ⊥) → sentBlock n own sender b o ≡ replicate (length o) 0
-unfolding sentBlock
-sent-silence n own sender b o z = cond-no (eqb own sender) (toAll n b o) (replicate (length o) 0) (ne-eqb own sender z)
+  -- the others are silent
+  pub sent-silence : (own ≡ sender → ⊥) → sentBlock layout n own sender b o ≡ replicate (length o) 0
+  unfolding sentBlock
+  sent-silence z = cond-no (eqb own sender) (toAll layout n b o) (replicate (length o) 0) (ne-eqb own sender z)
 
 -- ---- call 2
-module _ (inbox : List ℕ) (len sender : ℕ) (b : List ℕ) where
-  pub received-message : (length (messageOf inbox len sender) ≡ 0 → ⊥) → length b ≡ len → receivedBlock inbox len sender b ≡ messageOf inbox len sender
+module _ (inbox : List ℕ) (layout : Layout) (sender : ℕ) (b : List ℕ) where
+  pub received-message : (length (messageOf inbox layout sender) ≡ 0 → ⊥) → length b ≡ layout .length → receivedBlock inbox layout sender b ≡ messageOf inbox layout sender
   unfolding receivedBlock
   received-message n e =
-      cond-no (eqb (length (messageOf inbox len sender)) 0) (replicate (length b) 0) _ (ne-eqb (length (messageOf inbox len sender)) 0 n)
-      ∙ copied-all (messageOf inbox len sender) b (length-message inbox len sender n ∙ sym e)
+      cond-no (eqb (length (messageOf inbox layout sender)) 0) (replicate (length b) 0) _ (ne-eqb (length (messageOf inbox layout sender)) 0 n)
+      ∙ copied-all (messageOf inbox layout sender) b (length-message inbox layout sender n ∙ sym e)
 
-  pub received-length : length (receivedBlock inbox len sender b) ≡ length b
+  pub received-length : length (receivedBlock inbox layout sender b) ≡ length b
   unfolding receivedBlock
-  received-length = go (eqb (length (messageOf inbox len sender)) 0)
+  received-length = go (eqb (length (messageOf inbox layout sender)) 0)
     where
-      go : (x : Bool) → length (cond x (replicate (length b) 0) (copied (messageOf inbox len sender) b)) ≡ length b
+      go : (x : Bool) → length (cond x (replicate (length b) 0) (copied (messageOf inbox layout sender) b)) ≡ length b
       go true = length-replicate (length b) 0
-      go false = length-copied (messageOf inbox len sender) b
+      go false = length-copied (messageOf inbox layout sender) b
 
   -- what holds of 0 and of every byte of the inbox holds of every byte of the block
-  pub received-all : (P : ℕ → Type 0) → P 0 → ((i : ℕ) → P (getD inbox i 0)) → length b ≡ len → (i : ℕ) → P (getD (receivedBlock inbox len sender b) i 0)
+  pub received-all : (P : ℕ → Type 0) → P 0 → ((i : ℕ) → P (getD inbox i 0)) → length b ≡ layout .length → (i : ℕ) → P (getD (receivedBlock inbox layout sender b) i 0)
   unfolding receivedBlock
   received-all P z h e i =
       ⊎-elim
-      (λ (y : eqb (length (messageOf inbox len sender)) 0 ≡ true).
+      (λ (y : eqb (length (messageOf inbox layout sender)) 0 ≡ true).
       subst (λ (l : List ℕ). P (getD l i 0))
-      (sym (cond-yes (eqb (length (messageOf inbox len sender)) 0) (replicate (length b) 0) (copied (messageOf inbox len sender) b) y)) (all-zeros P z (length b) i))
-      (λ (y : eqb (length (messageOf inbox len sender)) 0 ≡ false).
+      (sym (cond-yes (eqb (length (messageOf inbox layout sender)) 0) (replicate (length b) 0) (copied (messageOf inbox layout sender) b) y)) (all-zeros P z (length b) i))
+      (λ (y : eqb (length (messageOf inbox layout sender)) 0 ≡ false).
       subst (λ (l : List ℕ). P (getD l i 0))
-      (sym (received-message (λ q. true≢false (sym (eq-eqb (length (messageOf inbox len sender)) 0 q) ∙ y)) e)) (message-all P z inbox len sender h i))
-      (either (eqb (length (messageOf inbox len sender)) 0))
+      (sym (received-message (λ q. true≢false (sym (eq-eqb (length (messageOf inbox layout sender)) 0 q) ∙ y)) e)) (message-all P z inbox layout sender h i))
+      (either (eqb (length (messageOf inbox layout sender)) 0))
 
 -- ---- within the settings
 module _ (n t k own : ℕ) (b : List ℕ) (v : Coded n t k) (w : Numbered n own) (size : length b ≡ blockLength k t) where
@@ -73,57 +77,59 @@ module _ (n t k own : ℕ) (b : List ℕ) (v : Coded n t k) (w : Numbered n own)
   ready fits e = ready-of n t k own b fits (record { coded = v; number = w; size = size }) e
 
   -- round 2
-  pub sent-pieces : (o : List ℕ) → length o ≡ n * width (2 * k) → sentPieces n t k own b o ≡ slots (2 * k) (traded k t own b) n
+  pub sent-pieces : (o : List ℕ) → length o ≡ n * width (kindLayout Pieces n t k)
+      → sentPieces n t k own b o ≡ slots (kindLayout Pieces n t k) (twoPieces k t own b) n
   unfolding sentPieces
   sent-pieces o e =
-      cond-yes (isReady n t k own b (eqb (length o) (n * width (2 * k)))) (slots (2 * k) (traded k t own b) n) o
-      (ready (eqb (length o) (n * width (2 * k))) (eq-eqb (length o) (n * width (2 * k)) e))
+      let w = n * width (kindLayout Pieces n t k) in
+      cond-yes (isReady n t k own b (eqb (length o) w)) (slots (kindLayout Pieces n t k) (twoPieces k t own b) n) o
+      (ready (eqb (length o) w) (eq-eqb (length o) w e))
 
   -- the marks, as members of a set
-  pub marks-set : (inbox : List ℕ) (len : ℕ) → marksOf n t k own inbox len b ≡ setOf n (λ i. isMarked k t own inbox len b (i + 1))
+  pub marks-set : (inbox : List ℕ) (layout : Layout) → marksOf n t k own inbox layout b ≡ setOf n (λ i. isMarked k t own inbox layout b (i + 1))
   unfolding marksOf
-  marks-set inbox len = cond-yes (isReady n t k own b true) (setOf n (λ i. isMarked k t own inbox len b (i + 1))) 0 (ready true refl)
+  marks-set inbox layout = cond-yes (isReady n t k own b true) (setOf n (λ i. isMarked k t own inbox layout b (i + 1))) 0 (ready true refl)
 
 -- what round 2 sends, as it is read
-pub traded-is : (k t own : ℕ) (b : List ℕ) (j : ℕ) → traded k t own b j ≡ bytes (pieceOf k t b own ++ pieceOf k t b j)
-unfolding traded
-traded-is k t own b j = refl
+pub two-pieces-is : (k t own : ℕ) (b : List ℕ) (j : ℕ) → twoPieces k t own b j ≡ bytes (pieceOf k t b own ++ pieceOf k t b j)
+unfolding twoPieces
+two-pieces-is k t own b j = refl
 
 -- ---- call 3: the message of j, whose own piece is p and whose coding for us is q
-module _ (k t own : ℕ) (inbox : List ℕ) (len : ℕ) (b : List ℕ) (j : ℕ) (p q : List ℕ) (arrived : messageOf inbox len j ≡ p ++ q)
+module _ (k t own : ℕ) (inbox : List ℕ) (layout : Layout) (b : List ℕ) (j : ℕ) (p q : List ℕ) (arrived : messageOf inbox layout j ≡ p ++ q)
     (p-long : length p ≡ k) (k-least : 1 ≤ k) where
-  first : take k (messageOf inbox len j) ≡ p
+  first : take k (messageOf inbox layout j) ≡ p
   first = ap (take k) arrived ∙ take-at p q k p-long
 
-  second : drop k (messageOf inbox len j) ≡ q
+  second : drop k (messageOf inbox layout j) ≡ q
   second = ap (drop k) arrived ∙ drop-at p q k p-long
 
   -- marked: the pieces are those of the own coding
-  pub marked-true : isMarked k t own inbox len b j ≡ true → (j ≡ own → ⊥) → (p ≡ pieceOf k t b j) × (q ≡ pieceOf k t b own)
+  pub marked-true : isMarked k t own inbox layout b j ≡ true → (j ≡ own → ⊥) → (p ≡ pieceOf k t b j) × (q ≡ pieceOf k t b own)
   unfolding isMarked
   marked-true e n =
       ⊎-elim (λ (y : eqb j own ≡ true). absurd (n (eqb-true j own y)))
       (λ y.
-      let both = and-right (not (eqb (length (messageOf inbox len j)) 0)) _ y in (
-        sym first ∙ same-eq (take k (messageOf inbox len j)) (pieceOf k t b j) (and-left (same (take k (messageOf inbox len j)) (pieceOf k t b j)) _ both),
-        sym second ∙ same-eq (drop k (messageOf inbox len j)) (pieceOf k t b own) (and-right (same (take k (messageOf inbox len j)) (pieceOf k t b j)) _ both),
+      let both = and-right (not (eqb (length (messageOf inbox layout j)) 0)) _ y in (
+        sym first ∙ same-eq (take k (messageOf inbox layout j)) (pieceOf k t b j) (and-left (same (take k (messageOf inbox layout j)) (pieceOf k t b j)) _ both),
+        sym second ∙ same-eq (drop k (messageOf inbox layout j)) (pieceOf k t b own) (and-right (same (take k (messageOf inbox layout j)) (pieceOf k t b j)) _ both),
       ))
       (or-cases (eqb j own) _ e)
 
   -- and the other way round
-  pub true-marked : p ≡ pieceOf k t b j → q ≡ pieceOf k t b own → isMarked k t own inbox len b j ≡ true
+  pub true-marked : p ≡ pieceOf k t b j → q ≡ pieceOf k t b own → isMarked k t own inbox layout b j ≡ true
   unfolding isMarked
   true-marked e f =
       or-right (eqb j own) _
-      (and-both (not (eqb (length (messageOf inbox len j)) 0)) _
-      (ap not (ne-eqb (length (messageOf inbox len j)) 0 (λ z. omega (arith, ap length arrived, length-append p q))))
-      (and-both (same (take k (messageOf inbox len j)) (pieceOf k t b j)) (same (drop k (messageOf inbox len j)) (pieceOf k t b own))
-      (eq-same (take k (messageOf inbox len j)) (pieceOf k t b j) (first ∙ e)) (eq-same (drop k (messageOf inbox len j)) (pieceOf k t b own) (second ∙ f))))
+      (and-both (not (eqb (length (messageOf inbox layout j)) 0)) _
+      (ap not (ne-eqb (length (messageOf inbox layout j)) 0 (λ z. omega (arith, ap length arrived, length-append p q))))
+      (and-both (same (take k (messageOf inbox layout j)) (pieceOf k t b j)) (same (drop k (messageOf inbox layout j)) (pieceOf k t b own))
+      (eq-same (take k (messageOf inbox layout j)) (pieceOf k t b j) (first ∙ e)) (eq-same (drop k (messageOf inbox layout j)) (pieceOf k t b own) (second ∙ f))))
 
 -- oneself is always marked
-pub self-marked : (k t own : ℕ) (inbox : List ℕ) (len : ℕ) (b : List ℕ) → isMarked k t own inbox len b own ≡ true
+pub self-marked : (k t own : ℕ) (inbox : List ℕ) (layout : Layout) (b : List ℕ) → isMarked k t own inbox layout b own ≡ true
 unfolding isMarked
-self-marked k t own inbox len b = or-left (eqb own own) _ (eq-eqb own own refl)
+self-marked k t own inbox layout b = or-left (eqb own own) _ (eq-eqb own own refl)
 
 -- ---- the marks as a message
 pub marks-length : (n s : ℕ) → length (marksMessage n s) ≡ 2
@@ -136,11 +142,10 @@ marks-bytes n s h zero = halves s n h .0
 marks-bytes n s h (suc zero) = halves s n h .1
 marks-bytes n s h (suc (suc x)) = lit< tt
 
-pub sent-marks : (n s : ℕ) (o : List ℕ) → length o ≡ n * width 2 → sentMarks n s o ≡ slots 2 (λ _. bytes (marksMessage n s)) n
+pub sent-marks : (layout : Layout) (n s : ℕ) (o : List ℕ) → layout .length ≡ 2 → length o ≡ n * width layout
+    → sentMarks layout n s o ≡ slots layout (λ _. bytes (marksMessage n s)) n
 unfolding sentMarks
-sent-marks n s o e =
-    to-all n (marksMessage n s) o (e ∙ ap (λ (x : ℕ). n * width x) (sym (marks-length n s)))
-    ∙ ap (λ (x : ℕ). slots x (λ _. bytes (marksMessage n s)) n) (marks-length n s)
+sent-marks layout n s o d e = to-all layout n (marksMessage n s) o (marks-length n s ∙ sym d) e
 
 pub marks-message-row : (n s : ℕ) → rowOf n (marksMessage n s) 0 ≡ restricted s n
 unfolding marksMessage

@@ -1,4 +1,4 @@
-// Calls 1 to 3 of a controller (document 01, 'Rounds'): the sender's block to all, the pieces that are traded, the marks.
+// Calls 1 to 3 of a controller (document 01, 'Rounds'): the sender's block to all, the pieces, the marks.
 ghost use mathlib.Core.Path.{_≡_};
 ghost use mathlib.Core.Bool.{_&&_};
 ghost use mathlib.Core.List.{_++_};
@@ -6,17 +6,27 @@ ghost use Prim.Native.Nat.{_+_, _*_, _/_, _%_, _≤_};
 ghost use lib.ListN.{length, take, drop};
 ghost use Rattle.lists.specs.Same.{same};
 ghost use Rattle.bitset.specs.Set.{setOf};
+ghost use Rattle.wire.specs.Length.{kindLayout};
 ghost use Rattle.wire.specs.Slot.{width, slots};
 ghost use Rattle.reed_solomon.specs.Encode.{pieceOf, Coding};
-ghost use Rattle.dispersal.specs.Dispersal.{sentBlock, receivedBlock, traded, sentPieces, isMarked, marksOf, sentMarks};
+ghost use Rattle.dispersal.specs.Dispersal.{sentBlock, receivedBlock, twoPieces, sentPieces, isMarked, marksOf, sentMarks};
+use wire::Layout;
+use wire::Round;
 
 // Call 1: the sender's block to all; silence from everyone else.
 // Shut out: everyone but the sender sends; as many slots as the own number.
-pub fn send_block(n: usize, own: usize, sender: usize, block: &[u8], outbox: &mut [u8])
-    ensures { λ _. ⌜ now (outbox .exit) ≡ sentBlock n own sender (now (block .entry)) (now (outbox .entry)) ⌝ }
+pub fn send_block(
+    layout: Layout,
+    n: usize,
+    own: usize,
+    sender: usize,
+    block: &[u8],
+    outbox: &mut [u8],
+)
+    ensures { λ _. ⌜ now (outbox .exit) ≡ sentBlock layout n own sender (now (block .entry)) (now (outbox .entry)) ⌝ }
 {
     if own == sender {
-        wire::send_all(outbox, n, block);
+        wire::send_all(outbox, layout, n, block);
         return;
     }
     wire::silence(outbox);
@@ -24,10 +34,10 @@ pub fn send_block(n: usize, own: usize, sender: usize, block: &[u8], outbox: &mu
 
 // Call 2: the block becomes the sender's message, or zeros if absent.
 // Shut out: the message of slot 1, whoever the sender is; the block kept where the message is absent.
-pub fn receive_block(inbox: &[u8], len: usize, sender: usize, block: &mut [u8])
-    ensures { λ _. ⌜ now (block .exit) ≡ receivedBlock (now (inbox .entry)) len sender (now (block .entry)) ⌝ }
+pub fn receive_block(inbox: &[u8], layout: Layout, sender: usize, block: &mut [u8])
+    ensures { λ _. ⌜ now (block .exit) ≡ receivedBlock (now (inbox .entry)) layout sender (now (block .entry)) ⌝ }
 {
-    let m = wire::message(inbox, len, sender);
+    let m = wire::message(inbox, layout, sender);
     if m.len() == 0 {
         wire::silence(block);
         return;
@@ -46,6 +56,7 @@ fn write_piece(n: usize, t: usize, k: usize, j: usize, block: &[u8], m: &mut [u8
 
 // To each j the own piece, then piece j, by way of m.
 fn fill_pieces(
+    layout: Layout,
     n: usize,
     t: usize,
     k: usize,
@@ -54,26 +65,34 @@ fn fill_pieces(
     m: &mut [u8],
     outbox: &mut [u8],
 )
-    requires { ⌜ Coding n t k own (now block) × (length (now m) ≡ 2 * k) × (length (now outbox) ≡ n * width (2 * k)) ⌝ }
-    ensures { λ _. ⌜ now (outbox .exit) ≡ slots (2 * k) (traded k t own (now (block .entry))) n ⌝ }
+    requires { ⌜ Coding n t k own (now block) × (layout .length ≡ 2 * k) × (length (now m) ≡ layout .length) × (length (now outbox) ≡ n * width layout) ⌝ }
+    ensures { λ _. ⌜ now (outbox .exit) ≡ slots layout (twoPieces k t own (now (block .entry))) n ⌝ }
 {
     write_piece(n, t, k, own, block, m, 0);
     let mut j: usize = 0;
     while j < n {
         j += 1;
         write_piece(n, t, k, j, block, m, k);
-        wire::send_one(outbox, 2 * k, j, m);
+        wire::send_one(outbox, layout, j, m);
     }
 }
 
 // The same, with bytes of its own for the message.
-fn trade(n: usize, t: usize, k: usize, own: usize, block: &[u8], outbox: &mut [u8])
-    requires { ⌜ Coding n t k own (now block) × (length (now outbox) ≡ n * width (2 * k)) ⌝ }
-    ensures { λ _. ⌜ now (outbox .exit) ≡ slots (2 * k) (traded k t own (now (block .entry))) n ⌝ }
+fn send_both(
+    layout: Layout,
+    n: usize,
+    t: usize,
+    k: usize,
+    own: usize,
+    block: &[u8],
+    outbox: &mut [u8],
+)
+    requires { ⌜ Coding n t k own (now block) × (layout ≡ kindLayout Round.Pieces n t k) × (length (now outbox) ≡ n * width layout) ⌝ }
+    ensures { λ _. ⌜ now (outbox .exit) ≡ slots layout (twoPieces k t own (now (block .entry))) n ⌝ }
 {
     let mut m = [0u8; 256];
-    let len = 2 * k;
-    fill_pieces(n, t, k, own, block, &mut m[..len], outbox);
+    let len = layout.length;
+    fill_pieces(layout, n, t, k, own, block, &mut m[..len], outbox);
 }
 
 // Call 2: to each controller the own piece, then its piece of the own coding. Refused settings or lengths: nothing is written.
@@ -81,12 +100,10 @@ fn trade(n: usize, t: usize, k: usize, own: usize, block: &[u8], outbox: &mut [u
 pub fn send_pieces(n: usize, t: usize, k: usize, own: usize, block: &[u8], outbox: &mut [u8])
     ensures { λ _. ⌜ now (outbox .exit) ≡ sentPieces n t k own (now (block .entry)) (now (outbox .entry)) ⌝ }
 {
-    if 128 < k {
-        return;
-    }
-    let fits = wire::holds_exactly(outbox, n, 2 * k);
+    let layout = wire::kind_layout(Round::Pieces, n, t, k);
+    let fits = wire::holds_exactly(outbox, n, layout);
     if reed_solomon::is_ready(n, t, k, own, block, fits) {
-        trade(n, t, k, own, block, outbox);
+        send_both(layout, n, t, k, own, block, outbox);
     }
 }
 
@@ -98,10 +115,10 @@ fn is_swapped(message: &[u8], m: &[u8], k: usize) -> bool
     if message.len() < k {
         return false;
     }
-    if !wire::is_equal(&message[..k], &m[k..]) {
+    if !lists::is_equal(&message[..k], &m[k..]) {
         return false;
     }
-    wire::is_equal(&message[k..], &m[..k])
+    lists::is_equal(&message[k..], &m[..k])
 }
 
 // Whether j is marked. The own piece is the first of m; piece j is written behind it.
@@ -111,18 +128,18 @@ fn is_marked(
     k: usize,
     own: usize,
     inbox: &[u8],
-    len: usize,
+    layout: Layout,
     block: &[u8],
     m: &mut [u8],
     j: usize,
 ) -> bool
     requires { ⌜ Coding n t k j (now block) × (length (now m) ≡ 2 * k) × (take k (now m) ≡ pieceOf k t (now block) own) ⌝ }
-    ensures { λ r. ⌜ (r ≡ isMarked k t own (now (inbox .entry)) len (now (block .entry)) j) × (take k (now (m .exit)) ≡ pieceOf k t (now (block .entry)) own) ⌝ }
+    ensures { λ r. ⌜ (r ≡ isMarked k t own (now (inbox .entry)) layout (now (block .entry)) j) × (take k (now (m .exit)) ≡ pieceOf k t (now (block .entry)) own) ⌝ }
 {
     if j == own {
         return true;
     }
-    let message = wire::message(inbox, len, j);
+    let message = wire::message(inbox, layout, j);
     if message.len() == 0 {
         return false;
     }
@@ -137,12 +154,12 @@ fn mark_each(
     k: usize,
     own: usize,
     inbox: &[u8],
-    len: usize,
+    layout: Layout,
     block: &[u8],
     m: &mut [u8],
 ) -> u16
     requires { ⌜ Coding n t k own (now block) × (length (now m) ≡ 2 * k) ⌝ }
-    ensures { λ r. ⌜ r ≡ setOf n (λ i. isMarked k t own (now (inbox .entry)) len (now (block .entry)) (i + 1)) ⌝ }
+    ensures { λ r. ⌜ r ≡ setOf n (λ i. isMarked k t own (now (inbox .entry)) layout (now (block .entry)) (i + 1)) ⌝ }
 {
     write_piece(n, t, k, own, block, m, 0);
     let mut set: u16 = 0;
@@ -150,7 +167,7 @@ fn mark_each(
     while i < n {
         let index = i;
         i += 1;
-        if is_marked(n, t, k, own, inbox, len, block, m, i) {
+        if is_marked(n, t, k, own, inbox, layout, block, m, i) {
             set = bitset::insert(set, index);
         }
     }
@@ -158,13 +175,14 @@ fn mark_each(
 }
 
 // The same, with bytes of its own for the pieces.
-fn mark(n: usize, t: usize, k: usize, own: usize, inbox: &[u8], len: usize, block: &[u8]) -> u16
+fn mark(n: usize, t: usize, k: usize, own: usize, inbox: &[u8], layout: Layout, block: &[u8]) -> u16
     requires { ⌜ Coding n t k own (now block) ⌝ }
-    ensures { λ r. ⌜ r ≡ setOf n (λ i. isMarked k t own (now (inbox .entry)) len (now (block .entry)) (i + 1)) ⌝ }
+    ensures { λ r. ⌜ r ≡ setOf n (λ i. isMarked k t own (now (inbox .entry)) layout (now (block .entry)) (i + 1)) ⌝ }
 {
     let mut m = [0u8; 256];
-    let end = 2 * k;
-    mark_each(n, t, k, own, inbox, len, block, &mut m[..end])
+    let pair = wire::kind_layout(Round::Pieces, n, t, k);
+    let end = pair.length;
+    mark_each(n, t, k, own, inbox, layout, block, &mut m[..end])
 }
 
 // Call 3: the set of those marked; empty where the settings or the block's length are refused.
@@ -175,37 +193,23 @@ pub fn marks(
     k: usize,
     own: usize,
     inbox: &[u8],
-    len: usize,
+    layout: Layout,
     block: &[u8],
 ) -> u16
-    ensures { λ r. ⌜ r ≡ marksOf n t k own (now (inbox .entry)) len (now (block .entry)) ⌝ }
+    ensures { λ r. ⌜ r ≡ marksOf n t k own (now (inbox .entry)) layout (now (block .entry)) ⌝ }
 {
     if reed_solomon::is_ready(n, t, k, own, block, true) {
-        return mark(n, t, k, own, inbox, len, block);
+        return mark(n, t, k, own, inbox, layout, block);
     }
     0
 }
 
-// The low byte.
-fn low(x: u16) -> u8
-    ensures { λ r. ⌜ r ≡ x % 256 ⌝ }
-{
-    (x % 256) as u8
-}
-
-// The high byte.
-fn high(x: u16) -> u8
-    ensures { λ r. ⌜ r ≡ x / 256 ⌝ }
-{
-    (x / 256) as u8
-}
-
 // Call 3: the marks to all. An outbox whose length is not that of the slots stays as it is.
 // Shut out: bits past n sent; four slots, whatever n is.
-pub fn send_marks(n: usize, s: u16, outbox: &mut [u8])
-    ensures { λ _. ⌜ now (outbox .exit) ≡ sentMarks n s (now (outbox .entry)) ⌝ }
+pub fn send_marks(layout: Layout, n: usize, s: u16, outbox: &mut [u8])
+    ensures { λ _. ⌜ now (outbox .exit) ≡ sentMarks layout n s (now (outbox .entry)) ⌝ }
 {
     let set = bitset::restrict(s, n);
-    let m = [low(set), high(set)];
-    wire::send_all(outbox, n, &m);
+    let m = [bitset::low(set), bitset::high(set)];
+    wire::send_all(outbox, layout, n, &m);
 }

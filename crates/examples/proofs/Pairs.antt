@@ -3,7 +3,7 @@ use mathlib.Core.Path.{refl}
 use Rattle.lists.specs.Sum.{sum, count}
 use Rattle.lists.specs.Fill.{tabulate}
 use Rattle.bitset.specs.Set.{member, setOf, sizeOf}
-use Rattle.settings.specs.Refusal.{outside, tooMany, broken, refusalOf}
+use Rattle.settings.specs.Refusal.{outside, tooMany, broken, refusalOf, starRefusal}
 use Rattle.graph.specs.Neighbour.{neighbour}
 use Rattle.graph.specs.Pairs.{withLarger, pairsFrom, order, pairAt, place}
 use Rattle.graph.specs.Bits.{bit, missingAt, bitsOf, adjacent}
@@ -13,7 +13,7 @@ use Rattle.star.specs.Star.{struck, setC, lacks, setD, atLeast, setF, setE, set
 use Rattle.examples.specs.Pairs.{Pairs}
 
 pub missing-pairs : Pairs
-unfolding sum count tabulate member setOf sizeOf outside tooMany broken refusalOf neighbour withLarger pairsFrom order pairAt place bit missingAt bitsOf adjacent matched firstFound ofSize upTo matchingOf struck setC lacks setD atLeast setF setE setsFrom noSets isLarge starFrom refusalFor starOfBits
+unfolding sum count tabulate member setOf sizeOf outside tooMany broken refusalOf starRefusal neighbour withLarger pairsFrom order pairAt place bit missingAt bitsOf adjacent matched firstFound ofSize upTo matchingOf struck setC lacks setD atLeast setF setE setsFrom noSets isLarge starFrom refusalFor starOfBits
 missing-pairs =
     record {
       g = refl;

@@ -1,6 +1,7 @@
 -- Document 01, 'Checked examples': each with its letter, over the definitions, as one table. Proved in proofs/Proved.antt.
 --   code i               what encoding gives controller i of the block 0a14, at n 4, t 1, k 1
---   decode a b c d       what decoding gives from four present pieces, at n 4, t 1, k 1
+--   fourPieces a b c d   four slots, each with a piece of one byte
+--   decodes a b c d      what decoding answers, and leaves in a block of zeros, from four pieces, at n 4, t 1, k 1
 --   graph a b c d        16 rows of marks, of which the first four are given; mark i of a row has the value 2^(i - 1)
 --   Examples             the table, a to j
 use mathlib.Core.Path.{_≡_}
@@ -11,7 +12,9 @@ use lib.Dec.{ltb}
 use lib.ListN.{replicate}
 use Rattle.gf256.specs.Field.{gmul}
 use Rattle.reed_solomon.specs.Encode.{Encoded, encoded, encodeOf}
-use Rattle.reed_solomon.specs.Decode.{Answer, answer, decoded, beyond, decodeOf}
+use Rattle.reed_solomon.specs.declared.Decoded.{Decoded}
+use Rattle.reed_solomon.specs.declared.Decoded.the-variants.{Block, Beyond}
+use Rattle.reed_solomon.specs.Decode.{Answers}
 use Rattle.phase_king.specs.Bit.{zeroSeen, oneSeen}
 use Rattle.star.specs.Star.{noSets, starOf}
 use Rattle.wire.specs.declared.Round.the-variants.{Rebuild, Outside}
@@ -20,8 +23,11 @@ use Rattle.wire.specs.Round.{roundCount, roundKind}
 abbrev pub code : ℕ → Encoded
 code i = encodeOf 4 1 1 i (0x0a ∷ 0x14 ∷ []) (0 ∷ [])
 
-abbrev pub decode : (a b c d : ℕ) → Answer
-decode a b c d = decodeOf 4 1 1 (1 ∷ a ∷ 1 ∷ b ∷ 1 ∷ c ∷ 1 ∷ d ∷ []) (0 ∷ 0 ∷ [])
+abbrev pub fourPieces : (a b c d : ℕ) → List ℕ
+fourPieces a b c d = 1 ∷ a ∷ 1 ∷ b ∷ 1 ∷ c ∷ 1 ∷ d ∷ []
+
+abbrev pub decodes : (a b c d : ℕ) → Decoded → List ℕ → Type 0
+decodes a b c d = Answers 4 1 1 (fourPieces a b c d) (0 ∷ 0 ∷ [])
 
 abbrev pub graph : (a b c d : ℕ) → List ℕ
 graph a b c d = a ∷ b ∷ c ∷ d ∷ replicate 12 0
@@ -34,9 +40,9 @@ pub record Examples : Type 0 where
   -- c: n 4, t 1: 0a14 codes to 1e 22 36 5a
   pub c : (code 1 ≡ encoded 0 (0x1e ∷ [])) × (code 2 ≡ encoded 0 (0x22 ∷ [])) × (code 3 ≡ encoded 0 (0x36 ∷ [])) × (code 4 ≡ encoded 0 (0x5a ∷ []))
   -- d: 00 22 36 5a decodes to 0a14
-  pub d : decode 0x00 0x22 0x36 0x5a ≡ answer decoded 0 (0x0a ∷ 0x14 ∷ [])
+  pub d : decodes 0x00 0x22 0x36 0x5a Block (0x0a ∷ 0x14 ∷ [])
   -- e: 1e 22 37 5b is beyond
-  pub e : decode 0x1e 0x22 0x37 0x5b ≡ answer beyond 0 (0 ∷ 0 ∷ [])
+  pub e : decodes 0x1e 0x22 0x37 0x5b Beyond (0 ∷ 0 ∷ [])
   -- f: n 4: three slots say 1: one is seen, zero isn't; two and two: neither
   pub f : (oneSeen 4 1 (λ i. ltb i 3) ≡ true) × (zeroSeen 4 1 (λ i. ltb i 3) ≡ false)
   pub f-two : (oneSeen 4 1 (λ i. ltb i 2) ≡ false) × (zeroSeen 4 1 (λ i. ltb i 2) ≡ false)

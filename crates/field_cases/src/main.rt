@@ -1,6 +1,5 @@
 // Runs every product, inverse, power and exponent of `gf256` and compares it with a second way of computing it: products bit by bit,
 // powers by doubling, inverses and exponents by search. A line for each kind: how many cases, and in how many the two agree.
-use libc::STDOUT_FILENO;
 ghost use Prim.Native.Nat.{_≤_};
 
 enum Kind {
@@ -74,12 +73,6 @@ fn exponent(a: u8) -> u8 {
     0
 }
 
-fn same(a: u8, b: u8) -> u64
-    ensures { λ r. ⌜ r ≤ 1 ⌝ }
-{
-    if a == b { 1 } else { 0 }
-}
-
 // Whether the two ways agree in case `i` of a kind.
 fn agree(kind: Kind, i: u64) -> u64
     ensures { λ r. ⌜ r ≤ 1 ⌝ }
@@ -87,10 +80,10 @@ fn agree(kind: Kind, i: u64) -> u64
     let a = (i % 256) as u8;
     let b = (i / 256 % 256) as u8;
     match kind {
-        Kind::Product => same(gf256::mul(a, b), times(a, b)),
-        Kind::Inverse => same(gf256::inv(a), inverse(a)),
-        Kind::Power => same(gf256::power(a), doubled(a)),
-        Kind::Log => same(gf256::log(a), exponent(a)),
+        Kind::Product => cases::is_same(gf256::mul(a, b), times(a, b)),
+        Kind::Inverse => cases::is_same(gf256::inv(a), inverse(a)),
+        Kind::Power => cases::is_same(gf256::power(a), doubled(a)),
+        Kind::Log => cases::is_same(gf256::log(a), exponent(a)),
     }
 }
 
@@ -106,16 +99,14 @@ fn agreeing(kind: Kind, cases: u64) -> u64 {
 }
 
 fn report(name: &[u8], kind: Kind, cases: u64) {
-    io::write_all(STDOUT_FILENO, name);
-    io::print_decimal(STDOUT_FILENO, cases);
-    io::write_all(STDOUT_FILENO, b" agree ");
-    io::print_decimal(STDOUT_FILENO, agreeing(kind, cases));
-    io::write_all(STDOUT_FILENO, b"\n");
+    cases::numbers(name, &[cases as usize]);
+    cases::numbers(b" agree", &[agreeing(kind, cases) as usize]);
+    cases::newline();
 }
 
 fn main() {
-    report(b"products ", Kind::Product, 65536);
-    report(b"inverses ", Kind::Inverse, 256);
-    report(b"powers ", Kind::Power, 256);
-    report(b"logs ", Kind::Log, 256);
+    report(b"products", Kind::Product, 65536);
+    report(b"inverses", Kind::Inverse, 256);
+    report(b"powers", Kind::Power, 256);
+    report(b"logs", Kind::Log, 256);
 }

@@ -10,7 +10,7 @@ use lib.Dec.{eqb, ltb}
 use lib.ListN.{length, getD, set, replicate, length-set}
 use lib.Seq.{getD-set-same, getD-set-other, ext-getD}
 use Rattle.lists.specs.Fill.{tabulate}
-use Rattle.lists.proofs.Tests.{and-no-left, and-tail, or-none, lt-or-le, same-or-not}
+use Rattle.lists.proofs.Tests.{and-no-left, and-no-right, and-tail, and-true, or-none, lt-or-le, same-or-not}
 use Rattle.lists.proofs.Fills.{length-tabulate, getD-tabulate, tabulate-ext, tabulate-const}
 use Rattle.bitset.specs.Set.{member, setOf, inserted, restricted}
 use Rattle.bitset.proofs.Laws.{member-set, set-ext, set-empty, member-insert, restrict-mod, set-of-members}
@@ -76,22 +76,12 @@ module _ (n : ℕ) (adj : ℕ → ℕ → Bool) where
           (λ (e : k ≡ p % 8).
           let q : 8 * (p / 8) + k ≡ p = omega arith in
           ap₂ (λ (a b : Bool). a || (y && b)) (was ∙ and-no-left (ltb (8 * (p / 8) + k) p) _ (le-ltb (8 * (p / 8) + k) p (omega arith))) (eq-eqb k (p % 8) e)
-          ∙ right y
+          ∙ and-true y
           ∙ ey ∙ sym (ap (made (p + 1)) q ∙ and-tail (ltb p (p + 1)) (missingAt n adj p) (lt-ltb p (p + 1) (omega arith))))
           (λ (ne : k ≡ p % 8 → ⊥).
-          ap₂ (λ (a b : Bool). a || (y && b)) was (ne-eqb k (p % 8) ne) ∙ left (made p (8 * (p / 8) + k)) y
+          ap₂ (λ (a b : Bool). a || (y && b)) was (ne-eqb k (p % 8) ne) ∙ ap (λ (z : Bool). made p (8 * (p / 8) + k) || z) (and-no-right y false refl) ∙ or-none (made p (8 * (p / 8) + k))
           ∙ made-other p (8 * (p / 8) + k) (λ e. ne (omega arith)))
           (same-or-not k (p % 8))
-        where
-          right : (y : Bool) → (false || (y && true)) ≡ y
-          right true = refl
-          right false = refl
-
-          left : (a y : Bool) → (a || (y && false)) ≡ a
-          left true true = refl
-          left true false = refl
-          left false true = refl
-          left false false = refl
 
       go : (b : ℕ) → b < 15 → (b ≡ p / 8) ⊎ (b ≡ p / 8 → ⊥) → getD (set bits (p / 8) v) b 0 ≡ getD (bitsTo (p + 1)) b 0
       go b u s =

@@ -7,7 +7,7 @@ use Prim.Native.Nat.{ℕ, _≤_, _<_}
 use borrow.Author.Tests.{eq-eqb, ne-eqb, lt-ltb, le-ltb, ltb-true, not-true}
 use lib.Dec.{eqb, ltb}
 use lib.ListN.{getD}
-use Rattle.lists.proofs.Tests.{eqb-comm, and-left, and-right, and-no-left, and-tail, or-left, or-tail}
+use Rattle.lists.proofs.Tests.{eqb-comm, and-comm, and-left, and-right, and-no-left, and-tail, or-left, or-tail}
 use Rattle.bitset.specs.Set.{member, setOf}
 use Rattle.bitset.proofs.Laws.{member-set, member-set-past, set-ext, set-empty}
 use Rattle.graph.specs.Neighbour.{neighbour, missing}
@@ -19,13 +19,7 @@ module _ (rows : List ℕ) where
 
   pub neighbour-sym : (i j : ℕ) → neighbour rows i j ≡ neighbour rows j i
   unfolding neighbour
-  neighbour-sym i j = ap₂ (λ (x y : Bool). x || y) (eqb-comm i j) (swap (member (getD rows i 0) j) (member (getD rows j 0) i))
-    where
-      swap : (x y : Bool) → (x && y) ≡ (y && x)
-      swap true true = refl
-      swap true false = refl
-      swap false true = refl
-      swap false false = refl
+  neighbour-sym i j = ap₂ (λ (x y : Bool). x || y) (eqb-comm i j) (and-comm (member (getD rows i 0) j) (member (getD rows j 0) i))
 
   -- who is another is a neighbour if both mark each other
   pub neighbour-other : (i j : ℕ) → (i ≡ j → ⊥) → neighbour rows i j ≡ (member (getD rows i 0) j && member (getD rows j 0) i)

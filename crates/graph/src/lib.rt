@@ -1,7 +1,9 @@
 // The neighbour graph of rows of marks, held as its missing pairs (document 02, U9): 120 bits, one for each pair of different indices below
 // 16, in 15 bytes. Index i stands for controller i + 1.
 use bitset::insert;
+use bitset::low;
 use bitset::member;
+use bitset::wide;
 ghost use mathlib.Core.Path.{_≡_};
 ghost use mathlib.Core.Bool.{not, _&&_, _||_};
 ghost use Prim.Native.Nat.{_-_, _*_, _%_, _^_, _<_, min};
@@ -49,20 +51,6 @@ fn place(i: usize, j: usize) -> usize
     ensures { λ r. ⌜ (r ≡ place i j) × (r < 120) ⌝ }
 {
     first_place(i) + (j - i - 1)
-}
-
-// A byte as a wider number.
-fn wide(x: u8) -> u16
-    ensures { λ r. ⌜ (r ≡ x) × (r < 256) ⌝ }
-{
-    x as u16
-}
-
-// The low byte.
-fn low(x: u16) -> u8
-    ensures { λ r. ⌜ r ≡ x % 256 ⌝ }
-{
-    (x % 256) as u8
 }
 
 // The byte s, with bit k set where `yes` says so.

@@ -7,12 +7,14 @@ use Prim.Native.Nat.{ℕ, zero, suc, _+_, _-_, _*_, _≤_, _<_}
 use native.Mathlib.Nat.{zero-mul, suc-mul}
 use native.Mathlib.Numerals.{add-one}
 use native.Mathlib.Omega.{arith}
-use lib.ListN.{length, getD, take, drop, length-append, length-drop, take-append-drop}
-use lib.Seq.{length-take-le, drop-at, take-all, take-at, take-add, take-append-le, drop-append-le, drop-drop, drop-append-add}
+use lib.ListN.{length, getD, take, drop, replicate, length-append, length-drop, take-append-drop, replicate-append-replicate}
+use lib.Seq.{length-take-le, getD-take, getD-drop, drop-at, take-all, take-at, take-add, take-append-le, drop-append-le, drop-drop, drop-append-add}
+use Rattle.lists.specs.Fill.{tabulate}
 use Rattle.lists.specs.Join.{joined, part}
 use Rattle.lists.proofs.Sums.{below-suc}
 use Rattle.lists.proofs.Tests.{lt-or-le}
 use Rattle.lists.proofs.Parts.{slot-within, all-append}
+use Rattle.lists.proofs.Fills.{length-tabulate, getD-tabulate, tabulate-ext, tabulate-getD}
 
 pub joined-none : (f : ℕ → List ℕ) → joined f 0 ≡ []
 unfolding joined
@@ -51,6 +53,14 @@ module _ (w : ℕ) (f : ℕ → List ℕ) where
       ∙ part-joined n (λ i l. h i (omega arith)) i m)
       (below-suc l)
 
+-- zeros joined are zeros
+pub joined-zeros : (w n : ℕ) → replicate (n * w) 0 ≡ joined (λ _. replicate w 0) n
+unfolding joined
+joined-zeros w zero = ap (λ (m : ℕ). replicate m 0) (zero-mul w)
+joined-zeros w (suc n) =
+    ap (λ (m : ℕ). replicate m 0) (suc-mul n w) ∙ sym (replicate-append-replicate (n * w) w 0)
+    ∙ ap (λ (l : List ℕ). l ++ replicate w 0) (joined-zeros w n)
+
 -- what holds of 0 and of each element of each part holds of each element
 module _ (P : ℕ → Type 0) where
   pub all-joined : (f : ℕ → List ℕ) (n : ℕ) → P 0 → ((i : ℕ) → i < n → (x : ℕ) → P (getD (f i) x 0)) → (x : ℕ) → P (getD (joined f n) x 0)
@@ -78,7 +88,27 @@ front-joined w l (suc n) =
 pub joined-parts : (w : ℕ) (l : List ℕ) (n : ℕ) → length l ≡ n * w → l ≡ joined (part w l) n
 joined-parts w l n e = sym (front-joined w l n ∙ take-all (n * w) l (omega arith))
 
--- a part that was lent and came back as y
+pub same-parts : (w n : ℕ) (a b : List ℕ) → length a ≡ n * w → length b ≡ n * w → ((i : ℕ) → i < n → part w a i ≡ part w b i) → a ≡ b
+same-parts w n a b ha hb h = joined-parts w a n ha ∙ joined-ext (part w a) (part w b) n h ∙ sym (joined-parts w b n hb)
+
+-- ---- parts by their elements
+pub getD-part : (w : ℕ) (l : List ℕ) (i j : ℕ) → j < w → getD (part w l i) j 0 ≡ getD l (i * w + j) 0
+getD-part w l i j h = ap (λ (x : List ℕ). getD x j 0) (part-take w l i) ∙ getD-take w (drop (i * w) l) j 0 h ∙ getD-drop (i * w) l j 0
+
+pub part-given : (w : ℕ) (l : List ℕ) (n i : ℕ) → i < n → n * w ≤ length l → part w l i ≡ tabulate (λ j. getD l (i * w + j) 0) w
+part-given w l n i h m =
+    let e : length (part w l i) ≡ w = length-part w l n i h m in
+    sym (tabulate-getD (part w l i) 0) ∙ ap (tabulate (λ j. getD (part w l i) j 0)) e
+    ∙ tabulate-ext (λ j. getD (part w l i) j 0) (λ j. getD l (i * w + j) 0) w (λ j g. getD-part w l i j g)
+
+pub part-tabulate : (f : ℕ → ℕ) (w n i : ℕ) → i < n → part w (tabulate f (n * w)) i ≡ tabulate (λ j. f (i * w + j)) w
+part-tabulate f w n i h =
+    let l = tabulate f (n * w) in
+    part-given w l n i h (omega (arith, length-tabulate f (n * w)))
+    ∙ tabulate-ext (λ j. getD l (i * w + j) 0) (λ j. f (i * w + j)) w
+    (λ j g. getD-tabulate f (n * w) (i * w + j) 0 (omega (arith, slot-within n w i h)))
+
+-- ---- a part that was lent and came back as y
 module _ (w : ℕ) (l y : List ℕ) (n i : ℕ) (h : i < n) (m : n * w ≤ length l) (s : length y ≡ w) where
   put : List ℕ
   put = take (i * w) l ++ (y ++ drop (i * w + w - i * w) (drop (i * w) l))

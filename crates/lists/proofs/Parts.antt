@@ -2,12 +2,14 @@
 -- lent behind what is written already.
 use mathlib.Core.Path.{_≡_, refl, sym, ap, subst, _∙_}
 use mathlib.Core.List.{List, [], _∷_, _++_, append-nil, append-assoc}
+use mathlib.Core.Logic.{⊎-elim}
 use Prim.Native.Nat.{ℕ, zero, suc, _+_, _-_, _*_, _≤_, _<_}
-use native.Mathlib.Nat.{le-of-suc-le-suc, suc-mul, mul-le-mul-right, le-refl}
+use native.Mathlib.Nat.{le-of-suc-le-suc, suc-mul, mul-le-mul-right, le-refl, sub-zero}
 use native.Mathlib.Numerals.{add-one}
 use native.Mathlib.Omega.{arith}
 use lib.ListN.{length, getD, set, take, drop, replicate, drop-of-length-le, length-append}
-use lib.Seq.{take-all, take-at, drop-at, drop-drop, length-take-le}
+use lib.Seq.{take-all, take-at, take-nil, drop-at, drop-drop, length-take-le}
+use Rattle.lists.proofs.Tests.{lt-or-le}
 
 -- ---- copies from the front
 copy-suc : (i : ℕ) (s d : List ℕ) → i < length s → i < length d → set (take i s ++ drop i d) i (getD s i 0) ≡ take (suc i) s ++ drop (suc i) d
@@ -49,6 +51,28 @@ length-put d v a e h g l =
       lib.ListN.length-drop a d,
     )
 
+-- the part from a to the end
+pub part-rest : (a : ℕ) (l : List ℕ) → take (length l - a) (drop a l) ≡ drop a l
+part-rest a l = take-all (length l - a) (drop a l) (omega (arith, lib.ListN.length-drop a l))
+
+-- what follows the first d elements of a front part
+pub drop-take : (d m : ℕ) (l : List ℕ) → drop d (take m l) ≡ take (m - d) (drop d l)
+drop-take zero m l = ap (λ (x : ℕ). take x l) (sym (sub-zero m))
+drop-take (suc d) m [] = ap (drop (suc d)) (take-nil m) ∙ sym (take-nil (m - suc d))
+drop-take (suc d) zero (x ∷ l) = let e : 0 - suc d ≡ 0 = omega arith in ap (λ (y : ℕ). take y (drop d l)) (sym e)
+drop-take (suc d) (suc m) (x ∷ l) = let e : suc m - suc d ≡ m - d = omega arith in drop-take d m l ∙ ap (λ (y : ℕ). take y (drop d l)) (sym e)
+
+-- an end of a list, by its length
+pub end-drop : (s l : List ℕ) (d : ℕ) → s ≡ drop d l → (length s ≤ length l) × (s ≡ drop (length l - length s) l)
+end-drop s l d e =
+    let n : length s ≡ length l - d = ap length e ∙ lib.ListN.length-drop d l in (
+      omega arith,
+      ⊎-elim
+          (λ (h : d < length l). let q : length l - length s ≡ d = omega arith in e ∙ ap (λ (x : ℕ). drop x l) (sym q))
+          (λ (h : length l ≤ d). e ∙ drop-of-length-le l h ∙ sym (drop-of-length-le l {i = length l - length s} (omega arith)))
+          (lt-or-le d (length l)),
+    )
+
 -- ---- slots of one width
 -- slot j of n lies within the box
 pub slot-within : (n w j : ℕ) → j < n → j * w + w ≤ n * w
@@ -74,6 +98,13 @@ module _ (P : ℕ → Type 0) (none : P 0) where
   all-append [] b f g i = g i
   all-append (x ∷ a) b f g zero = f 0
   all-append (x ∷ a) b f g (suc i) = all-append a b (λ j. f (suc j)) g i
+
+  pub all-set : (l : List ℕ) (a v : ℕ) → ((i : ℕ) → P (getD l i 0)) → P v → (i : ℕ) → P (getD (set l a v) i 0)
+  all-set [] a v f h i = f i
+  all-set (x ∷ l) zero v f h zero = h
+  all-set (x ∷ l) zero v f h (suc i) = f (suc i)
+  all-set (x ∷ l) (suc a) v f h zero = f 0
+  all-set (x ∷ l) (suc a) v f h (suc i) = all-set l a v (λ j. f (suc j)) h i
 
   pub all-zeros : (n : ℕ) (i : ℕ) → P (getD (replicate n 0) i 0)
   all-zeros zero i = none

@@ -60,6 +60,10 @@ pub and-true : (b : Bool) → (b && true) ≡ b
 and-true true = refl
 and-true false = refl
 
+pub and-comm : (a b : Bool) → (a && b) ≡ (b && a)
+and-comm true b = sym (and-true b)
+and-comm false b = sym (and-no-right b false refl)
+
 pub or-cases : (a b : Bool) → (a || b) ≡ true → (a ≡ true) ⊎ (b ≡ true)
 or-cases true b e = inl refl
 or-cases false b e = inr e
@@ -79,6 +83,10 @@ or-tail false b e = refl
 pub or-none : (a : Bool) → (a || false) ≡ a
 or-none true = refl
 or-none false = refl
+
+pub or-comm : (a b : Bool) → (a || b) ≡ (b || a)
+or-comm true b = sym (or-right b true refl)
+or-comm false b = sym (or-none b)
 
 pub or-neither : (a b : Bool) → (a || b) ≡ false → (a ≡ false) × (b ≡ false)
 or-neither true b e = absurd (true≢false e)

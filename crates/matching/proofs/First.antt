@@ -1,60 +1,21 @@
--- The function `matchingOf` meets the relation `FirstLargest`, which nothing else meets: `matching-first` and `one-matching`.
-use mathlib.Core.Path.{_≡_, refl, sym, ap, ap₂, subst, _∙_}
+-- The function `matchingOf` meets the relation `FirstLargest`: `matching-first`.
+use mathlib.Core.Path.{_≡_, refl, sym, ap, subst, _∙_}
 use mathlib.Core.Logic.{⊎-elim}
-use mathlib.Core.List.{List, [], _∷_}
+use mathlib.Core.List.{List}
 use mathlib.Core.Bool.{Bool, true, false, cond, not, _&&_}
 use mathlib.Core.Option.{Option, none, some}
-use Prim.Native.Nat.{ℕ, zero, suc, _+_, _*_, _≤_, _<_}
+use Prim.Native.Nat.{ℕ, zero, suc, _+_, _≤_, _<_}
 use native.Mathlib.Omega.{arith}
 use borrow.Author.Tests.{eqb-false, ne-eqb, not-true}
 use lib.Dec.{eqb}
-use lib.ListN.{length}
-use Rattle.lists.specs.Sum.{count}
 use Rattle.lists.proofs.Tests.{true≢false, and-left, and-right, and-both}
-use Rattle.lists.proofs.Sums.{below-suc, count-le}
-use Rattle.graph.specs.Pairs.{Pair, Before}
-use Rattle.matching.specs.Matching.{IsMatching, NotAfter, FirstLargest, Missing}
-use Rattle.matching.specs.First.{orElse, front, firstFound, ofSize, orList, upTo, matchingOf}
+use Rattle.lists.proofs.Sums.{below-suc}
+use Rattle.graph.specs.Pairs.{Pair}
+use Rattle.matching.specs.Matching.{FirstLargest, Missing}
+use Rattle.matching.specs.First.{orElse, front, firstFound, ofSize, orList, upTo, matchingOf, MatchingFirst}
 use Rattle.matching.specs.Steps.{Joined, AtMost, NoneOfSize, FirstOfSize}
-use Rattle.matching.proofs.Pairs.{tri, each-map, widen, two-each}
-use Rattle.matching.proofs.Sizes.{Minus, same-first, same-none, first-zero, none-empty, joined-map, step-found, step-drop, step-none}
+use Rattle.matching.proofs.Sizes.{Minus, same-first, same-none, fewer, matching-half, first-zero, none-empty, joined-map, step-found, step-drop, step-none}
 
--- ---- at most one
--- of two lists neither comes after the other only where they are the same
-no-ties : (M N : List Pair) → NotAfter M N → NotAfter N M → M ≡ N
-no-ties [] [] a b = refl
-no-ties [] (q ∷ N) a b = absurd b
-no-ties (p ∷ M) [] a b = absurd a
-no-ties (p ∷ M) (q ∷ N) a b =
-    ⊎-elim
-    (λ l. absurd (⊎-elim (λ k. apart p q l k) (λ k. apart p q l (inr-refl p q (k .0) l)) b))
-    (λ l. ⊎-elim
-    (λ k. absurd (apart q p k (inr-refl q p (l .0) k)))
-    (λ k. ap₂ (λ (x : Pair) (y : List Pair). x ∷ y) (l .0) (no-ties M N (l .1) (k .1)))
-    b)
-    a
-  where
-    apart : (p q : Pair) → Before p q → Before q p → ⊥
-    apart p q l k =
-        ⊎-elim (λ x. ⊎-elim (λ y. omega arith) (λ y. omega (arith, y .0)) k)
-        (λ x. ⊎-elim (λ y. omega (arith, x .0)) (λ y. omega (arith, x .1, y .1)) k) l
-
-    -- of equal pairs each comes before the other if one does
-    inr-refl : (p q : Pair) → q ≡ p → Before p q → Before q p
-    inr-refl p q e l = subst (λ (x : Pair). Before q x) e (subst (λ (x : Pair). Before x q) (sym e) l)
-
--- there is one first largest matching
-pub one-matching : (P : Pair → Type 0) (M N : List Pair) → FirstLargest P M → FirstLargest P N → M ≡ N
-one-matching P M N a b =
-    let l : length N ≡ length M = omega (arith, a .largest N (b .matches), b .largest M (a .matches)) in
-    no-ties M N (a .first N (b .matches) l) (b .first M (a .matches) (sym l))
-
--- no matching of more than k + 1 pairs and none of k + 1: none of more than k
-pub fewer : (P : Pair → Type 0) (k : ℕ) → AtMost P (suc k) → NoneOfSize P (suc k) → AtMost P k
-unfolding AtMost NoneOfSize
-fewer P k h q N m = ⊎-elim (λ l. omega arith) (⊎-elim (λ l. absurd (q N m l)) (λ l. absurd (omega (arith, h N m)))) (tri (length N) (suc k))
-
--- ---- the function
 -- the answer is right for pairs that pass P
 abbrev Right : (Pair → Type 0) → ℕ → Option (List Pair) → Type 0
 Right P k none = NoneOfSize P k
@@ -184,38 +145,10 @@ module _ (adj : ℕ → ℕ → Bool) where
         go none q next = next (fewer (Missing n adj) k h q)
         go (some M) q next = record { matches = q .matches; largest = λ N m. omega (arith, h N m, q .size); first = λ N m l. q .first N m (l ∙ q .size) }
 
-    half : (N : List Pair) → IsMatching (Missing n adj) N → 2 * length N ≤ n
-    half N m =
-        let two : 2 * length N ≤ count n (λ _. true) =
-        two-each n (λ _. true) N (m .1) (each-map (λ p a. (omega (arith, a .0, a .1), a .1, refl, refl, λ e. omega (arith, a .0))) N (m .0)) in
-        omega (arith, count-le n (λ _. true))
-
     at-most-n : AtMost (Missing n adj) n
     unfolding AtMost
-    at-most-n N m = omega (arith, half N m)
+    at-most-n N m = omega (arith, matching-half n adj N m)
 
-    pub matching-first : FirstLargest (Missing n adj) (matchingOf n adj)
-    unfolding matchingOf
-    matching-first = up-to-right n at-most-n
-
-    -- two indices for each pair
-    pub matching-half : 2 * length (matchingOf n adj) ≤ n
-    matching-half = half (matchingOf n adj) (matching-first .matches)
-
--- only who are neighbours below n counts
-pub same-matching : (n : ℕ) (adj nadj : ℕ → ℕ → Bool) → ((i j : ℕ) → i < n → j < n → adj i j ≡ nadj i j) → matchingOf n adj ≡ matchingOf n nadj
-same-matching n adj nadj same = one-matching (Missing n nadj) (matchingOf n adj) (matchingOf n nadj) (carried (matching-first adj n)) (matching-first nadj n)
-  where
-    out : (p : Pair) → Missing n adj p → Missing n nadj p
-    out p m = (m .0, m .1, sym (same (p .0) (p .1) (omega (arith, m .0, m .1)) (m .1)) ∙ m .2)
-
-    back : (p : Pair) → Missing n nadj p → Missing n adj p
-    back p m = (m .0, m .1, same (p .0) (p .1) (omega (arith, m .0, m .1)) (m .1) ∙ m .2)
-
-    carried : FirstLargest (Missing n adj) (matchingOf n adj) → FirstLargest (Missing n nadj) (matchingOf n adj)
-    carried q =
-        record {
-          matches = widen out (matchingOf n adj) (q .matches);
-          largest = λ N m. q .largest N (widen back N m);
-          first = λ N m. q .first N (widen back N m);
-        }
+pub matching-first : MatchingFirst
+unfolding matchingOf
+matching-first n adj = up-to-right adj n n (at-most-n adj n)

@@ -3,6 +3,7 @@ pub mod Laws
 mod Sets
 mod Pairs
 mod Sizes
+mod One
 mod First
 mod Graph
 mod Steps

@@ -8,14 +8,14 @@ use borrow.Author.Tests.{eqb-true, eq-eqb, ne-eqb, not-true}
 use lib.Dec.{eqb}
 use Rattle.lists.proofs.Tests.{true≢false, fails, and-left, and-right, and-both, or-cases, or-left, or-right, lt-or-le}
 use Rattle.bitset.specs.Set.{member, setOf, sizeOf, inserted, removed, intersection, difference, union, lowestOf}
-use Rattle.bitset.proofs.Laws.{member-set, member-set-past, member-over, member-insert, insert-lt, member-remove, remove-lt, size-below, lowest-some, lowest-member}
-use Rattle.bitset.proofs.Operations.{member-intersection, member-difference, member-union, size-difference, intersection-lt, difference-lt, union-lt}
+use Rattle.bitset.proofs.Laws.{member-set, member-set-past, none-in-0, member-below, member-insert, insert-lt, member-remove, remove-lt, size-below, lowest-some, lowest-member}
+use Rattle.bitset.proofs.Laws.{member-intersection, member-difference, member-union, size-difference, intersection-lt, difference-lt, union-lt}
 use Rattle.lists.proofs.Sums.{count-split, count-some}
 use Rattle.matching.specs.Steps.{In}
 
 -- a member is below 16
 pub in-lt : (s x : ℕ) → s < 2 ^ 16 → In s x → x < 16
-in-lt s x h a = ⊎-elim (λ (l : x < 16). l) (λ (l : 16 ≤ x). absurd (true≢false (sym a ∙ member-over 16 s x h l))) (lt-or-le x 16)
+in-lt = member-below 16
 
 pub not-in : (s x : ℕ) → member s x ≡ false → In s x → ⊥
 not-in s x e a = true≢false (sym a ∙ e)
@@ -66,7 +66,7 @@ remove-in s v x l h n = member-remove s v x l ∙ and-both (member s x) (not (eq
 pub in-single : (v x : ℕ) → In (inserted 0 v) x → x ≡ v
 in-single v x h =
     let l = in-lt (inserted 0 v) x (insert-lt 0 v) h in
-    ⊎-elim (λ (e : member 0 x ≡ true). absurd (not-in 0 x (member-over 0 0 x (omega arith) (omega arith)) e)) (λ (e : eqb x v ≡ true). eqb-true x v e)
+    ⊎-elim (λ (e : member 0 x ≡ true). absurd (none-in-0 x e)) (λ (e : eqb x v ≡ true). eqb-true x v e)
     (or-cases (member 0 x) (eqb x v) (sym (member-insert 0 v x l) ∙ h))
 
 pub single-in : (v : ℕ) → v < 16 → In (inserted 0 v) v

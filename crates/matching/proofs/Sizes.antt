@@ -4,7 +4,7 @@
 use mathlib.Core.Path.{_≡_, refl, sym, ap, subst, _∙_}
 use mathlib.Core.Logic.{inl, inr, ⊎-elim}
 use mathlib.Core.List.{List, [], _∷_}
-use mathlib.Core.Bool.{Bool, false, not, _||_}
+use mathlib.Core.Bool.{Bool, true, false, not, _||_}
 use Prim.Native.Nat.{ℕ, suc, _+_, _*_, _≤_, _<_}
 use native.Mathlib.Omega.{arith}
 use borrow.Author.Tests.{eqb-true, eqb-false, not-true}
@@ -12,9 +12,9 @@ use lib.Dec.{eqb}
 use lib.ListN.{length}
 use Rattle.lists.specs.Sum.{count}
 use Rattle.lists.proofs.Tests.{or-cases, or-neither, same-or-not}
-use Rattle.lists.proofs.Sums.{count-one}
+use Rattle.lists.proofs.Sums.{count-le, count-one}
 use Rattle.graph.specs.Pairs.{Pair}
-use Rattle.matching.specs.Matching.{IsMatching, NotAfter}
+use Rattle.matching.specs.Matching.{IsMatching, NotAfter, FirstLargest, Missing}
 use Rattle.matching.specs.Steps.{Joined, AtMost, NoneOfSize, FirstOfSize}
 use Rattle.matching.proofs.Pairs.{tri, each-map, each-both, widen, keep, keep-matching, keep-split, two-each, one-each}
 
@@ -31,6 +31,14 @@ module _ (P Q : Pair → Type 0) (to : (p : Pair) → P p → Q p) (from : (p : 
   unfolding NoneOfSize
   same-none k r N m l = r N (widen from N m) l
 
+  pub same-largest : (M : List Pair) → FirstLargest P M → FirstLargest Q M
+  same-largest M r =
+      record {
+        matches = widen to M (r .matches);
+        largest = λ N m. r .largest N (widen from N m);
+        first = λ N m l. r .first N (widen from N m) l;
+      }
+
 pub first-zero : (P : Pair → Type 0) → FirstOfSize P 0 []
 first-zero P = record { matches = (tt, tt); size = refl; first = λ N m e. tt }
 
@@ -42,6 +50,18 @@ no-pairs E S bare (q ∷ N) m = absurd (bare (q .0) (m .0 .0 .0))
 pub none-empty : (E : ℕ → ℕ → Type 0) (S : ℕ → Type 0) (k : ℕ) → ((x : ℕ) → S x → ⊥) → NoneOfSize (Joined E S) (suc k)
 unfolding NoneOfSize
 none-empty E S k bare N m l = omega (arith, no-pairs E S bare N m)
+
+-- no matching of more than k + 1 pairs and none of k + 1: none of more than k
+pub fewer : (P : Pair → Type 0) (k : ℕ) → AtMost P (suc k) → NoneOfSize P (suc k) → AtMost P k
+unfolding AtMost NoneOfSize
+fewer P k h q N m = ⊎-elim (λ l. omega arith) (⊎-elim (λ l. absurd (q N m l)) (λ l. absurd (omega (arith, h N m)))) (tri (length N) (suc k))
+
+-- two indices for each pair
+pub matching-half : (n : ℕ) (adj : ℕ → ℕ → Bool) (N : List Pair) → IsMatching (Missing n adj) N → 2 * length N ≤ n
+matching-half n adj N m =
+    let two : 2 * length N ≤ count n (λ _. true) =
+    two-each n (λ _. true) N (m .1) (each-map (λ p a. (omega (arith, a .0, a .1), a .1, refl, refl, λ e. omega (arith, a .0))) N (m .0)) in
+    omega (arith, count-le n (λ _. true))
 
 module _ (E : ℕ → ℕ → Type 0) where
   pub joined-map : (S T : ℕ → Type 0) → ((x : ℕ) → S x → T x) → (p : Pair) → Joined E S p → Joined E T p

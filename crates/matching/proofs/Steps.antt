@@ -5,29 +5,30 @@ use mathlib.Core.Logic.{⊎-elim}
 use mathlib.Core.List.{List, [], _∷_}
 use mathlib.Core.Bool.{Bool, true, false}
 use Prim.Native.Nat.{ℕ, suc, _+_, _-_, _*_, _/_, _^_, _≤_, _<_}
-use native.Mathlib.Numerals.{add-one}
 use native.Mathlib.Omega.{arith}
 use lib.ListN.{length, getD, set, replicate}
 use Rattle.lists.specs.Sum.{count}
 use Rattle.lists.proofs.Tests.{true≢false, bool-ext, same-or-not}
-use Rattle.lists.proofs.Sums.{below-suc, count-le}
+use Rattle.lists.proofs.Sums.{count-le}
 use Rattle.bitset.specs.Set.{member, sizeOf, inserted, removed, intersection, difference, union, lowestOf}
-use Rattle.bitset.proofs.Laws.{size-le, size-below, size-remove, insert-lt, remove-lt, lowest-member, lowest-least, lowest-some, member-over}
-use Rattle.bitset.proofs.Operations.{intersection-lt, difference-lt}
+use Rattle.bitset.proofs.Laws.{size-le, size-below, size-remove, insert-lt, remove-lt, lowest-member, lowest-least, lowest-some, none-in-0}
+use Rattle.bitset.proofs.Laws.{intersection-lt, difference-lt}
 use Rattle.graph.specs.Pairs.{Pair}
 use Rattle.matching.specs.Steps.{In, Edge, Symmetric, Joined, Within, AtMost, NoneOfSize, FirstOfSize, Closed, Searched, Largest}
-use Rattle.matching.specs.First.{ends, stored}
+use Rattle.matching.specs.Answer.{ends, stored}
 use Rattle.matching.proofs.Sets.{in-lt, not-in, in-intersection, intersection-in, difference-in, in-union, union-left, union-right, in-remove, remove-in, in-single, single-in, difference-fewer}
 use Rattle.matching.proofs.Pairs.{widen, each-map, two-each}
-use Rattle.matching.proofs.Sizes.{Minus, same-first, same-none, first-zero, none-empty, joined-map, step-found, step-drop, step-none, at-most-empty, take-out, split-off}
-use Rattle.matching.proofs.First.{fewer}
+use Rattle.matching.proofs.Sizes.{Minus, same-first, same-none, first-zero, none-empty, joined-map, step-found, step-drop, step-none, fewer, at-most-empty, take-out, split-off}
+
+one-more : (k : ℕ) → 1 ≤ k → suc (k - 1) ≡ k
+one-more k h = omega arith
+
+plus-zero : (b : ℕ) → b ≡ b + 0
+plus-zero b = omega arith
 
 -- a set that is not empty has its least member
 pub lowest-in : (s : ℕ) → s < 2 ^ 16 → 0 < s → (lowestOf s < 16) × In s (lowestOf s)
 lowest-in s h p = let l = lowest-some s h p in (l, lowest-member s l)
-
-pub none-in-0 : (x : ℕ) → In 0 x → ⊥
-none-in-0 x a = not-in 0 x (member-over 0 0 x (omega arith) (omega arith)) a
 
 -- ---- a component: c is reached, the partners of those outside `unseen` are in it
 pub record Growing (graph : List ℕ) (s v c unseen next : ℕ) : Type 0 where
@@ -93,9 +94,6 @@ pub record Halving (graph : List ℕ) (s left sum : ℕ) : Type 0 where
 module _ (graph : List ℕ) (both : Symmetric graph) (s : ℕ) where
   pub halve-start : s < 2 ^ 16 → Halving graph s s 0
   halve-start h = record { bound = λ b a. subst (AtMost (Within graph s)) (plus-zero b) a; small = h; fits = omega (arith, size-le s) }
-    where
-      plus-zero : (b : ℕ) → b ≡ b + 0
-      plus-zero b = omega arith
 
   module _ (left sum c : ℕ) (g : Halving graph s left sum) (p : 0 < left) (has : In c (lowestOf left)) (q : Closed graph left c) (hc : c < 2 ^ 16) where
     pub halve-less : sizeOf (difference left c) < sizeOf left
@@ -138,9 +136,6 @@ pub record Shrinking (graph : List ℕ) (s left x : ℕ) : Type 0 where
 module _ (graph : List ℕ) (s : ℕ) where
   pub shrink-start : s < 2 ^ 16 → Shrinking graph s s 0
   shrink-start h = record { bound = λ b a. subst (AtMost (Within graph s)) (plus-zero b) a; small = h }
-    where
-      plus-zero : (b : ℕ) → b ≡ b + 0
-      plus-zero b = omega arith
 
   pub shrink-more : (left x y left′ : ℕ) → Shrinking graph s left x → left′ ≡ removed left y → Shrinking graph s left′ (x + 1)
   unfolding AtMost
@@ -158,18 +153,17 @@ module _ (graph : List ℕ) (s : ℕ) where
   unfolding AtMost NoneOfSize
   shrink-short left x k h g a l N m e = omega (arith, g .bound h a N m)
 
--- ---- the search for k pairs within s: partners of the least member v below w are tried
-pub record Trying (graph : List ℕ) (s k v rest partners w : ℕ) : Type 0 where
+-- ---- the search for k pairs within s: of the partners of the least member v those that are not left are tried
+pub record Trying (graph : List ℕ) (s k v rest left : ℕ) : Type 0 where
   pub has : In s v
   pub least : (x : ℕ) → In s x → v ≤ x
   pub low : v < 16
   pub rest-is : rest ≡ removed s v
-  pub partners-is : partners ≡ intersection (getD graph v 0) rest
+  pub left-partner : (x : ℕ) → In left x → Edge graph v x × In rest x
+  pub left-small : left < 2 ^ 16
   pub some : 1 ≤ k
   pub few : k ≤ 8
-  pub above : v < w
-  pub most : w ≤ 16
-  pub tried : (x : ℕ) → x < w → v < x → In s x → Edge graph v x → NoneOfSize (Joined (Edge graph) (Minus (Minus (In s) v) x)) (k - 1)
+  pub tried : (x : ℕ) → (In left x → ⊥) → v < x → In s x → Edge graph v x → NoneOfSize (Joined (Edge graph) (Minus (Minus (In s) v) x)) (k - 1)
 
 -- the three ways out before the search
 pub searched-zero : (graph : List ℕ) (s k : ℕ) (ok : Bool) (a b : List ℕ) → k ≡ 0 → (ok ≡ true) × (a ≡ ends (λ p. p .0) []) × (b ≡ ends (λ p. p .1) []) → Searched graph s k ok a b
@@ -184,114 +178,43 @@ searched-none graph s k ok a b e n = record { found = λ f. absurd (true≢false
 
 pub none-in-empty : (graph : List ℕ) (s k : ℕ) → s ≡ 0 → (k ≡ 0 → ⊥) → NoneOfSize (Within graph s) k
 none-in-empty graph s k e n =
-    subst (NoneOfSize (Within graph s)) (one-more k n) (none-empty (Edge graph) (In s) (k - 1) (λ x a. none-in-0 x (subst (λ (z : ℕ). In z x) e a)))
-  where
-    one-more : (k : ℕ) → (k ≡ 0 → ⊥) → suc (k - 1) ≡ k
-    one-more k n = omega arith
+    subst (NoneOfSize (Within graph s)) (one-more k (omega arith)) (none-empty (Edge graph) (In s) (k - 1) (λ x a. none-in-0 x (subst (λ (z : ℕ). In z x) e a)))
 
-pub try-start : (graph : List ℕ) (s k v rest partners : ℕ) → s < 2 ^ 16 → (s ≡ 0 → ⊥) → (k ≡ 0 → ⊥) → k ≤ 8 → v ≡ lowestOf s → rest ≡ removed s v
-    → partners ≡ intersection (getD graph v 0) rest → Trying graph s k v rest partners (v + 1)
-try-start graph s k v rest partners hs ns nk hk ev er ep =
+pub try-start : (graph : List ℕ) (s k v rest left : ℕ) → s < 2 ^ 16 → (s ≡ 0 → ⊥) → (k ≡ 0 → ⊥) → k ≤ 8 → v ≡ lowestOf s → rest ≡ removed s v
+    → left ≡ intersection (getD graph v 0) rest → Trying graph s k v rest left
+try-start graph s k v rest left hs ns nk hk ev er el =
     let low = lowest-in s hs (omega arith) in
     record {
       has = subst (In s) (sym ev) (low .1);
       least = λ x a. omega (arith, lowest-least s x a);
       low = omega (arith, low .0);
       rest-is = er;
-      partners-is = ep;
+      left-partner = λ x a. in-intersection (getD graph v 0) rest x (subst (λ (z : ℕ). In z x) el a);
+      left-small = subst (λ (z : ℕ). z < 2 ^ 16) (sym el) (intersection-lt (getD graph v 0) rest);
       some = omega arith;
       few = hk;
-      above = omega arith;
-      most = omega (arith, low .0);
-      tried = λ x l g. absurd (omega arith);
+      tried = λ x n g a e.
+          let l = in-lt s x hs a in
+          absurd (n (subst (λ (z : ℕ). In z x) (sym el) (intersection-in (getD graph v 0) rest x l e (subst (λ (z : ℕ). In z x) (sym er) (remove-in s v x l a (λ q. omega arith))))));
     }
 
-module _ (graph : List ℕ) (s k v rest partners w : ℕ) (hs : s < 2 ^ 16) (g : Trying graph s k v rest partners w) where
+module _ (graph : List ℕ) (s k v rest left : ℕ) (hs : s < 2 ^ 16) (g : Trying graph s k v rest left) where
   rest-in : (x : ℕ) → In s x → (x ≡ v → ⊥) → In rest x
   rest-in x a n = subst (λ (z : ℕ). In z x) (sym (g .rest-is)) (remove-in s v x (in-lt s x hs a) a n)
 
   in-rest : (x : ℕ) → In rest x → In s x × (x ≡ v → ⊥)
   in-rest x a = in-remove s v x (subst (λ (z : ℕ). In z x) (g .rest-is) a)
 
-  -- a partner of v
-  pub in-partners : In partners w → Edge graph v w × In rest w
-  in-partners h = in-intersection (getD graph v 0) rest w (subst (λ (z : ℕ). In z w) (g .partners-is) h)
-
-  -- who is left without v and w
-  to : (r x : ℕ) → r ≡ removed rest w → In r x → Minus (Minus (In s) v) w x
-  to r x e a = let q = in-remove rest w x (subst (λ (z : ℕ). In z x) e a) in (in-rest x (q .0), q .1)
-
-  from : (r x : ℕ) → r ≡ removed rest w → Minus (Minus (In s) v) w x → In r x
-  from r x e a = subst (λ (z : ℕ). In z x) (sym e) (remove-in rest w x (in-lt s x hs (a .0 .0)) (rest-in x (a .0 .0) (a .0 .1)) (a .1))
-
-  again : w < 16 → (v < w → In s w → Edge graph v w → NoneOfSize (Joined (Edge graph) (Minus (Minus (In s) v) w)) (k - 1)) → Trying graph s k v rest partners (w + 1)
-  again l now =
-      record {
-        has = g .has;
-        least = g .least;
-        low = g .low;
-        rest-is = g .rest-is;
-        partners-is = g .partners-is;
-        some = g .some;
-        few = g .few;
-        above = omega (arith, g .above);
-        most = omega arith;
-        tried = λ x m b a e. ⊎-elim
-            (λ q. subst (λ (y : ℕ). NoneOfSize (Joined (Edge graph) (Minus (Minus (In s) v) y)) (k - 1)) (sym q)
-            (now (g .above) (subst (In s) q a) (subst (Edge graph v) q e)))
-            (λ n. g .tried x n b a e) (below-suc (subst (λ (y : ℕ). x < y) (add-one w) m));
-      }
-
-  -- w is no partner of v
-  pub try-skip : w < 16 → member partners w ≡ false → Trying graph s k v rest partners (w + 1)
-  try-skip l e =
-      again l (λ m a d. absurd (not-in partners w e
-      (subst (λ (z : ℕ). In z w) (sym (g .partners-is)) (intersection-in (getD graph v 0) rest w l d (rest-in w a (λ q. omega arith))))))
-
-  -- with w the others have too few pairs
-  pub try-fail : (r : ℕ) (ok : Bool) (a b : List ℕ) → w < 16 → r ≡ removed rest w → Searched graph r (k - 1) ok a b → ok ≡ false → Trying graph s k v rest partners (w + 1)
-  try-fail r ok a b l er q f =
-      again l (λ m c d. same-none (Within graph r) (Joined (Edge graph) (Minus (Minus (In s) v) w))
-      (joined-map (Edge graph) (In r) (Minus (Minus (In s) v) w) (λ x. to r x er)) (joined-map (Edge graph) (Minus (Minus (In s) v) w) (In r) (λ x. from r x er)) (k - 1) (q .none f))
-
-  -- with w the others have k - 1 pairs
-  pub try-found : (r : ℕ) (ok : Bool) (a b : List ℕ) → member partners w ≡ true → r ≡ removed rest w → Searched graph r (k - 1) ok a b → ok ≡ true
-      → (ok′ : Bool) (a′ b′ : List ℕ) → (ok′ ≡ true) × (a′ ≡ set a (k - 1) v) × (b′ ≡ set b (k - 1) w) → Searched graph s k ok′ a′ b′
-  unfolding ends
-  try-found r ok a b h er q f ok′ a′ b′ e =
-      let m = q .found f in
-      let p = in-partners h in
-      let size : length (m .0) ≡ k - 1 = m .1 .size in
-      let first : FirstOfSize (Within graph s) (suc (k - 1)) ((v, w) ∷ m .0) =
-      step-found (Edge graph) (In s) v (g .least) (k - 1) w (m .0) (g .has) (in-rest w (p .1) .0) (g .above) (p .0) (λ x l b c d. g .tried x l b c d)
-      (same-first (Within graph r) (Joined (Edge graph) (Minus (Minus (In s) v) w)) (joined-map (Edge graph) (In r) (Minus (Minus (In s) v) w) (λ x. to r x er))
-      (joined-map (Edge graph) (Minus (Minus (In s) v) w) (In r) (λ x. from r x er)) (k - 1) (m .0) (m .1)) in
-      record {
-        found = λ _. (
-          (v, w) ∷ m .0,
-          subst (λ (x : ℕ). FirstOfSize (Within graph s) x ((v, w) ∷ m .0)) (one-more (g .some)) first,
-          e .1 ∙ ap₂ (λ (l : List ℕ) (i : ℕ). set l i v) (m .2) (sym size),
-          e .2 ∙ ap₂ (λ (l : List ℕ) (i : ℕ). set l i w) (m .3) (sym size),
-        );
-        none = λ z. absurd (true≢false (sym (e .0) ∙ z));
-      }
-    where
-      one-more : 1 ≤ k → suc (k - 1) ≡ k
-      one-more h = omega arith
-
-  -- v has no partner with which the others have k - 1 pairs
-  pub try-drop : (ok : Bool) (a b : List ℕ) → 16 ≤ w → Searched graph rest k ok a b → Searched graph s k ok a b
-  try-drop ok a b l q =
+  -- all partners are tried
+  pub try-drop : (ok : Bool) (a b : List ℕ) → left ≡ 0 → Searched graph rest k ok a b → Searched graph s k ok a b
+  try-drop ok a b z q =
       record {
         found = λ e. let m = q .found e in (m .0, drop (m .0) (m .1), m .2, m .3);
         none = λ e. gone (q .none e);
       }
     where
-      one-more : 1 ≤ k → suc (k - 1) ≡ k
-      one-more h = omega arith
-
       all : (x : ℕ) → v < x → In s v → In s x → Edge graph v x → NoneOfSize (Joined (Edge graph) (Minus (Minus (In s) v) x)) (k - 1)
-      all x b _ a e = g .tried x (omega (arith, in-lt s x hs a)) b a e
+      all x b _ a e = g .tried x (λ h. none-in-0 x (subst (λ (y : ℕ). In y x) z h)) b a e
 
       out : (p : Pair) → Within graph rest p → Joined (Edge graph) (Minus (In s) v) p
       out = joined-map (Edge graph) (In rest) (Minus (In s) v) in-rest
@@ -301,20 +224,86 @@ module _ (graph : List ℕ) (s k v rest partners w : ℕ) (hs : s < 2 ^ 16) (g :
 
       drop : (M : List Pair) → FirstOfSize (Within graph rest) k M → FirstOfSize (Within graph s) k M
       drop M r =
-          subst (λ (x : ℕ). FirstOfSize (Within graph rest) x M → FirstOfSize (Within graph s) x M) (one-more (g .some))
+          subst (λ (x : ℕ). FirstOfSize (Within graph rest) x M → FirstOfSize (Within graph s) x M) (one-more k (g .some))
           (λ z. step-drop (Edge graph) (In s) v (g .least) (k - 1) all M (same-first (Within graph rest) (Joined (Edge graph) (Minus (In s) v)) out back (suc (k - 1)) M z)) r
 
       gone : NoneOfSize (Within graph rest) k → NoneOfSize (Within graph s) k
       gone r =
-          subst (λ (x : ℕ). NoneOfSize (Within graph rest) x → NoneOfSize (Within graph s) x) (one-more (g .some))
+          subst (λ (x : ℕ). NoneOfSize (Within graph rest) x → NoneOfSize (Within graph s) x) (one-more k (g .some))
           (λ z. step-none (Edge graph) (In s) v (g .least) (k - 1) all (same-none (Within graph rest) (Joined (Edge graph) (Minus (In s) v)) out back (suc (k - 1)) z)) r
 
   -- the set is smaller at each call
   pub try-rest-less : sizeOf rest < sizeOf s
   try-rest-less = omega (arith, size-remove s v (g .low) (g .has), ap sizeOf (g .rest-is))
 
-  pub try-less : (r : ℕ) → w < 16 → member partners w ≡ true → r ≡ removed rest w → sizeOf r < sizeOf s
-  try-less r l h e = omega (arith, size-remove rest w l (in-partners h .1), ap sizeOf e, try-rest-less)
+  -- the next partner, the least that is left
+  module _ (w : ℕ) (p : 0 < left) (ew : w ≡ lowestOf left) where
+    pub try-low : w < 16
+    try-low = omega (arith, lowest-in left (g .left-small) p .0)
+
+    w-left : In left w
+    w-left = subst (In left) (sym ew) (lowest-in left (g .left-small) p .1)
+
+    w-rest : In rest w
+    w-rest = g .left-partner w w-left .1
+
+    -- fewer are left
+    pub try-fewer : (left′ : ℕ) → left′ ≡ removed left w → sizeOf left′ < sizeOf left
+    try-fewer left′ el = omega (arith, size-remove left w try-low w-left, ap sizeOf el)
+
+    module _ (r : ℕ) (er : r ≡ removed rest w) where
+      pub try-less : sizeOf r < sizeOf s
+      try-less = omega (arith, size-remove rest w try-low w-rest, ap sizeOf er, try-rest-less)
+
+      -- who is left without v and w
+      to : (p : Pair) → Within graph r p → Joined (Edge graph) (Minus (Minus (In s) v) w) p
+      to = joined-map (Edge graph) (In r) (Minus (Minus (In s) v) w) (λ x a. let q = in-remove rest w x (subst (λ (z : ℕ). In z x) er a) in (in-rest x (q .0), q .1))
+
+      from : (p : Pair) → Joined (Edge graph) (Minus (Minus (In s) v) w) p → Within graph r p
+      from =
+          joined-map (Edge graph) (Minus (Minus (In s) v) w) (In r)
+          (λ x a. subst (λ (z : ℕ). In z x) (sym er) (remove-in rest w x (in-lt s x hs (a .0 .0)) (rest-in x (a .0 .0) (a .0 .1)) (a .1)))
+
+      module _ (ok : Bool) (a b : List ℕ) (q : Searched graph r (k - 1) ok a b) where
+        -- with w the others have too few pairs
+        pub try-fail : (left′ : ℕ) → left′ ≡ removed left w → ok ≡ false → Trying graph s k v rest left′
+        try-fail left′ el f =
+            record {
+              has = g .has;
+              least = g .least;
+              low = g .low;
+              rest-is = g .rest-is;
+              left-partner = λ x h. g .left-partner x (in-remove left w x (subst (λ (z : ℕ). In z x) el h) .0);
+              left-small = subst (λ (z : ℕ). z < 2 ^ 16) (sym el) (remove-lt left w);
+              some = g .some;
+              few = g .few;
+              tried = λ x n l c e. ⊎-elim
+                  (λ i. subst (λ (y : ℕ). NoneOfSize (Joined (Edge graph) (Minus (Minus (In s) v) y)) (k - 1)) (sym i)
+                  (same-none (Within graph r) (Joined (Edge graph) (Minus (Minus (In s) v) w)) to from (k - 1) (q .none f)))
+                  (λ i. g .tried x (λ h. n (subst (λ (z : ℕ). In z x) (sym el) (remove-in left w x (in-lt left x (g .left-small) h) h i))) l c e)
+                  (same-or-not x w);
+            }
+
+        -- with w the others have k - 1 pairs
+        pub try-found : ok ≡ true → (ok′ : Bool) (a′ b′ : List ℕ) → (ok′ ≡ true) × (a′ ≡ set a (k - 1) v) × (b′ ≡ set b (k - 1) w) → Searched graph s k ok′ a′ b′
+        unfolding ends
+        try-found f ok′ a′ b′ e =
+            let m = q .found f in
+            let size : length (m .0) ≡ k - 1 = m .1 .size in
+            let sw = in-rest w w-rest in
+            let first : FirstOfSize (Within graph s) (suc (k - 1)) ((v, w) ∷ m .0) =
+            step-found (Edge graph) (In s) v (g .least) (k - 1) w (m .0) (g .has) (sw .0) (omega (arith, g .least w (sw .0), sw .1)) (g .left-partner w w-left .0)
+            (λ x l. g .tried x (λ h. omega (arith, lowest-least left x h)))
+            (same-first (Within graph r) (Joined (Edge graph) (Minus (Minus (In s) v) w)) to from (k - 1) (m .0) (m .1)) in
+            record {
+              found = λ _. (
+                (v, w) ∷ m .0,
+                subst (λ (x : ℕ). FirstOfSize (Within graph s) x ((v, w) ∷ m .0)) (one-more k (g .some)) first,
+                e .1 ∙ ap₂ (λ (l : List ℕ) (i : ℕ). set l i v) (m .2) (sym size),
+                e .2 ∙ ap₂ (λ (l : List ℕ) (i : ℕ). set l i w) (m .3) (sym size),
+              );
+              none = λ z. absurd (true≢false (sym (e .0) ∙ z));
+            }
 
 -- ---- sizes from the largest down
 pub at-most-8 : (graph : List ℕ) (s : ℕ) → s < 2 ^ 16 → AtMost (Within graph s) 8
@@ -326,10 +315,8 @@ at-most-8 graph s h N m =
 
 pub at-most-less : (graph : List ℕ) (s k : ℕ) (ok : Bool) (a b : List ℕ) → 0 < k → AtMost (Within graph s) k → Searched graph s k ok a b → ok ≡ false → AtMost (Within graph s) (k - 1)
 at-most-less graph s k ok a b p h q e =
-    fewer (Within graph s) (k - 1) (subst (AtMost (Within graph s)) (one-more p) h) (subst (NoneOfSize (Within graph s)) (one-more p) (q .none e))
-  where
-    one-more : 0 < k → k ≡ suc (k - 1)
-    one-more h = omega arith
+    let i = sym (one-more k (omega arith)) in
+    fewer (Within graph s) (k - 1) (subst (AtMost (Within graph s)) i h) (subst (NoneOfSize (Within graph s)) i (q .none e))
 
 pub largest-found : (graph : List ℕ) (s k : ℕ) (ok : Bool) (a b : List ℕ) → AtMost (Within graph s) k → Searched graph s k ok a b → ok ≡ true
     → Largest graph s (record { count = k; small = a; large = b })

@@ -1,12 +1,13 @@
--- What is answered of a matching holds its pairs: `pairs-stored`.
-use mathlib.Core.Path.{_≡_, refl, ap, ap₂, subst, _∙_}
+-- What is answered of a matching holds its pairs (`pairs-stored`), and what stands at an index is one of them (`pair-at-index`).
+use mathlib.Core.Path.{_≡_, refl, ap, ap₂, _∙_}
 use mathlib.Core.List.{List, [], _∷_}
 use Prim.Native.Nat.{ℕ, zero, suc, _≤_, _<_}
 use native.Mathlib.Omega.{arith}
 use lib.ListN.{length, getD, set, length-set}
 use lib.Seq.{getD-set-same, getD-set-other}
 use Rattle.graph.specs.Pairs.{Pair}
-use Rattle.matching.specs.First.{ends, stored, pairs, pairsOf}
+use Rattle.matching.specs.Answer.{ends, stored, pairs, pairsOf}
+use Rattle.matching.specs.declared.Matching.{Matching}
 use Rattle.matching.proofs.Augment.{Among}
 use Rattle.lists.proofs.Sums.{below-suc}
 use mathlib.Core.Logic.{inl, inr, ⊎-elim}
@@ -38,9 +39,13 @@ pub pairs-stored : (M : List Pair) → length M ≤ 8 → pairsOf (stored M) ≡
 unfolding stored
 pairs-stored M h = pairs-ends M h
 
-pub count-stored : (M : List Pair) → stored M .count ≡ length M
-unfolding stored
-count-stored M = refl
+length-pairs : (a b : List ℕ) (k : ℕ) → length (pairs a b k) ≡ k
+unfolding pairs
+length-pairs a b zero = refl
+length-pairs a b (suc k) = ap suc (length-pairs a b k)
+
+pub count-pairs : (m : Matching) → length (pairsOf m) ≡ m .count
+count-pairs m = length-pairs (m .small) (m .large) (m .count)
 
 pub pairs-none : (a b : List ℕ) → pairs a b 0 ≡ []
 unfolding pairs
@@ -56,5 +61,5 @@ unfolding pairs
 among-pairs a b zero i h = absurd (omega arith)
 among-pairs a b (suc k) i h = ⊎-elim (λ e. inl (ap (λ (j : ℕ). (getD a j 0, getD b j 0)) e)) (λ l. inr (among-pairs a b k i l)) (below-suc h)
 
-pub stored-at : (M : List Pair) (i : ℕ) → length M ≤ 8 → i < stored M .count → Among (getD (stored M .small) i 0, getD (stored M .large) i 0) M
-stored-at M i h l = subst (Among (getD (stored M .small) i 0, getD (stored M .large) i 0)) (pairs-stored M h) (among-pairs (stored M .small) (stored M .large) (stored M .count) i l)
+pub pair-at-index : (m : Matching) (i : ℕ) → i < m .count → Among (getD (m .small) i 0, getD (m .large) i 0) (pairsOf m)
+pair-at-index m = among-pairs (m .small) (m .large) (m .count)

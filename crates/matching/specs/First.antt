@@ -1,5 +1,5 @@
--- The first largest matching as a function: `matchingOf n adj` meets `FirstLargest (Missing n adj)`, and nothing else does
--- (proofs/First: `matching-first`, `one-matching`). Then the form in which it is answered.
+-- A function that meets the relation `FirstLargest`, for callers that need one: no contract here speaks of it. That `matchingOf n adj` meets
+-- the relation is `MatchingFirst`; that nothing else does is `OneMatching` (specs/Matching).
 --   orElse r q            r, or q where r is none
 --   front p r             p before the pairs of r
 --   firstFound f u w      the first of f w, f (w + 1), .., u of them, that is not none
@@ -7,18 +7,14 @@
 --   orList r M            the list of r, or M where r is none
 --   upTo adj n k          the first largest of the matchings of at most k pairs among 0 .. n - 1
 --   matchingOf n adj      the first largest matching among 0 .. n - 1
---   ends f M              of each pair the end f, the first pair last, then zeros: 8 in all
---   stored M              the matching as it is answered
---   pairs a b k           the pairs of the first k elements of a and of b, the last one first
---   pairsOf m             the pairs of an answer
+--   MatchingFirst         it is the first largest matching (proofs/First: `matching-first`)
 use mathlib.Core.List.{List, [], _∷_}
 use mathlib.Core.Bool.{Bool, true, cond, not, _&&_}
 use mathlib.Core.Option.{Option, none, some}
 use Prim.Native.Nat.{ℕ, zero, suc}
 use lib.Dec.{eqb}
-use lib.ListN.{length, getD, set, replicate}
 use Rattle.graph.specs.Pairs.{Pair}
-use Rattle.matching.specs.declared.Matching.{Matching}
+use Rattle.matching.specs.Matching.{FirstLargest, Missing}
 
 abbrev pub orElse : Option (List Pair) → Option (List Pair) → Option (List Pair)
 orElse none q = q
@@ -53,16 +49,5 @@ upTo adj n (suc k) = orList (ofSize adj n 0 (λ _. true) (suc k)) (upTo adj n k)
 unfoldable pub matchingOf : ℕ → (ℕ → ℕ → Bool) → List Pair
 matchingOf n adj = upTo adj n n
 
-unfoldable pub ends : (Pair → ℕ) → List Pair → List ℕ
-ends f [] = replicate 8 0
-ends f (p ∷ M) = set (ends f M) (length M) (f p)
-
-unfoldable pub stored : List Pair → Matching
-stored M = record { count = length M; small = ends (λ p. p .0) M; large = ends (λ p. p .1) M }
-
-unfoldable pub pairs : List ℕ → List ℕ → ℕ → List Pair
-pairs a b zero = []
-pairs a b (suc k) = (getD a k 0, getD b k 0) ∷ pairs a b k
-
-abbrev pub pairsOf : Matching → List Pair
-pairsOf m = pairs (m .small) (m .large) (m .count)
+abbrev pub MatchingFirst : Type 0
+MatchingFirst = (n : ℕ) (adj : ℕ → ℕ → Bool) → FirstLargest (Missing n adj) (matchingOf n adj)

@@ -6,6 +6,7 @@
 --   IsMatching P M    M is a matching of pairs that pass P
 --   NotAfter M N      M does not come after N in dictionary order
 --   FirstLargest P M  of the largest matchings of pairs that pass P, M is the first in dictionary order
+--   OneMatching       no two lists meet `FirstLargest P`: the relation determines the matching (proofs/One: `one-matching`)
 --   Missing n adj p   p is a pair of 0 .. n - 1, the smaller end first, that are not neighbours
 --   anyPair R M       some pair of M passes the test R
 --   isEnd i p         i is an end of p
@@ -42,6 +43,9 @@ pub record FirstLargest (P : Pair → Type 0) (M : List Pair) : Type 0 where
   pub matches : IsMatching P M
   pub largest : (N : List Pair) → IsMatching P N → length N ≤ length M
   pub first : (N : List Pair) → IsMatching P N → length N ≡ length M → NotAfter M N
+
+abbrev pub OneMatching : Type 1
+OneMatching = (P : Pair → Type 0) (M N : List Pair) → FirstLargest P M → FirstLargest P N → M ≡ N
 
 abbrev pub Missing : ℕ → (ℕ → ℕ → Bool) → Pair → Type 0
 Missing n adj p = (p .0 < p .1) × (p .1 < n) × (adj (p .0) (p .1) ≡ false)

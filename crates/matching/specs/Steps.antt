@@ -21,7 +21,7 @@ use Rattle.bitset.specs.Set.{member}
 use Rattle.graph.specs.Neighbour.{missing}
 use Rattle.graph.specs.Pairs.{Pair}
 use Rattle.matching.specs.Matching.{IsMatching, NotAfter, FirstLargest}
-use Rattle.matching.specs.First.{ends, stored}
+use Rattle.matching.specs.Answer.{ends, stored}
 use Rattle.matching.specs.declared.Matching.{Matching}
 
 unfoldable pub complement : ℕ → (ℕ → ℕ → Bool) → List ℕ

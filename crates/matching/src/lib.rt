@@ -16,7 +16,7 @@ ghost use mathlib.Core.List.{[]};
 ghost use Prim.Native.Nat.{_<_, _≤_, min};
 ghost use lib.ListN.{set};
 ghost use Rattle.graph.specs.Bits.{adjacent};
-ghost use Rattle.matching.specs.First.{matchingOf, ends, stored};
+ghost use Rattle.matching.specs.Answer.{ends, IsFirstLargest};
 ghost use Rattle.matching.specs.Steps.{complement, In, Symmetric, Within, AtMost, NoneOfSize, Closed, Searched, Largest};
 
 // The rows that the search works on: row i has those with whom i makes a missing pair below n.
@@ -193,16 +193,14 @@ fn first_of_size(graph: &[u16; 16], s: u16, k: usize) -> Search
     }
     let v = lowest(s);
     let rest = remove(s, v);
-    let partners = intersection(graph[v], rest);
-    let mut w = v + 1;
-    while w < 16 {
-        if member(partners, w) {
-            let r = first_of_size(graph, remove(rest, w), k - 1);
-            if r.ok {
-                return with_pair(r, k - 1, v, w);
-            }
+    let mut left = intersection(graph[v], rest);
+    while 0 < left {
+        let w = lowest(left);
+        left = remove(left, w);
+        let r = first_of_size(graph, remove(rest, w), k - 1);
+        if r.ok {
+            return with_pair(r, k - 1, v, w);
         }
-        w += 1;
     }
     first_of_size(graph, rest, k)
 }
@@ -240,10 +238,11 @@ fn first_largest(graph: &[u16; 16], s: u16) -> Matching
     }
 }
 
-// Of the largest matchings of the missing pairs below n, of 16 at most, the first in dictionary order.
-// Shut out: a matching that is not a largest one; one that comes later in dictionary order (must-fail edits).
+// Of the largest matchings of the missing pairs below n, of 16 at most, the first in dictionary order. No two lists of pairs are that
+// (`one-matching`), so the relation determines every byte of the answer (`one-answer`).
+// Shut out: a matching that cannot be extended but is not a largest one; one that comes later in dictionary order (must-fail edits).
 pub fn largest(bits: [u8; 15], n: usize) -> Matching
-    ensures { λ r. ⌜ r ≡ stored (matchingOf (min n 16) (adjacent bits)) ⌝ }
+    ensures { λ r. ⌜ IsFirstLargest (min n 16) (adjacent bits) r ⌝ }
 {
     let graph = complement(bits, n);
     first_largest(&graph, below(n))

@@ -13,6 +13,7 @@ use Rattle.lists.proofs.Parts.{all-append}
 use Rattle.bitset.specs.Row.{rowOf, rowsOf}
 use Rattle.bitset.proofs.Laws.{restrict-below}
 use Rattle.bitset.proofs.Rows.{row-lt, length-rows, rows-bytes}
+use Rattle.wire.specs.declared.slot.Layout.{Layout}
 use Rattle.wire.specs.Slot.{width, messageOf, bytes, slots, toAll}
 use Rattle.wire.proofs.Laws.{to-all}
 use Rattle.phase_king.specs.Matrix.{limit, firstMatrix, heldOf, weakOf, settledOf, seenMessage}
@@ -36,6 +37,7 @@ pub use Rattle.phase_king.proofs.Matrices.{
   phase-bit,
 }
 use Rattle.phase_king.proofs.Writes.{seen-length as length-seen}
+pub use Rattle.phase_king.proofs.Writes.{king-all, king-none}
 
 -- ---- the vote
 pub vote : (n t : ℕ) (correct : ℕ → Bool) (king : ℕ → ℕ) (rows : ℕ → ℕ → List ℕ) → n ≤ 16 → System n t correct → Kings n t king
@@ -52,12 +54,12 @@ vote-in-order n t correct rows u system phases = vote n t correct (λ p. p) rows
 
 -- call 4 and the vote: where the message of controller r + 1 reached all correct controllers as m, its row ends as the marks in m
 pub marks-kept : (n t : ℕ) (correct : ℕ → Bool) (rows : ℕ → ℕ → List ℕ) → n ≤ 16 → Agreed n t correct rows
-    → (inbox : ℕ → List ℕ) (len r : ℕ) (m : List ℕ) → r < n → ((i : ℕ) → Correct n correct i → rows 0 i ≡ firstMatrix (inbox i) len n)
-    → ((i : ℕ) → Correct n correct i → messageOf (inbox i) len (r + 1) ≡ m)
+    → (inbox : ℕ → List ℕ) (layout : Layout) (r : ℕ) (m : List ℕ) → r < n → ((i : ℕ) → Correct n correct i → rows 0 i ≡ firstMatrix (inbox i) layout n)
+    → ((i : ℕ) → Correct n correct i → messageOf (inbox i) layout (r + 1) ≡ m)
     → (i : ℕ) → Correct n correct i → getD (rows (phaseCount t) i) r 0 ≡ rowOf n m 0
-marks-kept n t correct rows u all inbox len r m l start sent i f =
+marks-kept n t correct rows u all inbox layout r m l start sent i f =
     all .row-kept r (rowOf n m 0) l
-    (λ k g. ap (λ (x : List ℕ). getD x r 0) (start k g) ∙ first-row (inbox k) len n r u l ∙ ap (λ (x : List ℕ). rowOf n x 0) (sent k g))
+    (λ k g. ap (λ (x : List ℕ). getD x r 0) (start k g) ∙ first-row (inbox k) layout n r u l ∙ ap (λ (x : List ℕ). rowOf n x 0) (sent k g))
     i f
     ∙ restrict-below (rowOf n m 0) n (row-lt n m 0)
 
@@ -85,49 +87,50 @@ module _ (n t : ℕ) (correct : ℕ → Bool) (king : ℕ → ℕ) (bits : ℕ �
   bit-kept b h = Bits.bit-stays n t correct system king kings bits phases b 0 (phaseCount t) h (omega arith) (omega arith)
 
 -- ---- matrices have 16 rows
-pub length-first : (inbox : List ℕ) (len n : ℕ) → length (firstMatrix inbox len n) ≡ 16
+pub length-first : (inbox : List ℕ) (layout : Layout) (n : ℕ) → length (firstMatrix inbox layout n) ≡ 16
 unfolding firstMatrix
-length-first inbox len n = length-matrix (limit n) _
+length-first inbox layout n = length-matrix (limit n) _
 
-pub length-held : (inbox : List ℕ) (len n t : ℕ) → length (heldOf inbox len n t) ≡ 16
+pub length-held : (inbox : List ℕ) (layout : Layout) (n t : ℕ) → length (heldOf inbox layout n t) ≡ 16
 unfolding heldOf
-length-held inbox len n t = length-matrix (limit n) _
+length-held inbox layout n t = length-matrix (limit n) _
 
-pub length-weak : (inbox : List ℕ) (len n t : ℕ) → length (weakOf inbox len n t) ≡ 16
+pub length-weak : (inbox : List ℕ) (layout : Layout) (n t : ℕ) → length (weakOf inbox layout n t) ≡ 16
 unfolding weakOf
-length-weak inbox len n t = length-matrix (limit n) _
+length-weak inbox layout n t = length-matrix (limit n) _
 
-pub length-settled : (rows weak inbox : List ℕ) (len n king : ℕ) → length (settledOf rows weak inbox len n king) ≡ 16
+pub length-settled : (rows weak inbox : List ℕ) (layout : Layout) (n king : ℕ) → length (settledOf rows weak inbox layout n king) ≡ 16
 unfolding settledOf
-length-settled rows weak inbox len n king = length-matrix (limit n) _
+length-settled rows weak inbox layout n king = length-matrix (limit n) _
 
 -- ---- and each row is a number of 16 bits
-pub first-below : (inbox : List ℕ) (len n r : ℕ) → getD (firstMatrix inbox len n) r 0 < 2 ^ 16
+pub first-below : (inbox : List ℕ) (layout : Layout) (n r : ℕ) → getD (firstMatrix inbox layout n) r 0 < 2 ^ 16
 unfolding firstMatrix
-first-below inbox len n r = matrix-below (limit n) _ r (omega arith)
+first-below inbox layout n r = matrix-below (limit n) _ r (omega arith)
 
-pub held-below : (inbox : List ℕ) (len n t r : ℕ) → getD (heldOf inbox len n t) r 0 < 2 ^ 16
+pub held-below : (inbox : List ℕ) (layout : Layout) (n t r : ℕ) → getD (heldOf inbox layout n t) r 0 < 2 ^ 16
 unfolding heldOf
-held-below inbox len n t r = matrix-below (limit n) _ r (omega arith)
+held-below inbox layout n t r = matrix-below (limit n) _ r (omega arith)
 
-pub weak-below : (inbox : List ℕ) (len n t r : ℕ) → getD (weakOf inbox len n t) r 0 < 2 ^ 16
+pub weak-below : (inbox : List ℕ) (layout : Layout) (n t r : ℕ) → getD (weakOf inbox layout n t) r 0 < 2 ^ 16
 unfolding weakOf
-weak-below inbox len n t r = matrix-below (limit n) _ r (omega arith)
+weak-below inbox layout n t r = matrix-below (limit n) _ r (omega arith)
 
-pub settled-below : (rows weak inbox : List ℕ) (len n king r : ℕ) → getD (settledOf rows weak inbox len n king) r 0 < 2 ^ 16
+pub settled-below : (rows weak inbox : List ℕ) (layout : Layout) (n king r : ℕ) → getD (settledOf rows weak inbox layout n king) r 0 < 2 ^ 16
 unfolding settledOf
-settled-below rows weak inbox len n king r = matrix-below (limit n) _ r (omega arith)
+settled-below rows weak inbox layout n king r = matrix-below (limit n) _ r (omega arith)
 
--- ---- what is sent, in an outbox of n slots of that length
-sent : (n len : ℕ) (m outbox : List ℕ) → n ≤ 16 → length m ≡ len → length outbox ≡ n * width len → toAll (limit n) m outbox ≡ slots len (λ _. bytes m) n
-sent n len m outbox u e h =
-    let l : limit n ≡ n = omega arith in
-    let s : length outbox ≡ n * width (length m) = h ∙ ap (λ (x : ℕ). n * width x) (sym e) in
-    rw l (to-all n m outbox s ∙ ap (λ (x : ℕ). slots x (λ _. bytes m) n) e)
+-- ---- what is sent, in an outbox of n slots of that layout
+module _ (layout : Layout) (n : ℕ) (u : n ≤ 16) (outbox : List ℕ) (h : length outbox ≡ n * width layout) where
+  sent : (m : List ℕ) → length m ≡ layout .length → toAll layout (limit n) m outbox ≡ slots layout (λ _. bytes m) n
+  sent m e = let l : limit n ≡ n = omega arith in rw l (to-all layout n m outbox e h)
 
-pub matrix-sent : (n : ℕ) (rows outbox : List ℕ) → n ≤ 16 → length outbox ≡ n * width (2 * n)
-    → toAll (limit n) (rowsOf n rows) outbox ≡ slots (2 * n) (λ _. bytes (rowsOf n rows)) n
-matrix-sent n rows outbox u h = sent n (2 * n) (rowsOf n rows) outbox u (length-rows n rows u) h
+  pub matrix-sent : (rows : List ℕ) → layout .length ≡ 2 * n → toAll layout (limit n) (rowsOf n rows) outbox ≡ slots layout (λ _. bytes (rowsOf n rows)) n
+  matrix-sent rows e = sent (rowsOf n rows) (length-rows n rows u ∙ sym e)
+
+  pub seen-sent : (zeros ones : List ℕ) → layout .length ≡ 4 * n
+      → toAll layout (limit n) (seenMessage n zeros ones) outbox ≡ slots layout (λ _. bytes (seenMessage n zeros ones)) n
+  seen-sent zeros ones e = let l : limit n ≡ n = omega arith in sent (seenMessage n zeros ones) (omega (arith, length-seen n zeros ones, e))
 
 pub seen-length : (n : ℕ) (zeros ones : List ℕ) → n ≤ 16 → length (seenMessage n zeros ones) ≡ 4 * n
 seen-length n zeros ones u = length-seen n zeros ones ∙ omega arith
@@ -135,7 +138,3 @@ seen-length n zeros ones u = length-seen n zeros ones ∙ omega arith
 pub seen-bytes : (n : ℕ) (zeros ones : List ℕ) → n ≤ 16 → (x : ℕ) → getD (seenMessage n zeros ones) x 0 < 256
 unfolding seenMessage
 seen-bytes n zeros ones h = all-append (λ x. x < 256) (lit< tt) (rowsOf n zeros) (rowsOf n ones) (rows-bytes n zeros h) (rows-bytes n ones h)
-
-pub seen-sent : (n : ℕ) (zeros ones outbox : List ℕ) → n ≤ 16 → length outbox ≡ n * width (4 * n)
-    → toAll (limit n) (seenMessage n zeros ones) outbox ≡ slots (4 * n) (λ _. bytes (seenMessage n zeros ones)) n
-seen-sent n zeros ones outbox u h = sent n (4 * n) (seenMessage n zeros ones) outbox u (seen-length n zeros ones u) h

@@ -16,6 +16,7 @@ use Rattle.bitset.specs.Set.{member, setOf, restricted}
 use Rattle.bitset.specs.Row.{rowOf, rowsOf}
 use Rattle.bitset.proofs.Laws.{member-over, set-lt, set-lt-16, member-set, set-ext, set-of-members, ext, restrict-lt, member-restrict}
 use Rattle.bitset.proofs.Rows.{row-lt, row-none, row-left, row-right, length-rows, row-read}
+use Rattle.wire.specs.declared.slot.Layout.{Layout}
 use Rattle.wire.specs.Slot.{messageOf}
 use Rattle.phase_king.specs.Bit.{zeroSeen, oneSeen, held, weak, settled}
 use Rattle.phase_king.specs.Matrix.{limit, cell, matrixOf, said, kingSays, firstMatrix, zerosOf, onesOf, heldOf, weakOf, settledOf, seenMessage}
@@ -62,96 +63,96 @@ none-says : (n r j : ℕ) → member (rowOf n [] r) j ≡ false
 none-says n r j = ap (λ (x : ℕ). member x j) (row-none n r) ∙ member-over 0 0 j (omega arith) (omega arith)
 
 -- an absent slot says 0, and so does an absent king or one whose number is past n
-pub said-absent : (inbox : List ℕ) (len n r j i : ℕ) → messageOf inbox len (i + 1) ≡ [] → said inbox len n r j i ≡ false
+pub said-absent : (inbox : List ℕ) (layout : Layout) (n r j i : ℕ) → messageOf inbox layout (i + 1) ≡ [] → said inbox layout n r j i ≡ false
 unfolding said
-said-absent inbox len n r j i e = ap (λ (m : List ℕ). member (rowOf n m r) j) e ∙ none-says n r j
+said-absent inbox layout n r j i e = ap (λ (m : List ℕ). member (rowOf n m r) j) e ∙ none-says n r j
 
-pub king-absent : (inbox : List ℕ) (len n king r j : ℕ) → messageOf inbox len king ≡ [] → kingSays inbox len n king r j ≡ false
+pub king-absent : (inbox : List ℕ) (layout : Layout) (n king r j : ℕ) → messageOf inbox layout king ≡ [] → kingSays inbox layout n king r j ≡ false
 unfolding kingSays
-king-absent inbox len n king r j e =
+king-absent inbox layout n king r j e =
     ap (λ (m : List ℕ). member (rowOf n (cond (leb king n) m []) r) j) e ∙ ap (λ (m : List ℕ). member (rowOf n m r) j) (cond-either (leb king n)) ∙ none-says n r j
   where
     cond-either : (b : Bool) → cond {A = List ℕ} b [] [] ≡ []
     cond-either true = refl
     cond-either false = refl
 
-pub king-past : (inbox : List ℕ) (len n king r j : ℕ) → n < king → kingSays inbox len n king r j ≡ false
+pub king-past : (inbox : List ℕ) (layout : Layout) (n king r j : ℕ) → n < king → kingSays inbox layout n king r j ≡ false
 unfolding kingSays
-king-past inbox len n king r j l = ap (λ (m : List ℕ). member (rowOf n m r) j) (cond-no _ _ _ (lt-leb king n l)) ∙ none-says n r j
+king-past inbox layout n king r j l = ap (λ (m : List ℕ). member (rowOf n m r) j) (cond-no _ _ _ (lt-leb king n l)) ∙ none-says n r j
 
 -- a row of a matrix that was sent
 row-sent : (n : ℕ) (m : List ℕ) (r j : ℕ) → n ≤ 16 → r < n → j < n → member (rowOf n (rowsOf n m) r) j ≡ cell m r j
 row-sent n m r j u l h = ap (λ (x : ℕ). member x j) (row-read n m r u l) ∙ member-restrict (getD m r 0) n j h
 
-pub said-matrix : (inbox : List ℕ) (len n i : ℕ) (m : List ℕ) (r j : ℕ) → n ≤ 16 → r < n → j < n
-    → messageOf inbox len (i + 1) ≡ rowsOf n m → said inbox len n r j i ≡ cell m r j
+pub said-matrix : (inbox : List ℕ) (layout : Layout) (n i : ℕ) (m : List ℕ) (r j : ℕ) → n ≤ 16 → r < n → j < n
+    → messageOf inbox layout (i + 1) ≡ rowsOf n m → said inbox layout n r j i ≡ cell m r j
 unfolding said
-said-matrix inbox len n i m r j u l h e = ap (λ (x : List ℕ). member (rowOf n x r) j) e ∙ row-sent n m r j u l h
+said-matrix inbox layout n i m r j u l h e = ap (λ (x : List ℕ). member (rowOf n x r) j) e ∙ row-sent n m r j u l h
 
-pub said-zeros : (inbox : List ℕ) (len n i : ℕ) (zeros ones : List ℕ) (r j : ℕ) → n ≤ 16 → r < n → j < n
-    → messageOf inbox len (i + 1) ≡ seenMessage n zeros ones → said inbox len n r j i ≡ cell zeros r j
+pub said-zeros : (inbox : List ℕ) (layout : Layout) (n i : ℕ) (zeros ones : List ℕ) (r j : ℕ) → n ≤ 16 → r < n → j < n
+    → messageOf inbox layout (i + 1) ≡ seenMessage n zeros ones → said inbox layout n r j i ≡ cell zeros r j
 unfolding said seenMessage
-said-zeros inbox len n i zeros ones r j u l h e =
+said-zeros inbox layout n i zeros ones r j u l h e =
     ap (λ (x : List ℕ). member (rowOf n x r) j) e
     ∙ ap (λ (x : ℕ). member x j) (row-left n (rowsOf n zeros) (rowsOf n ones) r (omega (arith, length-rows n zeros u)))
     ∙ row-sent n zeros r j u l h
 
-pub said-ones : (inbox : List ℕ) (len n i : ℕ) (zeros ones : List ℕ) (r j : ℕ) → n ≤ 16 → r < n → j < n
-    → messageOf inbox len (i + 1) ≡ seenMessage n zeros ones → said inbox len n (n + r) j i ≡ cell ones r j
+pub said-ones : (inbox : List ℕ) (layout : Layout) (n i : ℕ) (zeros ones : List ℕ) (r j : ℕ) → n ≤ 16 → r < n → j < n
+    → messageOf inbox layout (i + 1) ≡ seenMessage n zeros ones → said inbox layout n (n + r) j i ≡ cell ones r j
 unfolding said seenMessage
-said-ones inbox len n i zeros ones r j u l h e =
+said-ones inbox layout n i zeros ones r j u l h e =
     ap (λ (x : List ℕ). member (rowOf n x (n + r)) j) e
     ∙ ap (λ (x : ℕ). member x j) (row-right n (rowsOf n zeros) (rowsOf n ones) n r (length-rows n zeros u))
     ∙ row-sent n ones r j u l h
 
-pub king-matrix : (inbox : List ℕ) (len n k : ℕ) (m : List ℕ) (r j : ℕ) → n ≤ 16 → k < n → r < n → j < n
-    → messageOf inbox len (k + 1) ≡ rowsOf n m → kingSays inbox len n (k + 1) r j ≡ cell m r j
+pub king-matrix : (inbox : List ℕ) (layout : Layout) (n k : ℕ) (m : List ℕ) (r j : ℕ) → n ≤ 16 → k < n → r < n → j < n
+    → messageOf inbox layout (k + 1) ≡ rowsOf n m → kingSays inbox layout n (k + 1) r j ≡ cell m r j
 unfolding kingSays
-king-matrix inbox len n k m r j u b l h e =
+king-matrix inbox layout n k m r j u b l h e =
     ap (λ (x : List ℕ). member (rowOf n x r) j) (cond-yes _ _ _ (le-leb (k + 1) n (omega arith)) ∙ e) ∙ row-sent n m r j u l h
 
 -- ---- the bits of the matrices that a controller makes
-module _ (inbox : List ℕ) (len n t r j : ℕ) (u : n ≤ 16) (l : r < n) (h : j < n) where
+module _ (inbox : List ℕ) (layout : Layout) (n t r j : ℕ) (u : n ≤ 16) (l : r < n) (h : j < n) where
   limited : limit n ≡ n
   limited = omega arith
 
-  pub cell-zeros : cell (zerosOf inbox len n t) r j ≡ zeroSeen n t (said inbox len n r j)
+  pub cell-zeros : cell (zerosOf inbox layout n t) r j ≡ zeroSeen n t (said inbox layout n r j)
   unfolding zerosOf
-  cell-zeros = rw limited (cell-matrix n (λ r j. zeroSeen n t (said inbox len n r j)) r j u l h)
+  cell-zeros = rw limited (cell-matrix n (λ r j. zeroSeen n t (said inbox layout n r j)) r j u l h)
 
-  pub cell-ones : cell (onesOf inbox len n t) r j ≡ oneSeen n t (said inbox len n r j)
+  pub cell-ones : cell (onesOf inbox layout n t) r j ≡ oneSeen n t (said inbox layout n r j)
   unfolding onesOf
-  cell-ones = rw limited (cell-matrix n (λ r j. oneSeen n t (said inbox len n r j)) r j u l h)
+  cell-ones = rw limited (cell-matrix n (λ r j. oneSeen n t (said inbox layout n r j)) r j u l h)
 
-  pub cell-held : cell (heldOf inbox len n t) r j ≡ held n t (said inbox len n (n + r) j)
+  pub cell-held : cell (heldOf inbox layout n t) r j ≡ held n t (said inbox layout n (n + r) j)
   unfolding heldOf
-  cell-held = rw limited (cell-matrix n (λ r j. held n t (said inbox len n (n + r) j)) r j u l h)
+  cell-held = rw limited (cell-matrix n (λ r j. held n t (said inbox layout n (n + r) j)) r j u l h)
 
-  pub cell-weak : cell (weakOf inbox len n t) r j ≡ weak n t (said inbox len n r j) (said inbox len n (n + r) j)
+  pub cell-weak : cell (weakOf inbox layout n t) r j ≡ weak n t (said inbox layout n r j) (said inbox layout n (n + r) j)
   unfolding weakOf
-  cell-weak = rw limited (cell-matrix n (λ r j. weak n t (said inbox len n r j) (said inbox len n (n + r) j)) r j u l h)
+  cell-weak = rw limited (cell-matrix n (λ r j. weak n t (said inbox layout n r j) (said inbox layout n (n + r) j)) r j u l h)
 
-settled-matrix : (rows weak inbox : List ℕ) (len n king : ℕ) → n ≤ 16
-    → settledOf rows weak inbox len n king ≡ matrixOf n (λ r j. settled (cell rows r j) (cell weak r j) (kingSays inbox len n king r j))
+settled-matrix : (rows weak inbox : List ℕ) (layout : Layout) (n king : ℕ) → n ≤ 16
+    → settledOf rows weak inbox layout n king ≡ matrixOf n (λ r j. settled (cell rows r j) (cell weak r j) (kingSays inbox layout n king r j))
 unfolding settledOf
-settled-matrix rows weak inbox len n king u =
+settled-matrix rows weak inbox layout n king u =
     let e : limit n ≡ n = omega arith in
     rw e
 
-pub cell-settled : (rows weak inbox : List ℕ) (len n king r j : ℕ) → n ≤ 16 → r < n → j < n
-    → cell (settledOf rows weak inbox len n king) r j ≡ settled (cell rows r j) (cell weak r j) (kingSays inbox len n king r j)
-cell-settled rows weak inbox len n king r j u l h =
-    ap (λ (m : List ℕ). cell m r j) (settled-matrix rows weak inbox len n king u)
-    ∙ cell-matrix n (λ r j. settled (cell rows r j) (cell weak r j) (kingSays inbox len n king r j)) r j u l h
+pub cell-settled : (rows weak inbox : List ℕ) (layout : Layout) (n king r j : ℕ) → n ≤ 16 → r < n → j < n
+    → cell (settledOf rows weak inbox layout n king) r j ≡ settled (cell rows r j) (cell weak r j) (kingSays inbox layout n king r j)
+cell-settled rows weak inbox layout n king r j u l h =
+    ap (λ (m : List ℕ). cell m r j) (settled-matrix rows weak inbox layout n king u)
+    ∙ cell-matrix n (λ r j. settled (cell rows r j) (cell weak r j) (kingSays inbox layout n king r j)) r j u l h
 
 -- row r of the first matrix is the row in the message of slot r + 1
-pub first-row : (inbox : List ℕ) (len n r : ℕ) → n ≤ 16 → r < n → getD (firstMatrix inbox len n) r 0 ≡ rowOf n (messageOf inbox len (r + 1)) 0
+pub first-row : (inbox : List ℕ) (layout : Layout) (n r : ℕ) → n ≤ 16 → r < n → getD (firstMatrix inbox layout n) r 0 ≡ rowOf n (messageOf inbox layout (r + 1)) 0
 unfolding firstMatrix said
-first-row inbox len n r u l =
+first-row inbox layout n r u l =
     let e : limit n ≡ n = omega arith in
     rw e
-    (row-matrix n (λ r j. member (rowOf n (messageOf inbox len (r + 1)) 0) j) r u l
-    ∙ set-of-members n (rowOf n (messageOf inbox len (r + 1)) 0) (row-lt n (messageOf inbox len (r + 1)) 0))
+    (row-matrix n (λ r j. member (rowOf n (messageOf inbox layout (r + 1)) 0) j) r u l
+    ∙ set-of-members n (rowOf n (messageOf inbox layout (r + 1)) 0) (row-lt n (messageOf inbox layout (r + 1)) 0))
 
 -- ---- the vote
 module _ (n t : ℕ) (correct : ℕ → Bool) (u : n ≤ 16) where
@@ -159,25 +160,25 @@ module _ (n t : ℕ) (correct : ℕ → Bool) (u : n ≤ 16) where
   pub phase-bit : (king : ℕ) (before after : ℕ → List ℕ) → MatrixPhase n t correct king before after → (r j : ℕ) → r < n → j < n
       → BitPhase n t correct king (λ i. cell (before i) r j) (λ i. cell (after i) r j)
   phase-bit king before after phase r j l h = record {
-    said = λ i. said (phase .in1 i) (phase .len1) n r j;
-    zeros = λ i. said (phase .in2 i) (phase .len2) n r j;
-    ones = λ i. said (phase .in2 i) (phase .len2) n (n + r) j;
-    kings = λ i. kingSays (phase .in3 i) (phase .len3) n (king + 1) r j;
-    first = λ i k f g. said-matrix (phase .in1 i) (phase .len1) n k (before k) r j u l h (phase .first i k f g);
+    said = λ i. said (phase .in1 i) (phase .layout1) n r j;
+    zeros = λ i. said (phase .in2 i) (phase .layout2) n r j;
+    ones = λ i. said (phase .in2 i) (phase .layout2) n (n + r) j;
+    kings = λ i. kingSays (phase .in3 i) (phase .layout3) n (king + 1) r j;
+    first = λ i k f g. said-matrix (phase .in1 i) (phase .layout1) n k (before k) r j u l h (phase .first i k f g);
     second0 = λ i k f g.
-        said-zeros (phase .in2 i) (phase .len2) n k (zerosOf (phase .in1 k) (phase .len1) n t) (onesOf (phase .in1 k) (phase .len1) n t) r j u l h (phase .second i k f g)
-        ∙ cell-zeros (phase .in1 k) (phase .len1) n t r j u l h;
+        said-zeros (phase .in2 i) (phase .layout2) n k (zerosOf (phase .in1 k) (phase .layout1) n t) (onesOf (phase .in1 k) (phase .layout1) n t) r j u l h (phase .second i k f g)
+        ∙ cell-zeros (phase .in1 k) (phase .layout1) n t r j u l h;
     second1 = λ i k f g.
-        said-ones (phase .in2 i) (phase .len2) n k (zerosOf (phase .in1 k) (phase .len1) n t) (onesOf (phase .in1 k) (phase .len1) n t) r j u l h (phase .second i k f g)
-        ∙ cell-ones (phase .in1 k) (phase .len1) n t r j u l h;
+        said-ones (phase .in2 i) (phase .layout2) n k (zerosOf (phase .in1 k) (phase .layout1) n t) (onesOf (phase .in1 k) (phase .layout1) n t) r j u l h (phase .second i k f g)
+        ∙ cell-ones (phase .in1 k) (phase .layout1) n t r j u l h;
     third = λ i f w.
-        king-matrix (phase .in3 i) (phase .len3) n king (heldOf (phase .in2 king) (phase .len2) n t) r j u (w .0) l h (phase .third i f w)
-        ∙ cell-held (phase .in2 king) (phase .len2) n t r j u l h;
+        king-matrix (phase .in3 i) (phase .layout3) n king (heldOf (phase .in2 king) (phase .layout2) n t) r j u (w .0) l h (phase .third i f w)
+        ∙ cell-held (phase .in2 king) (phase .layout2) n t r j u l h;
     result = λ i f.
         ap (λ (m : List ℕ). cell m r j) (phase .result i f)
-        ∙ cell-settled (heldOf (phase .in2 i) (phase .len2) n t) (weakOf (phase .in2 i) (phase .len2) n t) (phase .in3 i) (phase .len3) n (king + 1) r j u l h
-        ∙ ap₂ (λ (x y : Bool). settled x y (kingSays (phase .in3 i) (phase .len3) n (king + 1) r j))
-        (cell-held (phase .in2 i) (phase .len2) n t r j u l h) (cell-weak (phase .in2 i) (phase .len2) n t r j u l h);
+        ∙ cell-settled (heldOf (phase .in2 i) (phase .layout2) n t) (weakOf (phase .in2 i) (phase .layout2) n t) (phase .in3 i) (phase .layout3) n (king + 1) r j u l h
+        ∙ ap₂ (λ (x y : Bool). settled x y (kingSays (phase .in3 i) (phase .layout3) n (king + 1) r j))
+        (cell-held (phase .in2 i) (phase .layout2) n t r j u l h) (cell-weak (phase .in2 i) (phase .layout2) n t r j u l h);
   }
 
   module _ (system : System n t correct) (king : ℕ → ℕ) (kings : Kings n t king) (rows : ℕ → ℕ → List ℕ) (phases : Vote n t correct king rows) where
@@ -195,7 +196,7 @@ module _ (n t : ℕ) (correct : ℕ → Bool) (u : n ≤ 16) where
     last i f =
         let phase = phases t (omega arith) in (
           _,
-          phase .result i f ∙ settled-matrix (heldOf (phase .in2 i) (phase .len2) n t) (weakOf (phase .in2 i) (phase .len2) n t) (phase .in3 i) (phase .len3) n (king t + 1) u,
+          phase .result i f ∙ settled-matrix (heldOf (phase .in2 i) (phase .layout2) n t) (weakOf (phase .in2 i) (phase .layout2) n t) (phase .in3 i) (phase .layout3) n (king t + 1) u,
         )
 
     pub agreed : Agreed n t correct rows

@@ -17,6 +17,7 @@ use Rattle.lists.specs.Sum.{count}
 use lib.ListN.{getD}
 use Rattle.bitset.specs.Set.{restricted}
 use Rattle.bitset.specs.Row.{rowsOf}
+use Rattle.wire.specs.declared.slot.Layout.{Layout}
 use Rattle.wire.specs.Slot.{messageOf}
 use Rattle.phase_king.specs.Bit.{zeroSeen, oneSeen, held, weak, settled}
 use Rattle.phase_king.specs.Matrix.{cell, zerosOf, onesOf, heldOf, weakOf, settledOf, seenMessage}
@@ -48,22 +49,22 @@ pub record BitPhase (n t : ℕ) (correct : ℕ → Bool) (king : ℕ) (before af
   pub third : (i : ℕ) → Correct n correct i → Correct n correct king → kings i ≡ held n t (ones king)
   pub result : (i : ℕ) → Correct n correct i → after i ≡ settled (held n t (ones i)) (weak n t (zeros i) (ones i)) (kings i)
 
--- `in1 i`, `in2 i` and `in3 i` are the inboxes of i of the three rounds, with messages of len1, len2 and len3 bytes. A correct controller's
+-- `in1 i`, `in2 i` and `in3 i` are the inboxes of i of the three rounds, of the layouts layout1, layout2 and layout3. A correct controller's
 -- message is in its slot: in the first round its matrix, in the second its zeros and ones, in the third the king's matrix.
 pub record MatrixPhase (n t : ℕ) (correct : ℕ → Bool) (king : ℕ) (before after : ℕ → List ℕ) : Type 0 where
-  pub len1 : ℕ
-  pub len2 : ℕ
-  pub len3 : ℕ
+  pub layout1 : Layout
+  pub layout2 : Layout
+  pub layout3 : Layout
   pub in1 : ℕ → List ℕ
   pub in2 : ℕ → List ℕ
   pub in3 : ℕ → List ℕ
-  pub first : (i j : ℕ) → Correct n correct i → Correct n correct j → messageOf (in1 i) len1 (j + 1) ≡ rowsOf n (before j)
+  pub first : (i j : ℕ) → Correct n correct i → Correct n correct j → messageOf (in1 i) layout1 (j + 1) ≡ rowsOf n (before j)
   pub second : (i j : ℕ) → Correct n correct i → Correct n correct j
-      → messageOf (in2 i) len2 (j + 1) ≡ seenMessage n (zerosOf (in1 j) len1 n t) (onesOf (in1 j) len1 n t)
+      → messageOf (in2 i) layout2 (j + 1) ≡ seenMessage n (zerosOf (in1 j) layout1 n t) (onesOf (in1 j) layout1 n t)
   pub third : (i : ℕ) → Correct n correct i → Correct n correct king
-      → messageOf (in3 i) len3 (king + 1) ≡ rowsOf n (heldOf (in2 king) len2 n t)
+      → messageOf (in3 i) layout3 (king + 1) ≡ rowsOf n (heldOf (in2 king) layout2 n t)
   pub result : (i : ℕ) → Correct n correct i
-      → after i ≡ settledOf (heldOf (in2 i) len2 n t) (weakOf (in2 i) len2 n t) (in3 i) len3 n (king + 1)
+      → after i ≡ settledOf (heldOf (in2 i) layout2 n t) (weakOf (in2 i) layout2 n t) (in3 i) layout3 n (king + 1)
 
 abbrev pub Vote : (n t : ℕ) → (ℕ → Bool) → (ℕ → ℕ) → (ℕ → ℕ → List ℕ) → Type 0
 Vote n t correct king rows = (p : ℕ) → p < phaseCount t → MatrixPhase n t correct (king p) (rows p) (rows (suc p))

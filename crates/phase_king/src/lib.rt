@@ -1,17 +1,22 @@
 // The vote among the controllers on a matrix of marks, bit by bit (document 01, 'Rounds', call 4 and rounds 3p + 1 to 3p + 3; Berman, Garay
 // and Perry). Index i is controller i + 1; a king is named by its number. Every function is total: a number n over 16 counts as 16.
+// What is sent is in send.rt.
+mod send;
+
+pub use send::send_as_king;
+pub use send::send_matrix;
+pub use send::send_seen;
 ghost use mathlib.Core.Path.{_≡_};
 ghost use mathlib.Core.Bool.{cond};
-ghost use mathlib.Core.List.{_++_};
-ghost use Prim.Native.Nat.{_+_, _-_, _*_, _<_, _≤_, min};
-ghost use lib.ListN.{length, drop};
+ghost use Prim.Native.Nat.{_+_, _-_, _<_, _≤_, min};
 ghost use Rattle.lists.specs.Sum.{ind, count};
 ghost use Rattle.bitset.specs.Set.{member, inserted};
-ghost use Rattle.bitset.specs.Row.{rowOf, rowsOf};
-ghost use Rattle.wire.specs.Slot.{messageOf, toAll};
+ghost use Rattle.bitset.specs.Row.{rowOf};
+ghost use Rattle.wire.specs.Slot.{messageOf};
 ghost use Rattle.phase_king.specs.Bit.{zeroSeen, oneSeen, held, weak, settled};
-ghost use Rattle.phase_king.specs.Matrix.{cell, seenMessage, collected, tallied, kept, resolved};
+ghost use Rattle.phase_king.specs.Matrix.{cell, collected, tallied, kept, resolved};
 ghost use Rattle.phase_king.specs.Steps.{saidRows, ruleBit, ruleRow, ruleMatrix, kingRow, settledRow};
+use wire::Layout;
 
 // A matrix: a row of marks for each controller.
 pub struct Matrix {
@@ -62,11 +67,11 @@ fn quorum(n: usize, t: usize) -> usize
 }
 
 // Row r of what slot i + 1 says.
-fn said_row(inbox: &[u8], len: usize, n: usize, r: usize, i: usize) -> u16
+fn said_row(inbox: &[u8], layout: Layout, n: usize, r: usize, i: usize) -> u16
     requires { ⌜ i < 16 ⌝ }
-    ensures { λ s. ⌜ s ≡ rowOf n (messageOf (now (inbox .entry)) len (i + 1)) r ⌝ }
+    ensures { λ s. ⌜ s ≡ rowOf n (messageOf (now (inbox .entry)) layout (i + 1)) r ⌝ }
 {
-    let m = wire::message(inbox, len, i + 1);
+    let m = wire::message(inbox, layout, i + 1);
     if m.len() == 0 {
         return ABSENT;
     }
@@ -74,14 +79,14 @@ fn said_row(inbox: &[u8], len: usize, n: usize, r: usize, i: usize) -> u16
 }
 
 // Row r of what each of the n slots says.
-fn said_rows(inbox: &[u8], len: usize, n: usize, r: usize) -> [u16; 16]
+fn said_rows(inbox: &[u8], layout: Layout, n: usize, r: usize) -> [u16; 16]
     requires { ⌜ n ≤ 16 ⌝ }
-    ensures { λ s. ⌜ s ≡ saidRows (now (inbox .entry)) len n r ⌝ }
+    ensures { λ s. ⌜ s ≡ saidRows (now (inbox .entry)) layout n r ⌝ }
 {
     let mut rows = [0u16; 16];
     let mut i: usize = 0;
     while i < n {
-        rows[i] = said_row(inbox, len, n, r, i);
+        rows[i] = said_row(inbox, layout, n, r, i);
         i += 1;
     }
     rows
@@ -185,24 +190,24 @@ fn rule_row(rule: Rule, first: &[u16; 16], second: &[u16; 16], n: usize, t: usiz
 }
 
 // Row r of a rule's matrix. The slots' rows for the ones stand n rows further on.
-fn rule_row_at(rule: Rule, inbox: &[u8], len: usize, n: usize, t: usize, r: usize) -> u16
+fn rule_row_at(rule: Rule, inbox: &[u8], layout: Layout, n: usize, t: usize, r: usize) -> u16
     requires { ⌜ (n ≤ 16) × (r < n) ⌝ }
-    ensures { λ w. ⌜ w ≡ ruleRow rule n t (saidRows (now (inbox .entry)) len n r) (saidRows (now (inbox .entry)) len n (n + r)) ⌝ }
+    ensures { λ w. ⌜ w ≡ ruleRow rule n t (saidRows (now (inbox .entry)) layout n r) (saidRows (now (inbox .entry)) layout n (n + r)) ⌝ }
 {
-    let first = said_rows(inbox, len, n, r);
-    let second = said_rows(inbox, len, n, n + r);
+    let first = said_rows(inbox, layout, n, r);
+    let second = said_rows(inbox, layout, n, n + r);
     rule_row(rule, &first, &second, n, t)
 }
 
 // The matrix of a rule.
-fn rule_matrix(rule: Rule, inbox: &[u8], len: usize, n: usize, t: usize) -> [u16; 16]
+fn rule_matrix(rule: Rule, inbox: &[u8], layout: Layout, n: usize, t: usize) -> [u16; 16]
     requires { ⌜ n ≤ 16 ⌝ }
-    ensures { λ m. ⌜ m ≡ ruleMatrix rule (now (inbox .entry)) len n t ⌝ }
+    ensures { λ m. ⌜ m ≡ ruleMatrix rule (now (inbox .entry)) layout n t ⌝ }
 {
     let mut rows = [0u16; 16];
     let mut r: usize = 0;
     while r < n {
-        rows[r] = rule_row_at(rule, inbox, len, n, t, r);
+        rows[r] = rule_row_at(rule, inbox, layout, n, t, r);
         r += 1;
     }
     rows
@@ -210,43 +215,43 @@ fn rule_matrix(rule: Rule, inbox: &[u8], len: usize, n: usize, t: usize) -> [u16
 
 // Call 4: row j of the matrix is the message of j.
 // Shut out: the next slot's message, another row of it, ones for an absent slot.
-pub fn collect(inbox: &[u8], len: usize, n: usize) -> Matrix
-    ensures { λ m. ⌜ m ≡ collected (now (inbox .entry)) len n ⌝ }
+pub fn collect(inbox: &[u8], layout: Layout, n: usize) -> Matrix
+    ensures { λ m. ⌜ m ≡ collected (now (inbox .entry)) layout n ⌝ }
 {
-    let rows = said_rows(inbox, len, limit(n), 0);
+    let rows = said_rows(inbox, layout, limit(n), 0);
     Matrix { rows }
 }
 
 // After round 3p + 1: where zero and where one is seen.
 // Shut out: zero seen only above n - t, the zeros matrix in the place of the ones matrix.
-pub fn tally(inbox: &[u8], len: usize, n: usize, t: usize) -> Seen
-    ensures { λ s. ⌜ s ≡ tallied (now (inbox .entry)) len n t ⌝ }
+pub fn tally(inbox: &[u8], layout: Layout, n: usize, t: usize) -> Seen
+    ensures { λ s. ⌜ s ≡ tallied (now (inbox .entry)) layout n t ⌝ }
 {
     let m = limit(n);
-    let zeros = rule_matrix(Rule::ZeroSeen, inbox, len, m, t);
-    let ones = rule_matrix(Rule::OneSeen, inbox, len, m, t);
+    let zeros = rule_matrix(Rule::ZeroSeen, inbox, layout, m, t);
+    let ones = rule_matrix(Rule::OneSeen, inbox, layout, m, t);
     Seen { zeros, ones }
 }
 
 // After round 3p + 2: the bits now held, and where their count is below n - t.
 // Shut out: 1 held where the ones are t, weak where the count is n - t.
-pub fn hold(inbox: &[u8], len: usize, n: usize, t: usize) -> Held
-    ensures { λ s. ⌜ s ≡ kept (now (inbox .entry)) len n t ⌝ }
+pub fn hold(inbox: &[u8], layout: Layout, n: usize, t: usize) -> Held
+    ensures { λ s. ⌜ s ≡ kept (now (inbox .entry)) layout n t ⌝ }
 {
     let m = limit(n);
-    let rows = rule_matrix(Rule::Hold, inbox, len, m, t);
-    let weak = rule_matrix(Rule::Weak, inbox, len, m, t);
+    let rows = rule_matrix(Rule::Hold, inbox, layout, m, t);
+    let weak = rule_matrix(Rule::Weak, inbox, layout, m, t);
     Held { rows, weak }
 }
 
 // Row r of the king's message; zeros for a king that is none of 1 to n.
-fn king_row(inbox: &[u8], len: usize, n: usize, king: usize, r: usize) -> u16
-    ensures { λ s. ⌜ s ≡ kingRow (now (inbox .entry)) len n king r ⌝ }
+fn king_row(inbox: &[u8], layout: Layout, n: usize, king: usize, r: usize) -> u16
+    ensures { λ s. ⌜ s ≡ kingRow (now (inbox .entry)) layout n king r ⌝ }
 {
     if n < king {
         return 0;
     }
-    bitset::read_row(wire::message(inbox, len, king), n, r)
+    bitset::read_row(wire::message(inbox, layout, king), n, r)
 }
 
 // Bit j after round 3p + 3.
@@ -279,52 +284,18 @@ pub fn settle(
     rows: &[u16; 16],
     weak: &[u16; 16],
     inbox: &[u8],
-    len: usize,
+    layout: Layout,
     n: usize,
     king: usize,
 ) -> Matrix
-    ensures { λ m. ⌜ m ≡ resolved (now (rows .entry)) (now (weak .entry)) (now (inbox .entry)) len n king ⌝ }
+    ensures { λ m. ⌜ m ≡ resolved (now (rows .entry)) (now (weak .entry)) (now (inbox .entry)) layout n king ⌝ }
 {
     let m = limit(n);
     let mut settled = [0u16; 16];
     let mut r: usize = 0;
     while r < m {
-        settled[r] = settled_row(rows[r], weak[r], king_row(inbox, len, m, king, r), m);
+        settled[r] = settled_row(rows[r], weak[r], king_row(inbox, layout, m, king, r), m);
         r += 1;
     }
     Matrix { rows: settled }
-}
-
-// The matrix to all: rounds 3p + 1 and 3p + 3. An outbox whose length is not that of the slots stays as it is.
-// Shut out: a message of zeros, half the message.
-pub fn send_matrix(outbox: &mut [u8], rows: &[u16; 16], n: usize)
-    ensures { λ _. ⌜ now (outbox .exit) ≡ toAll (min n 16) (rowsOf n (now (rows .entry))) (now (outbox .entry)) ⌝ }
-{
-    let mut m = [0u8; 32];
-    bitset::write_rows(&mut m, rows, n);
-    let count = limit(n);
-    let end = 2 * count;
-    wire::send_all(outbox, count, &m[..end]);
-}
-
-// The message of the zeros matrix, then the ones matrix, at the front of m.
-fn write_seen(m: &mut [u8], zeros: &[u16; 16], ones: &[u16; 16], n: usize)
-    requires { ⌜ 4 * min n 16 ≤ length (now m) ⌝ }
-    ensures { λ _. ⌜ now (m .exit) ≡ seenMessage n (now (zeros .entry)) (now (ones .entry)) ++ drop (4 * min n 16) (now (m .entry)) ⌝ }
-{
-    bitset::write_rows(m, zeros, n);
-    let start = 2 * limit(n);
-    bitset::write_rows(&mut m[start..], ones, n);
-}
-
-// The zeros matrix, then the ones matrix to all: round 3p + 2. An outbox whose length is not that of the slots stays as it is.
-// Shut out: the ones matrix first, the zeros matrix alone.
-pub fn send_seen(outbox: &mut [u8], zeros: &[u16; 16], ones: &[u16; 16], n: usize)
-    ensures { λ _. ⌜ now (outbox .exit) ≡ toAll (min n 16) (seenMessage n (now (zeros .entry)) (now (ones .entry))) (now (outbox .entry)) ⌝ }
-{
-    let mut m = [0u8; 64];
-    write_seen(&mut m, zeros, ones, n);
-    let count = limit(n);
-    let end = 4 * count;
-    wire::send_all(outbox, count, &m[..end]);
 }

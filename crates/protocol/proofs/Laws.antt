@@ -11,8 +11,9 @@ use borrow.Author.Tests.{eq-eqb, ne-eqb, eqb-true, eqb-false, not-false}
 use lib.Dec.{eqb}
 use lib.ListN.{length}
 use Rattle.lists.proofs.Tests.{either, and-left, and-right, and-both, and-no-left, and-no-right, and-tail, or-neither, or-left, or-right, cond-yes, cond-no, cond-zero}
-use Rattle.settings.specs.declared.Entry.the-variants.{Start, State as OfState}
-use Rattle.settings.specs.Refusal.{outside, refusalOf}
+use Rattle.settings.specs.declared.Settings.{Settings}
+use Rattle.settings.specs.declared.Entry.the-variants.{Start}
+use Rattle.settings.specs.Refusal.{outside, refusalOf, stateRefusal}
 use Rattle.settings.specs.Valid.{Valid}
 use Rattle.settings.proofs.Laws.{start-0 as settings-0, state-0, 0-state, outside-yes, outside-no, no-outside, start-fits}
 use Rattle.wire.specs.declared.Call.{Call}
@@ -22,38 +23,38 @@ use Rattle.wire.specs.Length.{blockLength, blockSize, inboxLength, outboxLength
 use Rattle.wire.proofs.Laws.{Fact, call-fact, block-size}
 use Rattle.protocol.specs.declared.State.{State}
 use Rattle.protocol.specs.declared.Started.{Started}
-use Rattle.protocol.specs.State.{settingsOf, freshState, zeroState}
+use Rattle.protocol.specs.State.{freshState, zeroState}
 use Rattle.protocol.specs.Calls.{carried, sendCall, receiveCall, compareCall, collectCall, tallyCall, holdCall, settleCall, coreCall, chooseCall, finishCall, callOf}
 use Rattle.protocol.specs.Step.{startRefusal, startOf, lengthsFit, stepRefusal, After, after, done, stepOf, Ready}
 
 -- ---- start
-module _ (n t k own sender b : ℕ) where
+module _ (s : Settings) (own b : ℕ) where
   -- the number is that of the refusal
-  pub start-number : startOf n t k own sender b .number ≡ startRefusal n t k own sender b
+  pub start-number : startOf s own b .number ≡ startRefusal s own b
   unfolding startOf
-  start-number = go (eqb (startRefusal n t k own sender b) 0) refl
+  start-number = go (eqb (startRefusal s own b) 0) refl
     where
-      go : (x : Bool) → eqb (startRefusal n t k own sender b) 0 ≡ x
-          → cond {A = Started} x (record { number = 0; state = freshState n t k own sender }) (record { number = startRefusal n t k own sender b; state = zeroState }) .number
-          ≡ startRefusal n t k own sender b
-      go true e = sym (eqb-true (startRefusal n t k own sender b) 0 e)
+      go : (x : Bool) → eqb (startRefusal s own b) 0 ≡ x
+          → cond {A = Started} x (record { number = 0; state = freshState s own }) (record { number = startRefusal s own b; state = zeroState }) .number
+          ≡ startRefusal s own b
+      go true e = sym (eqb-true (startRefusal s own b) 0 e)
       go false e = refl
 
-  module _ (z : startOf n t k own sender b .number ≡ 0) where
-    code : startRefusal n t k own sender b ≡ 0
+  module _ (z : startOf s own b .number ≡ 0) where
+    code : startRefusal s own b ≡ 0
     code = sym start-number ∙ z
 
-    pub start-0 : Valid (record { n = n; t = t; k = k; number = own; sender = sender }) × (b ≡ blockLength k t)
+    pub start-0 : Valid s own × (b ≡ blockLength (s .k) (s .t))
     unfolding startRefusal
     start-0 =
-        let r = settings-0 (record { n = n; t = t; k = k; number = own; sender = sender }) (eqb b (blockLength k t)) code in
-        (r .0, eqb-true b (blockLength k t) (r .1))
+        let r = settings-0 s own (eqb b (blockLength (s .k) (s .t))) code in
+        (r .0, eqb-true b (blockLength (s .k) (s .t)) (r .1))
 
-    pub start-state : startOf n t k own sender b .state ≡ freshState n t k own sender
+    pub start-state : startOf s own b .state ≡ freshState s own
     unfolding startOf
     start-state =
         ap (λ (x : Started). x .state)
-        (cond-yes (eqb (startRefusal n t k own sender b) 0) _ _ (eq-eqb (startRefusal n t k own sender b) 0 code))
+        (cond-yes (eqb (startRefusal s own b) 0) _ _ (eq-eqb (startRefusal s own b) 0 code))
 
 -- ---- step
 module _ (s : State) (b i o : List ℕ) where
@@ -62,7 +63,7 @@ module _ (s : State) (b i o : List ℕ) where
   unfolding stepOf
   refused n = cond-no (eqb (stepRefusal s (length b) (length i) (length o)) 0) _ _ (ne-eqb (stepRefusal s (length b) (length i) (length o)) 0 n)
 
-  pub performed : stepRefusal s (length b) (length i) (length o) ≡ 0 → stepOf s b i o ≡ done (callOf (callKind (s .t) (s .next)) s b i o)
+  pub performed : stepRefusal s (length b) (length i) (length o) ≡ 0 → stepOf s b i o ≡ done (callOf (callKind (s .settings .t) (s .next)) s b i o)
   unfolding stepOf
   performed z = cond-yes (eqb (stepRefusal s (length b) (length i) (length o)) 0) _ _ (eq-eqb (stepRefusal s (length b) (length i) (length o)) 0 z)
 
@@ -78,51 +79,51 @@ module _ (s : State) (b i o : List ℕ) where
 
 module _ (s : State) (b i o : ℕ) where
   bad : Bool
-  bad = not (eqb (refusalOf OfState (settingsOf s) true) 0) || outside 1 (3 * s .t + 10) (s .next)
+  bad = not (eqb (stateRefusal (s .settings) (s .own)) 0) || outside 1 (3 * s .settings .t + 10) (s .next)
 
   pub ready-of : stepRefusal s b i o ≡ 0 → Ready s b i o
   unfolding stepRefusal lengthsFit bad
   ready-of z =
       let one = cond-zero bad 6 _ z in
-      let two = cond-zero (eqb (s .next) (3 * s .t + 10)) 7 _ (one .1) in
+      let two = cond-zero (eqb (s .next) (3 * s .settings .t + 10)) 7 _ (one .1) in
       let three = cond-zero (not (lengthsFit s b i o)) 5 0 (two .1) in
-      let parts = or-neither (not (eqb (refusalOf OfState (settingsOf s) true) 0)) (outside 1 (3 * s .t + 10) (s .next)) (one .0) in
-      let range = outside-no 1 (3 * s .t + 10) (s .next) (parts .1) in
-      let late : s .next ≡ 3 * s .t + 10 → ⊥ = eqb-false (s .next) (3 * s .t + 10) (two .0) in
+      let parts = or-neither (not (eqb (stateRefusal (s .settings) (s .own)) 0)) (outside 1 (3 * s .settings .t + 10) (s .next)) (one .0) in
+      let range = outside-no 1 (3 * s .settings .t + 10) (s .next) (parts .1) in
+      let late : s .next ≡ 3 * s .settings .t + 10 → ⊥ = eqb-false (s .next) (3 * s .settings .t + 10) (two .0) in
       let fit : lengthsFit s b i o ≡ true = not-false (lengthsFit s b i o) (three .0) in
-      let B = eqb b (blockLength (s .k) (s .t)) in
-      let I = eqb i (inboxLength (s .n) (s .t) (s .k) (s .next)) in
-      let O = eqb o (outboxLength (s .n) (s .t) (s .k) (s .next)) in
+      let B = eqb b (blockLength (s .settings .k) (s .settings .t)) in
+      let I = eqb i (inboxLength (s .settings .n) (s .settings .t) (s .settings .k) (s .next)) in
+      let O = eqb o (outboxLength (s .settings .n) (s .settings .t) (s .settings .k) (s .next)) in
       record {
-        valid = state-0 (settingsOf s) true (eqb-true (refusalOf OfState (settingsOf s) true) 0 (not-false (eqb (refusalOf OfState (settingsOf s) true) 0) (parts .0)));
+        valid = state-0 (s .settings) (s .own) (eqb-true (stateRefusal (s .settings) (s .own)) 0 (not-false (eqb (stateRefusal (s .settings) (s .own)) 0) (parts .0)));
         next-least = range .0;
         next-most = omega arith;
-        block-length = eqb-true b (blockLength (s .k) (s .t)) (and-left B (I && O) fit);
-        inbox-length = eqb-true i (inboxLength (s .n) (s .t) (s .k) (s .next)) (and-left I O (and-right B (I && O) fit));
-        outbox-length = eqb-true o (outboxLength (s .n) (s .t) (s .k) (s .next)) (and-right I O (and-right B (I && O) fit));
+        block-length = eqb-true b (blockLength (s .settings .k) (s .settings .t)) (and-left B (I && O) fit);
+        inbox-length = eqb-true i (inboxLength (s .settings .n) (s .settings .t) (s .settings .k) (s .next)) (and-left I O (and-right B (I && O) fit));
+        outbox-length = eqb-true o (outboxLength (s .settings .n) (s .settings .t) (s .settings .k) (s .next)) (and-right I O (and-right B (I && O) fit));
       }
 
-  fine : Valid (settingsOf s) → 1 ≤ s .next → s .next ≤ 3 * s .t + 10 → bad ≡ false
+  fine : Valid (s .settings) (s .own) → 1 ≤ s .next → s .next ≤ 3 * s .settings .t + 10 → bad ≡ false
   unfolding bad
   fine v l m =
-      rw (eq-eqb (refusalOf OfState (settingsOf s) true) 0 (0-state (settingsOf s) true v)) (no-outside 1 (3 * s .t + 10) (s .next) l m)
+      rw (eq-eqb (stateRefusal (s .settings) (s .own)) 0 (0-state (s .settings) (s .own) v)) (no-outside 1 (3 * s .settings .t + 10) (s .next) l m)
 
   pub of-ready : Ready s b i o → stepRefusal s b i o ≡ 0
   unfolding stepRefusal lengthsFit bad
   of-ready r =
       cond-no bad 7 _ (fine (r .valid) (r .next-least) (omega arith))
-      ∙ cond-no (eqb (s .next) (3 * s .t + 10)) 8 _ (ne-eqb (s .next) (3 * s .t + 10) (λ e. omega arith))
+      ∙ cond-no (eqb (s .next) (3 * s .settings .t + 10)) 8 _ (ne-eqb (s .next) (3 * s .settings .t + 10) (λ e. omega arith))
       ∙ cond-no (not (lengthsFit s b i o)) 6 0
-      (ap not (and-both (eqb b (blockLength (s .k) (s .t))) _ (eq-eqb b (blockLength (s .k) (s .t)) (r .block-length))
-      (and-both (eqb i (inboxLength (s .n) (s .t) (s .k) (s .next))) (eqb o (outboxLength (s .n) (s .t) (s .k) (s .next)))
-      (eq-eqb i (inboxLength (s .n) (s .t) (s .k) (s .next)) (r .inbox-length)) (eq-eqb o (outboxLength (s .n) (s .t) (s .k) (s .next)) (r .outbox-length)))))
+      (ap not (and-both (eqb b (blockLength (s .settings .k) (s .settings .t))) _ (eq-eqb b (blockLength (s .settings .k) (s .settings .t)) (r .block-length))
+      (and-both (eqb i (inboxLength (s .settings .n) (s .settings .t) (s .settings .k) (s .next))) (eqb o (outboxLength (s .settings .n) (s .settings .t) (s .settings .k) (s .next)))
+      (eq-eqb i (inboxLength (s .settings .n) (s .settings .t) (s .settings .k) (s .next)) (r .inbox-length)) (eq-eqb o (outboxLength (s .settings .n) (s .settings .t) (s .settings .k) (s .next)) (r .outbox-length)))))
 
   -- a run that is finished
-  pub step-8 : Valid (settingsOf s) → s .next ≡ 3 * s .t + 10 → stepRefusal s b i o ≡ 8
+  pub step-8 : Valid (s .settings) (s .own) → s .next ≡ 3 * s .settings .t + 10 → stepRefusal s b i o ≡ 8
   unfolding stepRefusal bad
   step-8 v e =
       cond-no bad 7 _ (fine v (omega arith) (omega arith))
-      ∙ cond-yes (eqb (s .next) (3 * s .t + 10)) 8 _ (eq-eqb (s .next) (3 * s .t + 10) e)
+      ∙ cond-yes (eqb (s .next) (3 * s .settings .t + 10)) 8 _ (eq-eqb (s .next) (3 * s .settings .t + 10) e)
 
 -- ---- calls
 -- what a call of each kind is: the layers above cite these and don't unfold `callOf`
@@ -172,25 +173,22 @@ module _ (s : State) (b i o : List ℕ) where
   of-outside = refl
 
 pub record Keeps (s s′ : State) : Type 0 where
-  pub n : s′ .n ≡ s .n
-  pub t : s′ .t ≡ s .t
-  pub k : s′ .k ≡ s .k
+  pub settings : s′ .settings ≡ s .settings
   pub own : s′ .own ≡ s .own
-  pub sender : s′ .sender ≡ s .sender
   pub next : s′ .next ≡ s .next + 1
 
 pub call-keeps : (c : Call) (s : State) (b i o : List ℕ) → (c ≡ Outside → ⊥) → Keeps s (callOf c s b i o .state)
 unfolding callOf
-call-keeps Send s b i o x = record { n = refl; t = refl; k = refl; own = refl; sender = refl; next = refl }
-call-keeps Receive s b i o x = record { n = refl; t = refl; k = refl; own = refl; sender = refl; next = refl }
-call-keeps Compare s b i o x = record { n = refl; t = refl; k = refl; own = refl; sender = refl; next = refl }
-call-keeps Collect s b i o x = record { n = refl; t = refl; k = refl; own = refl; sender = refl; next = refl }
-call-keeps Tally s b i o x = record { n = refl; t = refl; k = refl; own = refl; sender = refl; next = refl }
-call-keeps Hold s b i o x = record { n = refl; t = refl; k = refl; own = refl; sender = refl; next = refl }
-call-keeps Settle s b i o x = record { n = refl; t = refl; k = refl; own = refl; sender = refl; next = refl }
-call-keeps Core s b i o x = record { n = refl; t = refl; k = refl; own = refl; sender = refl; next = refl }
-call-keeps Choose s b i o x = record { n = refl; t = refl; k = refl; own = refl; sender = refl; next = refl }
-call-keeps Finish s b i o x = record { n = refl; t = refl; k = refl; own = refl; sender = refl; next = refl }
+call-keeps Send s b i o x = record { settings = refl; own = refl; next = refl }
+call-keeps Receive s b i o x = record { settings = refl; own = refl; next = refl }
+call-keeps Compare s b i o x = record { settings = refl; own = refl; next = refl }
+call-keeps Collect s b i o x = record { settings = refl; own = refl; next = refl }
+call-keeps Tally s b i o x = record { settings = refl; own = refl; next = refl }
+call-keeps Hold s b i o x = record { settings = refl; own = refl; next = refl }
+call-keeps Settle s b i o x = record { settings = refl; own = refl; next = refl }
+call-keeps Core s b i o x = record { settings = refl; own = refl; next = refl }
+call-keeps Choose s b i o x = record { settings = refl; own = refl; next = refl }
+call-keeps Finish s b i o x = record { settings = refl; own = refl; next = refl }
 call-keeps Outside s b i o x = absurd (x refl)
 
 -- a step that is carried out is a call of the run
@@ -221,62 +219,59 @@ block-call t c h l =
     )
 
 -- ---- the numbers, as the code finds them
-pub start-found : (n t k own sender b r : ℕ) → r ≡ startRefusal n t k own sender b → r ≡ 0
-    → startOf n t k own sender b ≡ record { number = 0; state = freshState n t k own sender }
-unfolding startOf
-start-found n t k own sender b r e z =
-    cond-yes (eqb (startRefusal n t k own sender b) 0) _ _ (eq-eqb (startRefusal n t k own sender b) 0 (sym e ∙ z))
+module _ (s : Settings) (own b : ℕ) where
+  pub start-found : (r : ℕ) → r ≡ startRefusal s own b → r ≡ 0 → startOf s own b ≡ record { number = 0; state = freshState s own }
+  unfolding startOf
+  start-found r e z = cond-yes (eqb (startRefusal s own b) 0) _ _ (eq-eqb (startRefusal s own b) 0 (sym e ∙ z))
 
-pub start-refused : (n t k own sender b r : ℕ) → r ≡ startRefusal n t k own sender b → (r ≡ 0 → ⊥)
-    → startOf n t k own sender b ≡ record { number = r; state = zeroState }
-unfolding startOf
-start-refused n t k own sender b r e z =
-    cond-no (eqb (startRefusal n t k own sender b) 0) _ _ (ne-eqb (startRefusal n t k own sender b) 0 (λ q. z (e ∙ q)))
-    ∙ ap (λ (x : ℕ). record { number = x; state = zeroState }) (sym e)
+  pub start-refused : (r : ℕ) → r ≡ startRefusal s own b → (r ≡ 0 → ⊥) → startOf s own b ≡ record { number = r; state = zeroState }
+  unfolding startOf
+  start-refused r e z =
+      cond-no (eqb (startRefusal s own b) 0) _ _ (ne-eqb (startRefusal s own b) 0 (λ q. z (e ∙ q)))
+      ∙ ap (λ (x : ℕ). record { number = x; state = zeroState }) (sym e)
 
--- the lent length against the length that the table gives
-pub start-length : (n t k own sender b : ℕ)
-    → refusalOf Start (record { n = n; t = t; k = k; number = own; sender = sender }) (eqb b (blockSize n t k)) ≡ startRefusal n t k own sender b
-unfolding startRefusal
-start-length n t k own sender b =
-    start-fits (record { n = n; t = t; k = k; number = own; sender = sender }) (eqb b (blockSize n t k)) (eqb b (blockLength k t)) (λ v. ap (eqb b) (block-size v))
+  -- the lent length against the length that the table gives
+  pub start-length : refusalOf Start s own (eqb b (blockSize (s .n) (s .t) (s .k))) ≡ startRefusal s own b
+  unfolding startRefusal
+  start-length =
+      start-fits s own (eqb b (blockSize (s .n) (s .t) (s .k))) (eqb b (blockLength (s .k) (s .t))) (λ v. ap (eqb b) (block-size v))
 
 module _ (s : State) (b i o : ℕ) where
-  pub seven-settings : not (eqb (refusalOf OfState (settingsOf s) true) 0) ≡ true → stepRefusal s b i o ≡ 7
+  pub seven-settings : not (eqb (stateRefusal (s .settings) (s .own)) 0) ≡ true → stepRefusal s b i o ≡ 7
   unfolding stepRefusal
-  seven-settings y = cond-yes (not (eqb (refusalOf OfState (settingsOf s) true) 0) || outside 1 (3 * s .t + 10) (s .next)) 7 _ (or-left _ _ y)
+  seven-settings y = cond-yes (not (eqb (stateRefusal (s .settings) (s .own)) 0) || outside 1 (3 * s .settings .t + 10) (s .next)) 7 _ (or-left _ _ y)
 
-  pub seven-next : (s .next < 1) ⊎ (3 * s .t + 10 < s .next) → stepRefusal s b i o ≡ 7
+  pub seven-next : (s .next < 1) ⊎ (3 * s .settings .t + 10 < s .next) → stepRefusal s b i o ≡ 7
   unfolding stepRefusal
   seven-next h =
-      cond-yes (not (eqb (refusalOf OfState (settingsOf s) true) 0) || outside 1 (3 * s .t + 10) (s .next)) 7 _
-      (or-right (not (eqb (refusalOf OfState (settingsOf s) true) 0)) (outside 1 (3 * s .t + 10) (s .next)) (outside-yes 1 (3 * s .t + 10) (s .next) h))
+      cond-yes (not (eqb (stateRefusal (s .settings) (s .own)) 0) || outside 1 (3 * s .settings .t + 10) (s .next)) 7 _
+      (or-right (not (eqb (stateRefusal (s .settings) (s .own)) 0)) (outside 1 (3 * s .settings .t + 10) (s .next)) (outside-yes 1 (3 * s .settings .t + 10) (s .next) h))
 
-  pub settings-valid : not (eqb (refusalOf OfState (settingsOf s) true) 0) ≡ false → Valid (settingsOf s)
-  settings-valid y = state-0 (settingsOf s) true (eqb-true (refusalOf OfState (settingsOf s) true) 0 (not-false (eqb (refusalOf OfState (settingsOf s) true) 0) y))
+  pub settings-valid : not (eqb (stateRefusal (s .settings) (s .own)) 0) ≡ false → Valid (s .settings) (s .own)
+  settings-valid y = state-0 (s .settings) (s .own) (eqb-true (stateRefusal (s .settings) (s .own)) 0 (not-false (eqb (stateRefusal (s .settings) (s .own)) 0) y))
 
   -- where neither 7 nor 8 is met, the lengths decide
-  pub lengths-decide : Valid (settingsOf s) → 1 ≤ s .next → s .next ≤ 3 * s .t + 10 → (s .next ≡ 3 * s .t + 10 → ⊥)
+  pub lengths-decide : Valid (s .settings) (s .own) → 1 ≤ s .next → s .next ≤ 3 * s .settings .t + 10 → (s .next ≡ 3 * s .settings .t + 10 → ⊥)
       → stepRefusal s b i o ≡ cond (not (lengthsFit s b i o)) 6 0
   unfolding stepRefusal bad
   lengths-decide v l m n =
       cond-no (bad s b i o) 7 _ (fine s b i o v l m)
-      ∙ cond-no (eqb (s .next) (3 * s .t + 10)) 8 _ (ne-eqb (s .next) (3 * s .t + 10) n)
+      ∙ cond-no (eqb (s .next) (3 * s .settings .t + 10)) 8 _ (ne-eqb (s .next) (3 * s .settings .t + 10) n)
 
   -- the lengths that a step must be lent
-  pub fits-not-block : Valid (settingsOf s) → (b ≡ blockSize (s .n) (s .t) (s .k) → ⊥) → lengthsFit s b i o ≡ false
+  pub fits-not-block : Valid (s .settings) (s .own) → (b ≡ blockSize (s .settings .n) (s .settings .t) (s .settings .k) → ⊥) → lengthsFit s b i o ≡ false
   unfolding lengthsFit
-  fits-not-block v n = and-no-left (eqb b (blockLength (s .k) (s .t))) _ (ne-eqb b (blockLength (s .k) (s .t)) (λ e. n (e ∙ sym (block-size (v .coded)))))
+  fits-not-block v n = and-no-left (eqb b (blockLength (s .settings .k) (s .settings .t))) _ (ne-eqb b (blockLength (s .settings .k) (s .settings .t)) (λ e. n (e ∙ sym (block-size (v .coded)))))
 
-  pub fits-not-inbox : (i ≡ inboxLength (s .n) (s .t) (s .k) (s .next) → ⊥) → lengthsFit s b i o ≡ false
+  pub fits-not-inbox : (i ≡ inboxLength (s .settings .n) (s .settings .t) (s .settings .k) (s .next) → ⊥) → lengthsFit s b i o ≡ false
   unfolding lengthsFit
   fits-not-inbox n =
-      and-no-right (eqb b (blockLength (s .k) (s .t))) _
-      (and-no-left (eqb i (inboxLength (s .n) (s .t) (s .k) (s .next))) _ (ne-eqb i (inboxLength (s .n) (s .t) (s .k) (s .next)) n))
+      and-no-right (eqb b (blockLength (s .settings .k) (s .settings .t))) _
+      (and-no-left (eqb i (inboxLength (s .settings .n) (s .settings .t) (s .settings .k) (s .next))) _ (ne-eqb i (inboxLength (s .settings .n) (s .settings .t) (s .settings .k) (s .next)) n))
 
-  pub fits-outbox : Valid (settingsOf s) → b ≡ blockSize (s .n) (s .t) (s .k) → i ≡ inboxLength (s .n) (s .t) (s .k) (s .next)
-      → lengthsFit s b i o ≡ eqb o (outboxLength (s .n) (s .t) (s .k) (s .next))
+  pub fits-outbox : Valid (s .settings) (s .own) → b ≡ blockSize (s .settings .n) (s .settings .t) (s .settings .k) → i ≡ inboxLength (s .settings .n) (s .settings .t) (s .settings .k) (s .next)
+      → lengthsFit s b i o ≡ eqb o (outboxLength (s .settings .n) (s .settings .t) (s .settings .k) (s .next))
   unfolding lengthsFit
   fits-outbox v e f =
-      and-tail (eqb b (blockLength (s .k) (s .t))) _ (eq-eqb b (blockLength (s .k) (s .t)) (e ∙ block-size (v .coded)))
-      ∙ and-tail (eqb i (inboxLength (s .n) (s .t) (s .k) (s .next))) _ (eq-eqb i (inboxLength (s .n) (s .t) (s .k) (s .next)) f)
+      and-tail (eqb b (blockLength (s .settings .k) (s .settings .t))) _ (eq-eqb b (blockLength (s .settings .k) (s .settings .t)) (e ∙ block-size (v .coded)))
+      ∙ and-tail (eqb i (inboxLength (s .settings .n) (s .settings .t) (s .settings .k) (s .next))) _ (eq-eqb i (inboxLength (s .settings .n) (s .settings .t) (s .settings .k) (s .next)) f)

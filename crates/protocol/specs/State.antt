@@ -1,9 +1,11 @@
--- The state of a controller (document 01, 'The house'), built in three places only: zero, fresh, advanced; and changed by one setter for each
--- group of fields.
---   settingsOf s              the settings and own number of a state
+-- The state of a controller (document 01, 'The house'). It is written out in two places: `initial`, from which the zero and the fresh state are
+-- made, and `changed`, by which each group of fields is changed.
+--   initial s own next        the outcome open, and no matrix, weak bits or core
 --   zeroState                 all zero, and the outcome open
---   freshState n t k own sender   what start returns when carried out
---   advanced s w              the state at the next call, with the outcome w
+--   freshState s own          what start returns when carried out
+--   changed s ..              the state s with the next call, the outcome, the matrix, the weak bits and the core given
+--   withCall s next w         with another next call, and the outcome w
+--   advanced s w              the state at the call after its next one, with the outcome w
 --   withMatrix s m            with another matrix
 --   withVotes s m w           with another matrix, and the bits of it whose count was low
 --   withCore s m e            with another matrix, and a core
@@ -15,89 +17,45 @@ use Rattle.reconstruction.specs.declared.Outcome.{Outcome}
 use Rattle.reconstruction.specs.declared.Outcome.the-variants.{Open}
 use Rattle.protocol.specs.declared.State.{State}
 
-abbrev pub settingsOf : State → Settings
-settingsOf s = record { n = s .n; t = s .t; k = s .k; number = s .own; sender = s .sender }
+abbrev pub initial : Settings → (own next : ℕ) → State
+initial s own next = record {
+  settings = s;
+  own = own;
+  next = next;
+  outcome = Open;
+  matrix = replicate 16 0;
+  weak = replicate 16 0;
+  core = 0;
+}
 
 abbrev pub zeroState : State
-zeroState = record {
-  n = 0;
-  t = 0;
-  k = 0;
-  own = 0;
-  sender = 0;
-  next = 0;
-  outcome = Open;
-  matrix = replicate 16 0;
-  weak = replicate 16 0;
-  core = 0;
+zeroState = initial (record { n = 0; t = 0; k = 0; sender = 0 }) 0 0
+
+abbrev pub freshState : Settings → (own : ℕ) → State
+freshState s own = initial s own 1
+
+abbrev pub changed : State → (next : ℕ) → Outcome → (matrix weak : List ℕ) → (core : ℕ) → State
+changed s next outcome matrix weak core = record {
+  settings = s .settings;
+  own = s .own;
+  next = next;
+  outcome = outcome;
+  matrix = matrix;
+  weak = weak;
+  core = core;
 }
 
-abbrev pub freshState : (n t k own sender : ℕ) → State
-freshState n t k own sender = record {
-  n = n;
-  t = t;
-  k = k;
-  own = own;
-  sender = sender;
-  next = 1;
-  outcome = Open;
-  matrix = replicate 16 0;
-  weak = replicate 16 0;
-  core = 0;
-}
+abbrev pub withCall : State → (next : ℕ) → Outcome → State
+withCall s next w = changed s next w (s .matrix) (s .weak) (s .core)
 
 abbrev pub advanced : State → Outcome → State
-advanced s w = record {
-  n = s .n;
-  t = s .t;
-  k = s .k;
-  own = s .own;
-  sender = s .sender;
-  next = s .next + 1;
-  outcome = w;
-  matrix = s .matrix;
-  weak = s .weak;
-  core = s .core;
-}
+advanced s w = withCall s (s .next + 1) w
 
 abbrev pub withMatrix : State → List ℕ → State
-withMatrix s m = record {
-  n = s .n;
-  t = s .t;
-  k = s .k;
-  own = s .own;
-  sender = s .sender;
-  next = s .next;
-  outcome = s .outcome;
-  matrix = m;
-  weak = s .weak;
-  core = s .core;
-}
+withMatrix s m = changed s (s .next) (s .outcome) m (s .weak) (s .core)
 
 abbrev pub withVotes : State → List ℕ → List ℕ → State
-withVotes s m w = record {
-  n = s .n;
-  t = s .t;
-  k = s .k;
-  own = s .own;
-  sender = s .sender;
-  next = s .next;
-  outcome = s .outcome;
-  matrix = m;
-  weak = w;
-  core = s .core;
-}
+withVotes s m w = changed s (s .next) (s .outcome) m w (s .core)
 
 abbrev pub withCore : State → List ℕ → ℕ → State
-withCore s m e = record {
-  n = s .n;
-  t = s .t;
-  k = s .k;
-  own = s .own;
-  sender = s .sender;
-  next = s .next;
-  outcome = s .outcome;
-  matrix = m;
-  weak = s .weak;
-  core = e;
-}
+withCore s m e = changed s (s .next) (s .outcome) m (s .weak) e

@@ -1,6 +1,6 @@
 -- Start and step: the number, the state and every lent byte, for all inputs (document 01, 'The house', 'Turned down').
---   startRefusal n t k own sender b     start tries rows 1 to 6, in order; b is the length of the lent block
---   startOf n t k own sender b          the answer; refused, the zero state. Start neither reads nor changes the block
+--   startRefusal s own b                start tries rows 1 to 6, in order; b is the length of the lent block
+--   startOf s own b                     the answer; refused, the zero state. Start neither reads nor changes the block
 --   lengthsFit s b i o                  the lent block, inbox and outbox are as long as the next call states
 --   stepRefusal s b i o                 a step tries 7, 8, 6
 --   After, after a b o                  the answer of a step with the block and the outbox as it leaves them
@@ -8,41 +8,41 @@
 --   stepOf s b i o                      a step; refused, it hands the state back as given and changes no lent byte
 --   Ready s b i o                       what no row of the table names: the state and the lent lengths of a step that is carried out
 use mathlib.Core.Path.{_≡_}
-use mathlib.Core.Bool.{Bool, true, cond, not, _&&_, _||_}
+use mathlib.Core.Bool.{Bool, cond, not, _&&_, _||_}
 use mathlib.Core.List.{List}
 use Prim.Native.Nat.{ℕ, _+_, _*_, _≤_}
 use lib.Dec.{eqb}
 use lib.ListN.{length}
-use Rattle.settings.specs.declared.Entry.the-variants.{Start, State as OfState}
-use Rattle.settings.specs.Refusal.{outside, refusalOf}
+use Rattle.settings.specs.declared.Settings.{Settings}
+use Rattle.settings.specs.declared.Entry.the-variants.{Start}
+use Rattle.settings.specs.Refusal.{outside, refusalOf, stateRefusal}
 use Rattle.settings.specs.Valid.{Valid}
 use Rattle.wire.specs.Round.{callKind}
 use Rattle.wire.specs.Length.{blockLength, inboxLength, outboxLength}
 use Rattle.protocol.specs.declared.State.{State}
 use Rattle.protocol.specs.declared.Started.{Started}
 use Rattle.protocol.specs.declared.Stepped.{Stepped}
-use Rattle.protocol.specs.State.{settingsOf, zeroState, freshState}
+use Rattle.protocol.specs.State.{zeroState, freshState}
 use Rattle.protocol.specs.Calls.{Carried, callOf}
 
-unfoldable pub startRefusal : (n t k own sender b : ℕ) → ℕ
-startRefusal n t k own sender b =
-    refusalOf Start (record { n = n; t = t; k = k; number = own; sender = sender }) (eqb b (blockLength k t))
+unfoldable pub startRefusal : Settings → (own b : ℕ) → ℕ
+startRefusal s own b = refusalOf Start s own (eqb b (blockLength (s .k) (s .t)))
 
-unfoldable pub startOf : (n t k own sender b : ℕ) → Started
-startOf n t k own sender b =
-    cond (eqb (startRefusal n t k own sender b) 0)
-    (record { number = 0; state = freshState n t k own sender })
-    (record { number = startRefusal n t k own sender b; state = zeroState })
+unfoldable pub startOf : Settings → (own b : ℕ) → Started
+startOf s own b =
+    cond (eqb (startRefusal s own b) 0)
+    (record { number = 0; state = freshState s own })
+    (record { number = startRefusal s own b; state = zeroState })
 
 unfoldable pub lengthsFit : State → (b i o : ℕ) → Bool
 lengthsFit s b i o =
-    eqb b (blockLength (s .k) (s .t))
-    && (eqb i (inboxLength (s .n) (s .t) (s .k) (s .next)) && eqb o (outboxLength (s .n) (s .t) (s .k) (s .next)))
+    eqb b (blockLength (s .settings .k) (s .settings .t))
+    && (eqb i (inboxLength (s .settings .n) (s .settings .t) (s .settings .k) (s .next)) && eqb o (outboxLength (s .settings .n) (s .settings .t) (s .settings .k) (s .next)))
 
 unfoldable pub stepRefusal : State → (b i o : ℕ) → ℕ
 stepRefusal s b i o =
-    cond (not (eqb (refusalOf OfState (settingsOf s) true) 0) || outside 1 (3 * s .t + 10) (s .next)) 7
-    (cond (eqb (s .next) (3 * s .t + 10)) 8
+    cond (not (eqb (stateRefusal (s .settings) (s .own)) 0) || outside 1 (3 * s .settings .t + 10) (s .next)) 7
+    (cond (eqb (s .next) (3 * s .settings .t + 10)) 8
     (cond (not (lengthsFit s b i o)) 6
     0))
 
@@ -60,13 +60,13 @@ done c = after (record { number = 0; state = c .state }) (c .block) (c .outbox)
 unfoldable pub stepOf : State → List ℕ → List ℕ → List ℕ → After
 stepOf s b i o =
     cond (eqb (stepRefusal s (length b) (length i) (length o)) 0)
-    (done (callOf (callKind (s .t) (s .next)) s b i o))
+    (done (callOf (callKind (s .settings .t) (s .next)) s b i o))
     (after (record { number = stepRefusal s (length b) (length i) (length o); state = s }) b o)
 
 pub record Ready (s : State) (b i o : ℕ) : Type 0 where
-  pub valid : Valid (settingsOf s)
+  pub valid : Valid (s .settings) (s .own)
   pub next-least : 1 ≤ s .next
-  pub next-most : s .next ≤ 3 * s .t + 9
-  pub block-length : b ≡ blockLength (s .k) (s .t)
-  pub inbox-length : i ≡ inboxLength (s .n) (s .t) (s .k) (s .next)
-  pub outbox-length : o ≡ outboxLength (s .n) (s .t) (s .k) (s .next)
+  pub next-most : s .next ≤ 3 * s .settings .t + 9
+  pub block-length : b ≡ blockLength (s .settings .k) (s .settings .t)
+  pub inbox-length : i ≡ inboxLength (s .settings .n) (s .settings .t) (s .settings .k) (s .next)
+  pub outbox-length : o ≡ outboxLength (s .settings .n) (s .settings .t) (s .settings .k) (s .next)

@@ -1,15 +1,15 @@
-// The state of a controller, and what start and step answer (document 01, 'The house'). The definitions of every call, of start and of step
-// are in specs/; there is no code here.
+// The state of a controller, written out and changed here alone, and what start and step answer (document 01, 'The house'). The definitions of
+// every call, of start and of step are in specs/.
+ghost use mathlib.Core.Path.{_≡_};
+ghost use Rattle.protocol.specs.State.{initial, zeroState, withCall, withMatrix, withVotes, withCore};
 use reconstruction::Outcome;
+use settings::Settings;
 
 // The settings, the own number, the number of the next call, the outcome, the matrix of the vote with the bits whose count was low, and the
 // core. The block is lent beside it.
 pub struct State {
-    pub n: usize,
-    pub t: usize,
-    pub k: usize,
+    pub settings: Settings,
     pub own: usize,
-    pub sender: usize,
     pub next: usize,
     pub outcome: Outcome,
     pub matrix: [u16; 16],
@@ -27,4 +27,85 @@ pub struct Started {
 pub struct Stepped {
     pub number: u8,
     pub state: State,
+}
+
+// A state with the outcome open, and no matrix or core.
+// Shut out: the own number for the next call; a core of controller 1.
+pub fn initial(settings: Settings, own: usize, next: usize) -> State
+    ensures { λ r. ⌜ r ≡ initial settings own next ⌝ }
+{
+    State {
+        settings,
+        own,
+        next,
+        outcome: Outcome::Open,
+        matrix: [0u16; 16],
+        weak: [0u16; 16],
+        core: 0,
+    }
+}
+
+// The zero state.
+// Shut out: next call 1; sender 1.
+pub fn zero_state() -> State
+    ensures { λ r. ⌜ r ≡ zeroState ⌝ }
+{
+    let none = Settings {
+        n: 0,
+        t: 0,
+        k: 0,
+        sender: 0,
+    };
+    initial(none, 0, 0)
+}
+
+// The state with another next call and outcome.
+// Shut out: the next call as it was; the weak bits for the matrix.
+pub fn with_call(s: State, next: usize, outcome: Outcome) -> State
+    ensures { λ r. ⌜ r ≡ withCall s next outcome ⌝ }
+{
+    let settings = s.settings;
+    let matrix = s.matrix;
+    let weak = s.weak;
+    State {
+        settings,
+        own: s.own,
+        next,
+        outcome,
+        matrix,
+        weak,
+        core: s.core,
+    }
+}
+
+// With another matrix.
+// Shut out: the matrix as it was; the weak bits changed.
+pub fn with_matrix(s: State, matrix: [u16; 16]) -> State
+    ensures { λ r. ⌜ r ≡ withMatrix s matrix ⌝ }
+{
+    let mut r = s;
+    r.matrix = matrix;
+    r
+}
+
+// With another matrix, and the bits of it whose count was low.
+// Shut out: the weak bits as they were; the two the other way round.
+pub fn with_votes(s: State, matrix: [u16; 16], weak: [u16; 16]) -> State
+    ensures { λ r. ⌜ r ≡ withVotes s matrix weak ⌝ }
+{
+    let mut r = s;
+    r.matrix = matrix;
+    r.weak = weak;
+    r
+}
+
+// With another matrix and core.
+// Shut out: the core as it was; the weak bits changed.
+pub fn with_core(s: State, matrix: [u16; 16], core: u16) -> State
+    ensures { λ r. ⌜ r ≡ withCore s matrix core ⌝ }
+{
+    let mut r = s;
+    r.matrix = matrix;
+    r.core = core;
+    r
 }

@@ -12,6 +12,7 @@ use Rattle.lists.specs.Same.{same}
 use Rattle.lists.proofs.Tests.{true≢false, and-left, and-right, and-tail, and-no-left, cond-yes, cond-no, lt-or-le}
 use Rattle.bitset.specs.Set.{member, first}
 use Rattle.bitset.proofs.Laws.{first-le, first-passes, first-some}
+use Rattle.wire.specs.declared.slot.Layout.{Layout}
 use Rattle.wire.specs.Slot.{messageOf, toAll}
 use Rattle.reconstruction.specs.Reconstruction.{votes, isChosen, chosenPiece, sentPiece}
 
@@ -36,55 +37,55 @@ first-none n p none =
 
 -- ---- votes
 -- the controller of index i is a member that sent m
-abbrev pub vote : ℕ → List ℕ → ℕ → List ℕ → ℕ → Bool
-vote core inbox len m i = member core i && same (messageOf inbox len (i + 1)) m
+abbrev pub vote : ℕ → List ℕ → Layout → List ℕ → ℕ → Bool
+vote core inbox layout m i = member core i && same (messageOf inbox layout (i + 1)) m
 
 -- ---- what is sent
 -- a piece that is there goes to all
-pub sent-some : (n : ℕ) (m o : List ℕ) → (length m ≡ 0 → ⊥) → toAll n m o ≡ sentPiece n m o
+pub sent-some : (out : Layout) (n : ℕ) (m o : List ℕ) → (length m ≡ 0 → ⊥) → toAll out n m o ≡ sentPiece out n m o
 unfolding sentPiece
-sent-some n m o h = sym (cond-no (eqb (length m) 0) (replicate (length o) 0) (toAll n m o) (ne-eqb (length m) 0 h))
+sent-some out n m o h = sym (cond-no (eqb (length m) 0) (replicate (length o) 0) (toAll out n m o) (ne-eqb (length m) 0 h))
 
-module _ (n t core : ℕ) (inbox : List ℕ) (len : ℕ) where
+module _ (n t core : ℕ) (inbox : List ℕ) (layout : Layout) where
   -- the three tests of a choice
   module _ (i : ℕ) where
-    pub chosen-other : member core i ≡ false → isChosen n t core inbox len i ≡ false
+    pub chosen-other : member core i ≡ false → isChosen n t core inbox layout i ≡ false
     unfolding isChosen
     chosen-other e = and-no-left (member core i) _ e
 
-    pub chosen-absent : length (messageOf inbox len (i + 1)) ≡ 0 → member core i ≡ true → isChosen n t core inbox len i ≡ false
+    pub chosen-absent : length (messageOf inbox layout (i + 1)) ≡ 0 → member core i ≡ true → isChosen n t core inbox layout i ≡ false
     unfolding isChosen
     chosen-absent z e =
-        and-tail (member core i) _ e ∙ and-no-left (not (eqb (length (messageOf inbox len (i + 1))) 0)) _ (ap not (eq-eqb (length (messageOf inbox len (i + 1))) 0 z))
+        and-tail (member core i) _ e ∙ and-no-left (not (eqb (length (messageOf inbox layout (i + 1))) 0)) _ (ap not (eq-eqb (length (messageOf inbox layout (i + 1))) 0 z))
 
-    pub chosen-votes : (length (messageOf inbox len (i + 1)) ≡ 0 → ⊥) → member core i ≡ true
-        → isChosen n t core inbox len i ≡ leb (t + 1) (votes n core inbox len (messageOf inbox len (i + 1)))
+    pub chosen-votes : (length (messageOf inbox layout (i + 1)) ≡ 0 → ⊥) → member core i ≡ true
+        → isChosen n t core inbox layout i ≡ leb (t + 1) (votes n core inbox layout (messageOf inbox layout (i + 1)))
     unfolding isChosen
     chosen-votes z e =
-        and-tail (member core i) _ e ∙ and-tail (not (eqb (length (messageOf inbox len (i + 1))) 0)) _ (ap not (ne-eqb (length (messageOf inbox len (i + 1))) 0 z))
+        and-tail (member core i) _ e ∙ and-tail (not (eqb (length (messageOf inbox layout (i + 1))) 0)) _ (ap not (ne-eqb (length (messageOf inbox layout (i + 1))) 0 z))
 
     -- a piece that is chosen is there
-    pub chosen-there : isChosen n t core inbox len i ≡ true → length (messageOf inbox len (i + 1)) ≡ 0 → ⊥
+    pub chosen-there : isChosen n t core inbox layout i ≡ true → length (messageOf inbox layout (i + 1)) ≡ 0 → ⊥
     unfolding isChosen
     chosen-there e =
-        eqb-false (length (messageOf inbox len (i + 1))) 0 (not-true (eqb (length (messageOf inbox len (i + 1))) 0) (and-left (not (eqb (length (messageOf inbox len (i + 1))) 0)) _ (and-right (member core i) _ e)))
+        eqb-false (length (messageOf inbox layout (i + 1))) 0 (not-true (eqb (length (messageOf inbox layout (i + 1))) 0) (and-left (not (eqb (length (messageOf inbox layout (i + 1))) 0)) _ (and-right (member core i) _ e)))
 
   -- the search's answer: the piece to all, or silence
-  module _ (i : ℕ) (is-first : i ≡ first n (isChosen n t core inbox len)) (o : List ℕ) where
-    pub sent-chosen : i < n → toAll n (messageOf inbox len (i + 1)) o ≡ sentPiece n (chosenPiece n t core inbox len) o
+  module _ (out : Layout) (i : ℕ) (is-first : i ≡ first n (isChosen n t core inbox layout)) (o : List ℕ) where
+    pub sent-chosen : i < n → toAll out n (messageOf inbox layout (i + 1)) o ≡ sentPiece out n (chosenPiece n t core inbox layout) o
     unfolding chosenPiece
     sent-chosen l =
-        let q : ℕ → Bool = isChosen n t core inbox len in
-        let M : ℕ → List ℕ = λ x. messageOf inbox len (x + 1) in
+        let q : ℕ → Bool = isChosen n t core inbox layout in
+        let M : ℕ → List ℕ = λ x. messageOf inbox layout (x + 1) in
         let below : first n q < n = omega arith in
-        ap (λ (x : ℕ). toAll n (M x) o) is-first
-        ∙ sent-some n (M (first n q)) o (chosen-there (first n q) (first-passes n q below))
-        ∙ sym (ap (λ (m : List ℕ). sentPiece n m o) (cond-yes (ltb (first n q) n) (M (first n q)) [] (lt-ltb (first n q) n below)))
+        ap (λ (x : ℕ). toAll out n (M x) o) is-first
+        ∙ sent-some out n (M (first n q)) o (chosen-there (first n q) (first-passes n q below))
+        ∙ sym (ap (λ (m : List ℕ). sentPiece out n m o) (cond-yes (ltb (first n q) n) (M (first n q)) [] (lt-ltb (first n q) n below)))
 
-    pub sent-none : n ≤ i → replicate (length o) 0 ≡ sentPiece n (chosenPiece n t core inbox len) o
+    pub sent-none : n ≤ i → replicate (length o) 0 ≡ sentPiece out n (chosenPiece n t core inbox layout) o
     unfolding chosenPiece sentPiece
     sent-none l =
-        let q : ℕ → Bool = isChosen n t core inbox len in
-        let M : ℕ → List ℕ = λ x. messageOf inbox len (x + 1) in
+        let q : ℕ → Bool = isChosen n t core inbox layout in
+        let M : ℕ → List ℕ = λ x. messageOf inbox layout (x + 1) in
         let past : n ≤ first n q = omega arith in
-        sym (ap (λ (m : List ℕ). sentPiece n m o) (cond-no (ltb (first n q) n) (M (first n q)) [] (le-ltb (first n q) n past)))
+        sym (ap (λ (m : List ℕ). sentPiece out n m o) (cond-no (ltb (first n q) n) (M (first n q)) [] (le-ltb (first n q) n past)))

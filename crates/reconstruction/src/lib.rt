@@ -10,9 +10,11 @@ ghost use Rattle.settings.specs.Valid.{Quorum, Coded, Numbered};
 ghost use Rattle.wire.specs.Length.{blockLength};
 ghost use Rattle.wire.specs.Slot.{width, messageOf, bytes, slots, putSlot};
 ghost use Rattle.reed_solomon.specs.Encode.{pieceOf};
-ghost use Rattle.reed_solomon.specs.Decode.{answerOf};
-ghost use Rattle.reconstruction.specs.Reconstruction.{inCore, forwarded, votes, isChosen, chosenPiece, sentPiece, shared, finish, decodedOutcome, finished};
+ghost use Rattle.reconstruction.specs.Reconstruction.{inCore, forwarded, votes, isChosen, chosenPiece, sentPiece, shared, finish, finished};
+ghost use Rattle.reconstruction.specs.Steps.{decodedOutcome};
 use reed_solomon::Decoded;
+use wire::Layout;
+use wire::Round;
 
 // How a run stands or ended (document 01, 'The house').
 pub enum Outcome {
@@ -34,6 +36,7 @@ fn in_core(core: u16, j: usize) -> bool
 
 // Piece j of the block's coding, to j, by way of `piece`.
 fn send_piece(
+    layout: Layout,
     n: usize,
     t: usize,
     k: usize,
@@ -43,31 +46,40 @@ fn send_piece(
     outbox: &mut [u8],
 )
     requires { ⌜ Coded n t k × Numbered n j × (length (now block) ≡ blockLength k t) × (length (now piece) ≡ k) ⌝ }
-    ensures { λ _. ⌜ now (outbox .exit) ≡ putSlot (now (outbox .entry)) k j (pieceOf k t (now (block .entry)) j) ⌝ }
+    ensures { λ _. ⌜ now (outbox .exit) ≡ putSlot (now (outbox .entry)) layout j (pieceOf k t (now (block .entry)) j) ⌝ }
 {
     reed_solomon::encode(n, t, k, j, block, piece);
-    wire::send_one(outbox, k, j, piece);
+    wire::send_one(outbox, layout, j, piece);
 }
 
 // To each j piece j, by way of `piece`.
-fn send_pieces(n: usize, t: usize, k: usize, block: &[u8], piece: &mut [u8], outbox: &mut [u8])
-    requires { ⌜ Coded n t k × (length (now block) ≡ blockLength k t) × (length (now piece) ≡ k) × (length (now outbox) ≡ n * width k) ⌝ }
-    ensures { λ _. ⌜ now (outbox .exit) ≡ slots k (λ j. bytes (pieceOf k t (now (block .entry)) j)) n ⌝ }
+fn send_pieces(
+    layout: Layout,
+    n: usize,
+    t: usize,
+    k: usize,
+    block: &[u8],
+    piece: &mut [u8],
+    outbox: &mut [u8],
+)
+    requires { ⌜ Coded n t k × (length (now block) ≡ blockLength k t) × (layout .length ≡ k) × (length (now piece) ≡ k) × (length (now outbox) ≡ n * width layout) ⌝ }
+    ensures { λ _. ⌜ now (outbox .exit) ≡ slots layout (λ j. bytes (pieceOf k t (now (block .entry)) j)) n ⌝ }
 {
     let mut j: usize = 0;
     while j < n {
-        send_piece(n, t, k, j + 1, block, piece, outbox);
+        send_piece(layout, n, t, k, j + 1, block, piece, outbox);
         j += 1;
     }
 }
 
 // The same, with bytes of its own for the pieces.
-fn send_coding(n: usize, t: usize, k: usize, block: &[u8], outbox: &mut [u8])
-    requires { ⌜ Coded n t k × (length (now block) ≡ blockLength k t) × (length (now outbox) ≡ n * width k) ⌝ }
-    ensures { λ _. ⌜ now (outbox .exit) ≡ slots k (λ j. bytes (pieceOf k t (now (block .entry)) j)) n ⌝ }
+fn send_coding(layout: Layout, n: usize, t: usize, k: usize, block: &[u8], outbox: &mut [u8])
+    requires { ⌜ Coded n t k × (length (now block) ≡ blockLength k t) × (layout .length ≡ k) × (length (now outbox) ≡ n * width layout) ⌝ }
+    ensures { λ _. ⌜ now (outbox .exit) ≡ slots layout (λ j. bytes (pieceOf k t (now (block .entry)) j)) n ⌝ }
 {
     let mut piece = [0u8; 128];
-    send_pieces(n, t, k, block, &mut piece[..k], outbox);
+    let len = layout.length;
+    send_pieces(layout, n, t, k, block, &mut piece[..len], outbox);
 }
 
 // Call 3t + 7: a core member sends to each j piece j of its own coding; others are silent.
@@ -79,33 +91,35 @@ pub fn forward(n: usize, t: usize, k: usize, own: usize, core: u16, block: &[u8]
         wire::silence(outbox);
         return;
     }
-    if reed_solomon::is_ready(n, t, k, own, block, wire::holds_exactly(outbox, n, k)) {
-        send_coding(n, t, k, block, outbox);
+    let layout = wire::kind_layout(Round::Forward, n, t, k);
+    let fits = wire::holds_exactly(outbox, n, layout);
+    if reed_solomon::is_ready(n, t, k, own, block, fits) {
+        send_coding(layout, n, t, k, block, outbox);
     }
 }
 
 // Whether the controller of index i is a core member and sent m.
-fn is_vote(core: u16, inbox: &[u8], len: usize, i: usize, m: &[u8]) -> bool
+fn is_vote(core: u16, inbox: &[u8], layout: Layout, i: usize, m: &[u8]) -> bool
     requires { ⌜ i < 16 ⌝ }
-    ensures { λ r. ⌜ r ≡ (member core i && same (messageOf (now (inbox .entry)) len (i + 1)) (now (m .entry))) ⌝ }
+    ensures { λ r. ⌜ r ≡ (member core i && same (messageOf (now (inbox .entry)) layout (i + 1)) (now (m .entry))) ⌝ }
 {
     if !bitset::member(core, i) {
         return false;
     }
-    wire::is_equal(wire::message(inbox, len, i + 1), m)
+    lists::is_equal(wire::message(inbox, layout, i + 1), m)
 }
 
 // How many core members sent m.
-fn votes(n: usize, core: u16, inbox: &[u8], len: usize, m: &[u8]) -> usize
+fn votes(n: usize, core: u16, inbox: &[u8], layout: Layout, m: &[u8]) -> usize
     requires { ⌜ n ≤ 16 ⌝ }
-    ensures { λ r. ⌜ r ≡ votes n core (now (inbox .entry)) len (now (m .entry)) ⌝ }
+    ensures { λ r. ⌜ r ≡ votes n core (now (inbox .entry)) layout (now (m .entry)) ⌝ }
 {
     let mut count: usize = 0;
     let mut i: usize = 0;
     while i < n {
         let voter = i;
         i += 1;
-        if is_vote(core, inbox, len, voter, m) {
+        if is_vote(core, inbox, layout, voter, m) {
             count += 1;
         }
     }
@@ -113,28 +127,28 @@ fn votes(n: usize, core: u16, inbox: &[u8], len: usize, m: &[u8]) -> usize
 }
 
 // Whether the controller of index i is a core member that sent a piece which at least t + 1 members sent.
-fn is_chosen(n: usize, t: usize, core: u16, inbox: &[u8], len: usize, i: usize) -> bool
+fn is_chosen(n: usize, t: usize, core: u16, inbox: &[u8], layout: Layout, i: usize) -> bool
     requires { ⌜ Quorum n t × (i < n) ⌝ }
-    ensures { λ r. ⌜ r ≡ isChosen n t core (now (inbox .entry)) len i ⌝ }
+    ensures { λ r. ⌜ r ≡ isChosen n t core (now (inbox .entry)) layout i ⌝ }
 {
     if !bitset::member(core, i) {
         return false;
     }
-    let m = wire::message(inbox, len, i + 1);
+    let m = wire::message(inbox, layout, i + 1);
     if m.len() == 0 {
         return false;
     }
-    t + 1 <= votes(n, core, inbox, len, m)
+    t + 1 <= votes(n, core, inbox, layout, m)
 }
 
 // The first index whose piece is chosen; n where there is none.
-fn first_chosen(n: usize, t: usize, core: u16, inbox: &[u8], len: usize) -> usize
+fn first_chosen(n: usize, t: usize, core: u16, inbox: &[u8], layout: Layout) -> usize
     requires { ⌜ Quorum n t ⌝ }
-    ensures { λ r. ⌜ r ≡ first n (isChosen n t core (now (inbox .entry)) len) ⌝ }
+    ensures { λ r. ⌜ r ≡ first n (isChosen n t core (now (inbox .entry)) layout) ⌝ }
 {
     let mut i: usize = 0;
     while i < n {
-        if is_chosen(n, t, core, inbox, len, i) {
+        if is_chosen(n, t, core, inbox, layout, i) {
             return i;
         }
         i += 1;
@@ -143,20 +157,29 @@ fn first_chosen(n: usize, t: usize, core: u16, inbox: &[u8], len: usize) -> usiz
 }
 
 // The chosen piece to all; silence where none is chosen.
-fn share_chosen(n: usize, t: usize, core: u16, inbox: &[u8], len: usize, outbox: &mut [u8])
+fn share_chosen(
+    out: Layout,
+    n: usize,
+    t: usize,
+    core: u16,
+    inbox: &[u8],
+    layout: Layout,
+    outbox: &mut [u8],
+)
     requires { ⌜ Quorum n t ⌝ }
-    ensures { λ _. ⌜ now (outbox .exit) ≡ sentPiece n (chosenPiece n t core (now (inbox .entry)) len) (now (outbox .entry)) ⌝ }
+    ensures { λ _. ⌜ now (outbox .exit) ≡ sentPiece out n (chosenPiece n t core (now (inbox .entry)) layout) (now (outbox .entry)) ⌝ }
 {
-    let i = first_chosen(n, t, core, inbox, len);
+    let i = first_chosen(n, t, core, inbox, layout);
     if n <= i {
         wire::silence(outbox);
         return;
     }
-    wire::send_all(outbox, n, wire::message(inbox, len, i + 1));
+    wire::send_all(outbox, out, n, wire::message(inbox, layout, i + 1));
 }
 
 // The own piece to all, by way of `piece`.
 fn share_piece(
+    out: Layout,
     n: usize,
     t: usize,
     k: usize,
@@ -166,19 +189,20 @@ fn share_piece(
     outbox: &mut [u8],
 )
     requires { ⌜ Coded n t k × Numbered n own × (length (now block) ≡ blockLength k t) × (length (now piece) ≡ k) ⌝ }
-    ensures { λ _. ⌜ now (outbox .exit) ≡ sentPiece n (pieceOf k t (now (block .entry)) own) (now (outbox .entry)) ⌝ }
+    ensures { λ _. ⌜ now (outbox .exit) ≡ sentPiece out n (pieceOf k t (now (block .entry)) own) (now (outbox .entry)) ⌝ }
 {
     reed_solomon::encode(n, t, k, own, block, piece);
-    wire::send_all(outbox, n, piece);
+    wire::send_all(outbox, out, n, piece);
 }
 
 // The same, with bytes of its own for the piece.
-fn share_own(n: usize, t: usize, k: usize, own: usize, block: &[u8], outbox: &mut [u8])
-    requires { ⌜ Coded n t k × Numbered n own × (length (now block) ≡ blockLength k t) ⌝ }
-    ensures { λ _. ⌜ now (outbox .exit) ≡ sentPiece n (pieceOf k t (now (block .entry)) own) (now (outbox .entry)) ⌝ }
+fn share_own(out: Layout, n: usize, t: usize, k: usize, own: usize, block: &[u8], outbox: &mut [u8])
+    requires { ⌜ Coded n t k × Numbered n own × (length (now block) ≡ blockLength k t) × (out .length ≡ k) ⌝ }
+    ensures { λ _. ⌜ now (outbox .exit) ≡ sentPiece out n (pieceOf k t (now (block .entry)) own) (now (outbox .entry)) ⌝ }
 {
     let mut piece = [0u8; 128];
-    share_piece(n, t, k, own, block, &mut piece[..k], outbox);
+    let len = out.length;
+    share_piece(out, n, t, k, own, block, &mut piece[..len], outbox);
 }
 
 // Call 3t + 8: a member sends its own piece to all, another the piece that is chosen.
@@ -191,25 +215,27 @@ pub fn share(
     own: usize,
     core: u16,
     inbox: &[u8],
-    len: usize,
+    layout: Layout,
     block: &[u8],
     outbox: &mut [u8],
 )
-    ensures { λ _. ⌜ now (outbox .exit) ≡ shared n t k own core (now (inbox .entry)) len (now (block .entry)) (now (outbox .entry)) ⌝ }
+    ensures { λ _. ⌜ now (outbox .exit) ≡ shared n t k own core (now (inbox .entry)) layout (now (block .entry)) (now (outbox .entry)) ⌝ }
 {
-    if !reed_solomon::is_ready(n, t, k, own, block, wire::holds_exactly(outbox, n, k)) {
+    let out = wire::kind_layout(Round::Rebuild, n, t, k);
+    let fits = wire::holds_exactly(outbox, n, out);
+    if !reed_solomon::is_ready(n, t, k, own, block, fits) {
         return;
     }
     if in_core(core, own) {
-        share_own(n, t, k, own, block, outbox);
+        share_own(out, n, t, k, own, block, outbox);
         return;
     }
-    share_chosen(n, t, core, inbox, len, outbox);
+    share_chosen(out, n, t, core, inbox, layout, outbox);
 }
 
-// The outcome for what decoding says.
+// The outcome for an answer of decoding.
 fn outcome_of(d: Decoded) -> Outcome
-    ensures { λ r. ⌜ ((b : List ℕ) → r ≡ decodedOutcome (answerOf d b .word)) ⌝ }
+    ensures { λ r. ⌜ r ≡ decodedOutcome d ⌝ }
 {
     match d {
         Decoded::Block => Outcome::Agreed,
@@ -218,7 +244,8 @@ fn outcome_of(d: Decoded) -> Outcome
     }
 }
 
-// The last call: no core: none and a block of zeros; else what decoding says.
+// The last call: no core: none and a block of zeros; else agreed and the block that meets decoding's rule, or beyond and zeros where none does;
+// where decoding is refused, open and the block as it was.
 // Shut out: none and zeros always; none where decoding gives a block (must-fail edits).
 pub fn finish(n: usize, t: usize, k: usize, core: u16, inbox: &[u8], block: &mut [u8]) -> Outcome
     ensures { λ r. ⌜ finish r (now (block .exit)) ≡ finished n t k core (now (inbox .entry)) (now (block .entry)) ⌝ }

@@ -1,6 +1,7 @@
 -- `Laws` is for the crates above; the others are what it and the functions' proofs rest on.
 mod Sizes
 mod Stripes
+mod First
 mod Rule
 mod Ready
 pub mod Laws

@@ -7,8 +7,7 @@ use borrow.Author.Tests.{eq-eqb, eqb-true, eqb-false}
 use lib.Dec.{eqb}
 use lib.ListN.{length}
 use Rattle.lists.proofs.Tests.{fails, and-left, and-right, and-both}
-use Rattle.settings.specs.declared.Entry.the-variants.{Encode}
-use Rattle.settings.specs.Refusal.{refusalOf}
+use Rattle.settings.specs.Refusal.{encodingRefusal}
 use Rattle.settings.proofs.Laws.{encode-0, 0-encode}
 use Rattle.wire.specs.Length.{blockLength}
 use Rattle.reed_solomon.specs.Encode.{isReady, Coding}
@@ -18,14 +17,14 @@ module _ (n t k i : ℕ) (block : List ℕ) (fits : Bool) where
   unfolding isReady
   ready-says e =
       let l = eqb (length block) (blockLength k t) in
-      let r = encode-0 (record { n = n; t = t; k = k; number = i; sender = 0 }) (l && fits) (eqb-true _ 0 e) in
+      let r = encode-0 n t k i (l && fits) (eqb-true _ 0 e) in
       (record { coded = r .0; number = r .1; size = eqb-true (length block) (blockLength k t) (and-left l fits (r .2)) }, and-right l fits (r .2))
 
   pub ready-of : Coding n t k i block → fits ≡ true → isReady n t k i block fits ≡ true
   unfolding isReady
   ready-of c f =
       let l = eqb (length block) (blockLength k t) in
-      eq-eqb _ 0 (0-encode (record { n = n; t = t; k = k; number = i; sender = 0 }) (l && fits) (c .coded) (c .number)
+      eq-eqb _ 0 (0-encode n t k i (l && fits) (c .coded) (c .number)
       (and-both l fits (eq-eqb (length block) (blockLength k t) (c .size)) f))
 
   -- a block of another length
@@ -34,6 +33,6 @@ module _ (n t k i : ℕ) (block : List ℕ) (fits : Bool) where
 
   -- a block of the stated length: the settings and the number decide
   pub ready-is : eqb (length block) (blockLength k t) ≡ true
-      → eqb (refusalOf Encode (record { n = n; t = t; k = k; number = i; sender = 0 }) fits) 0 ≡ isReady n t k i block fits
+      → eqb (encodingRefusal n t k i fits) 0 ≡ isReady n t k i block fits
   unfolding isReady
   ready-is e = rw e mathlib.Core.Path.refl

@@ -1,8 +1,9 @@
--- The decoding rule and the function that meets it. The main laws: `decodes-unique` (at most one block), `rebuilt-cases` (the block that meets
--- the rule, or beyond where none does).
+-- The decoding rule. The main laws: `decodes-unique` (at most one block meets it), `answers-unique` (so there is one answer), `found-block` and
+-- `found-none` (what the code finds is that block, or there is none), `rebuilt-block` and `rebuilt-none` (the same of the function `rebuilt`).
 use mathlib.Core.Path.{_≡_, refl, sym, ap, subst, _∙_}
 use mathlib.Core.Bool.{Bool, true, false}
-use mathlib.Core.List.{List, []}
+use mathlib.Core.List.{List}
+use mathlib.Core.Option.{Option, none, some}
 use mathlib.Core.Logic.{_⊎_, inl, inr, ⊎-elim}
 use Prim.Native.Nat.{ℕ, _+_, _-_, _*_, _≤_, _<_}
 use native.Mathlib.Omega.{arith}
@@ -12,20 +13,26 @@ use lib.ListN.{length, getD, replicate}
 use Rattle.lists.specs.Sum.{count}
 use Rattle.lists.proofs.Sums.{count-all, count-full, count-mono}
 use Rattle.lists.proofs.Fills.{length-tabulate, getD-tabulate}
-use Rattle.lists.proofs.Tests.{true≢false, cond-yes, cond-no, and-left, and-right, and-both, lt-or-le}
+use Rattle.lists.proofs.Tests.{true≢false, cond-yes, cond-no, lt-or-le}
+use Rattle.settings.specs.Refusal.{encodingRefusal, decodingRefusal}
 use Rattle.settings.specs.Valid.{Coded, Numbered}
 use Rattle.settings.proofs.Laws.{encode-0, 0-encode, decode-0, 0-decode}
 use Rattle.wire.specs.Length.{blockLength}
-use Rattle.wire.specs.Slot.{width, messageOf}
+use Rattle.wire.specs.Slot.{layoutWith, width, messageOf}
 use Rattle.wire.proofs.Laws.{block-length}
 use Rattle.polynomial.specs.Polynomial.{evaluate, Bytes, Points}
 use Rattle.polynomial.proofs.Laws.{evaluate-lt, equal-of-values, past-end}
 use Rattle.interpolation.specs.Interpolation.{agreements, candidate}
 use Rattle.interpolation.proofs.Laws.{Units, recovers}
 use Rattle.reed_solomon.specs.Encode.{stripe, pieceOf, encodeFits, encodeRefusal, encoded, encodeOf}
-use Rattle.reed_solomon.specs.Decode.{received, agreement, Decodes, points, column, stripeOf, isFound, decodeFits, decodeRefusal, decoded, beyond, refused, answer, rebuiltOf, decodeOf}
-use Rattle.reed_solomon.specs.Steps.{Pointed, Tried, Rebuilt}
-use Rattle.reed_solomon.proofs.Stripes.{length-points, agreement-points, units-points, points-points, different-numbers, length-stripe, bytes-stripe, length-found, bytes-found, stripe-joined, block-joined}
+use Rattle.reed_solomon.specs.declared.Decoded.{Decoded}
+use Rattle.reed_solomon.specs.declared.Decoded.the-variants.{Block, Beyond, Refused}
+use Rattle.reed_solomon.specs.Decode.{received, agreeing, Decodes, decodeFits, decodeRefusal, Answers, DecodesUnique, AnswersUnique}
+use Rattle.reed_solomon.specs.First.{firstBytes, meets, DecodesMeets, MeetsDecodes, rebuilt, RebuiltDecodes, RebuiltBlock, RebuiltNone}
+use Rattle.reed_solomon.specs.Steps.{points, column, stripeOf, isFound, Pointed, Tried, Found}
+use Rattle.reed_solomon.proofs.Sizes.{both-true, true-both}
+use Rattle.reed_solomon.proofs.First.{Right, first-right}
+use Rattle.reed_solomon.proofs.Stripes.{length-points, agreeing-points, units-points, points-points, different-numbers, length-stripe, bytes-stripe, length-found, bytes-found, stripe-joined, block-joined}
 use Rattle.lists.specs.Join.{joined}
 use Rattle.lists.proofs.Joins.{joined-ext, length-joined, all-joined}
 
@@ -39,76 +46,55 @@ tried-found t k slots s xs r m e h =
       same,
       h .enough
           ∙ ap (leb (n - t))
-          (ap (λ z. agreements z (column k slots s z) m) e ∙ agreement-points n k slots s m ∙ ap (agreement n k slots s) same),
+          (ap (λ z. agreements z (column k slots s z) m) e ∙ agreeing-points n k slots s m ∙ ap (agreeing n k slots s) same),
     )
 
 module _ (n t k : ℕ) (slots : List ℕ) where
-  pub rebuilt-yes : (block : List ℕ) → Rebuilt n t k slots true block → rebuiltOf n t k slots ≡ answer decoded 0 block
-  unfolding rebuiltOf
-  rebuilt-yes block h = cond-yes (eqb (count k (isFound n t k slots)) k) _ _ (sym (h .all)) ∙ ap (answer decoded 0) (sym (h .block-is refl))
+  -- ---- the number of the refusal table, and what 0 says
+  pub decode-number : (block : List ℕ) (fits : Bool) (r : ℕ) → fits ≡ decodeFits n t k slots block
+      → r ≡ decodingRefusal n t k fits → r ≡ decodeRefusal n t k slots block
+  unfolding decodeRefusal
+  decode-number block fits r is-fits is-r = is-r ∙ ap (decodingRefusal n t k) is-fits
 
-  pub rebuilt-no : (block : List ℕ) → Rebuilt n t k slots false block → rebuiltOf n t k slots ≡ answer beyond 0 (replicate (blockLength k t) 0)
-  unfolding rebuiltOf
-  rebuilt-no block h = cond-no (eqb (count k (isFound n t k slots)) k) _ _ (sym (h .all))
-
-  -- ---- refused or carried out
-  pub decode-refused : (block : List ℕ) (r : ℕ) → r ≡ decodeRefusal n t k slots block → (r ≡ 0 → ⊥) → decodeOf n t k slots block ≡ answer refused r block
-  unfolding decodeOf
-  decode-refused block r e ne =
-      cond-no (eqb (decodeRefusal n t k slots block) 0) _ _ (ne-eqb (decodeRefusal n t k slots block) 0 (λ z. ne (e ∙ z)))
-      ∙ ap (λ x. answer refused x block) (sym e)
-
-  pub decode-carried : (block : List ℕ) → decodeRefusal n t k slots block ≡ 0 → decodeOf n t k slots block ≡ rebuiltOf n t k slots
-  unfolding decodeOf
-  decode-carried block e = cond-yes (eqb (decodeRefusal n t k slots block) 0) _ _ (eq-eqb (decodeRefusal n t k slots block) 0 e)
-
-  pub decode-valid : (block : List ℕ) → decodeRefusal n t k slots block ≡ 0 → Coded n t k × (length slots ≡ n * width k) × (length block ≡ blockLength k t)
+  pub decode-valid : (block : List ℕ) → decodeRefusal n t k slots block ≡ 0 → Coded n t k × (length slots ≡ n * width (layoutWith k)) × (length block ≡ blockLength k t)
   unfolding decodeRefusal
   decode-valid block e =
-      let r = decode-0 (record { n = n; t = t; k = k; number = 0; sender = 0 }) (decodeFits n t k slots block) e in
-      let a = eqb (length slots) (n * width k) in
-      let b = eqb (length block) (blockLength k t) in
-      (r .0, eqb-true (length slots) (n * width k) (and-left a b (r .1)), eqb-true (length block) (blockLength k t) (and-right a b (r .1)))
+      let r = decode-0 n t k (decodeFits n t k slots block) e in
+      let both = both-true (length slots) (n * width (layoutWith k)) (length block) (blockLength k t) (r .1) in
+      (r .0, both .0, both .1)
 
-  pub valid-decode : (block : List ℕ) → Coded n t k → length slots ≡ n * width k → length block ≡ blockLength k t → decodeRefusal n t k slots block ≡ 0
+  pub valid-decode : (block : List ℕ) → Coded n t k → length slots ≡ n * width (layoutWith k) → length block ≡ blockLength k t → decodeRefusal n t k slots block ≡ 0
   unfolding decodeRefusal
   valid-decode block v a b =
-      0-decode (record { n = n; t = t; k = k; number = 0; sender = 0 }) (decodeFits n t k slots block) v
-      (and-both (eqb (length slots) (n * width k)) (eqb (length block) (blockLength k t)) (eq-eqb (length slots) (n * width k) a) (eq-eqb (length block) (blockLength k t) b))
+      0-decode n t k (decodeFits n t k slots block) v
+      (true-both (length slots) (n * width (layoutWith k)) (length block) (blockLength k t) a b)
 
-  -- ---- the rule
+  -- ---- the rule and the candidate
   module _ (v : Coded n t k) where
     -- bytes that agree in at least n - t places are those that the function finds
-    stripe-found : (s : ℕ) (m : List ℕ) → Bytes m → length m ≡ t + 1 → n - t ≤ agreement n k slots s m → stripeOf n t k slots s ≡ m
+    stripe-found : (s : ℕ) (m : List ℕ) → Bytes m → length m ≡ t + 1 → n - t ≤ agreeing n k slots s m → stripeOf n t k slots s ≡ m
     unfolding stripeOf
     stripe-found s m hm lm many =
         recovers t (points n) (column k slots s (points n)) m (units-points n (omega (arith, v .quorum .n-most))) (points-points n (omega (arith, v .quorum .n-most))) hm lm
-        (omega (arith, length-points n, agreement-points n k slots s m, v .quorum .t-most))
+        (omega (arith, length-points n, agreeing-points n k slots s m, v .quorum .t-most))
 
     module _ (block : List ℕ) (d : Decodes n t k slots block) where
       each : (s : ℕ) → s < k → stripeOf n t k slots s ≡ stripe t block s
       each s l =
           stripe-found s (stripe t block s) (bytes-stripe t block s (d .bytes)) (length-stripe k t block s (d .size ∙ block-length k t) l) (d .agrees s l)
 
-      decodes-joined : block ≡ joined (stripeOf n t k slots) k
+      pub decodes-joined : block ≡ joined (stripeOf n t k slots) k
       decodes-joined =
           block-joined k t block (d .size ∙ block-length k t) ∙ joined-ext (stripe t block) (stripeOf n t k slots) k (λ s l. sym (each s l))
 
       decodes-found : (s : ℕ) → s < k → isFound n t k slots s ≡ true
       unfolding isFound
       decodes-found s l =
-          le-leb (n - t) (agreement n k slots s (stripeOf n t k slots s)) (subst (λ m. n - t ≤ agreement n k slots s m) (sym (each s l)) (d .agrees s l))
+          le-leb (n - t) (agreeing n k slots s (stripeOf n t k slots s)) (subst (λ m. n - t ≤ agreeing n k slots s m) (sym (each s l)) (d .agrees s l))
 
-      -- a block that meets the rule is what is rebuilt
-      pub rebuilt-decoded : rebuiltOf n t k slots ≡ answer decoded 0 block
-      unfolding rebuiltOf
-      rebuilt-decoded =
-          cond-yes (eqb (count k (isFound n t k slots)) k) _ _ (eq-eqb (count k (isFound n t k slots)) k (count-all k (isFound n t k slots) decodes-found))
-          ∙ ap (answer decoded 0) (sym decodes-joined)
-
-    -- at most one block meets the rule
-    pub decodes-unique : (b b′ : List ℕ) → Decodes n t k slots b → Decodes n t k slots b′ → b ≡ b′
-    decodes-unique b b′ d d′ = decodes-joined b d ∙ sym (decodes-joined b′ d′)
+    -- where a stripe's candidate does not agree in enough places, no block meets the rule
+    pub stripe-beyond : (s : ℕ) → s < k → isFound n t k slots s ≡ false → (B : List ℕ) → Decodes n t k slots B → ⊥
+    stripe-beyond s l e B d = true≢false (sym (decodes-found B d s l) ∙ e)
 
     -- where every stripe is found, the block meets the rule
     found-decodes : ((s : ℕ) → s < k → isFound n t k slots s ≡ true) → Decodes n t k slots (joined (stripeOf n t k slots) k)
@@ -117,29 +103,102 @@ module _ (n t k : ℕ) (slots : List ℕ) where
       size = length-joined (t + 1) (stripeOf n t k slots) k (λ s l. length-found n t k slots s) ∙ sym (block-length k t);
       bytes = all-joined (λ x. x < 256) (stripeOf n t k slots) k (lit< tt) (λ s l. bytes-found n t k slots s);
       agrees = λ s l.
-          subst (λ m. n - t ≤ agreement n k slots s m) (sym (stripe-joined t (stripeOf n t k slots) k (λ s l. length-found n t k slots s) s l))
-          (leb-true (n - t) (agreement n k slots s (stripeOf n t k slots s)) (h s l));
+          subst (λ m. n - t ≤ agreeing n k slots s m) (sym (stripe-joined t (stripeOf n t k slots) k (λ s l. length-found n t k slots s) s l))
+          (leb-true (n - t) (agreeing n k slots s (stripeOf n t k slots s)) (h s l));
     }
 
-    -- the block that meets the rule, or beyond where none does
-    pub rebuilt-cases : ((b : List ℕ) × Decodes n t k slots b × (rebuiltOf n t k slots ≡ answer decoded 0 b))
-        ⊎ (((b : List ℕ) → Decodes n t k slots b → ⊥) × (rebuiltOf n t k slots ≡ answer beyond 0 (replicate (blockLength k t) 0)))
-    rebuilt-cases = go (eqb (count k (isFound n t k slots)) k) refl
-      where
-        go : (x : Bool) → eqb (count k (isFound n t k slots)) k ≡ x
-            → ((b : List ℕ) × Decodes n t k slots b × (rebuiltOf n t k slots ≡ answer decoded 0 b))
-            ⊎ (((b : List ℕ) → Decodes n t k slots b → ⊥) × (rebuiltOf n t k slots ≡ answer beyond 0 (replicate (blockLength k t) 0)))
-        go true e =
-            let d = found-decodes (count-full k (isFound n t k slots) (omega (arith, eqb-true (count k (isFound n t k slots)) k e))) in
-            inl (joined (stripeOf n t k slots) k, d, rebuilt-decoded (joined (stripeOf n t k slots) k) d)
-        go false e =
-            inr (
-              λ b d. eqb-false (count k (isFound n t k slots)) k e (count-all k (isFound n t k slots) (decodes-found b d)),
-              rebuilt-no [] (record { all = sym e; block-is = λ z. absurd (true≢false (sym z)) }),
-            )
+    -- what the code found is the block that meets the rule
+    pub found-block : (block : List ℕ) → Found n t k slots true block → Decodes n t k slots block
+    found-block block h =
+        subst (Decodes n t k slots) (sym (h .block-is refl))
+        (found-decodes (count-full k (isFound n t k slots) (omega (arith, eqb-true (count k (isFound n t k slots)) k (sym (h .all))))))
+
+    -- where it did not find every stripe, none does
+    pub found-none : (block : List ℕ) → Found n t k slots false block → (B : List ℕ) → Decodes n t k slots B → ⊥
+    found-none block h B d = eqb-false (count k (isFound n t k slots)) k (sym (h .all)) (count-all k (isFound n t k slots) (decodes-found B d))
+
+-- ---- at most one block meets the rule, and there is one answer
+pub decodes-unique : DecodesUnique
+decodes-unique n t k slots v B C d e = decodes-joined n t k slots v B d ∙ sym (decodes-joined n t k slots v C e)
+
+pub answers-unique : AnswersUnique
+answers-unique n t k slots before Block Block B C d e =
+    (refl, decodes-unique n t k slots (decode-valid n t k slots before (d .0) .0) B C (d .1) (e .1))
+answers-unique n t k slots before Block Beyond B C d e = absurd (e .1 B (d .1))
+answers-unique n t k slots before Block (Refused r) B C d e = absurd (e .1 (e .0 ∙ d .0))
+answers-unique n t k slots before Beyond Block B C d e = absurd (d .1 C (e .1))
+answers-unique n t k slots before Beyond Beyond B C d e = (refl, d .2 ∙ sym (e .2))
+answers-unique n t k slots before Beyond (Refused r) B C d e = absurd (e .1 (e .0 ∙ d .0))
+answers-unique n t k slots before (Refused r) Block B C d e = absurd (d .1 (d .0 ∙ e .0))
+answers-unique n t k slots before (Refused r) Beyond B C d e = absurd (d .1 (d .0 ∙ e .0))
+answers-unique n t k slots before (Refused r) (Refused q) B C d e = (ap Refused (d .0 ∙ sym (e .0)), d .2 ∙ sym (e .2))
+
+-- ---- the rule as a test
+agrees : (n t k : ℕ) → List ℕ → List ℕ → ℕ → Bool
+agrees n t k slots B s = leb (n - t) (agreeing n k slots s (stripe t B s))
+
+pub decodes-meets : DecodesMeets
+unfolding meets agrees
+decodes-meets n t k slots B d =
+    eq-eqb (count k (agrees n t k slots B)) k
+    (count-all k (agrees n t k slots B) (λ s l. le-leb (n - t) (agreeing n k slots s (stripe t B s)) (d .agrees s l)))
+
+pub meets-decodes : MeetsDecodes
+unfolding meets agrees
+meets-decodes n t k slots B size bytes e = record {
+  size = size;
+  bytes = bytes;
+  agrees = λ s l.
+      leb-true (n - t) (agreeing n k slots s (stripe t B s))
+      (count-full k (agrees n t k slots B) (omega (arith, eqb-true (count k (agrees n t k slots B)) k e)) s l);
+}
+
+-- ---- the block that meets the rule as a function
+-- it meets the rule, or none does
+abbrev Rebuilds : (n t k : ℕ) → List ℕ → Option (List ℕ) → Type 0
+Rebuilds n t k slots none = (B : List ℕ) → Decodes n t k slots B → ⊥
+Rebuilds n t k slots (some B) = Decodes n t k slots B
+
+rebuilds : (n t k : ℕ) (slots : List ℕ) → Rebuilds n t k slots (rebuilt n t k slots)
+unfolding rebuilt
+rebuilds n t k slots = go (firstBytes (blockLength k t) (meets n t k slots)) (first-right (blockLength k t) (meets n t k slots))
+  where
+    go : (r : Option (List ℕ)) → Right (blockLength k t) (meets n t k slots) r → Rebuilds n t k slots r
+    go none h = λ B d. true≢false (sym (decodes-meets n t k slots B d) ∙ h B (d .size) (d .bytes))
+    go (some B) h = meets-decodes n t k slots B (h .0) (h .1) (h .2)
+
+pub rebuilt-decodes : RebuiltDecodes
+rebuilt-decodes n t k slots B e = subst (Rebuilds n t k slots) e (rebuilds n t k slots)
+
+pub rebuilt-block : RebuiltBlock
+rebuilt-block n t k slots v B d = go (rebuilt n t k slots) (rebuilds n t k slots)
+  where
+    go : (r : Option (List ℕ)) → Rebuilds n t k slots r → r ≡ some B
+    go none h = absurd (h B d)
+    go (some C) h = ap some (decodes-unique n t k slots v C B h d)
+
+pub rebuilt-none : RebuiltNone
+rebuilt-none n t k slots unmet = go (rebuilt n t k slots) (rebuilds n t k slots)
+  where
+    go : (r : Option (List ℕ)) → Rebuilds n t k slots r → r ≡ none
+    go none h = refl
+    go (some C) h = absurd (unmet C h)
+
+-- a block meets the rule, or none does
+pub decodes-or-not : (n t k : ℕ) (slots : List ℕ) → ((B : List ℕ) × Decodes n t k slots B) ⊎ ((B : List ℕ) → Decodes n t k slots B → ⊥)
+decodes-or-not n t k slots = go (rebuilt n t k slots) (rebuilds n t k slots)
+  where
+    go : (r : Option (List ℕ)) → Rebuilds n t k slots r → ((B : List ℕ) × Decodes n t k slots B) ⊎ ((B : List ℕ) → Decodes n t k slots B → ⊥)
+    go none h = inr h
+    go (some B) h = inl (B, h)
 
 -- ---- coding refused or carried out
 module _ (n t k i : ℕ) (block piece : List ℕ) where
+  pub encode-number : (fits : Bool) (r : ℕ) → fits ≡ encodeFits k t block piece
+      → r ≡ encodingRefusal n t k i fits → r ≡ encodeRefusal n t k i block piece
+  unfolding encodeRefusal
+  encode-number fits r is-fits is-r = is-r ∙ ap (encodingRefusal n t k i) is-fits
+
   pub encode-refused : (r : ℕ) → r ≡ encodeRefusal n t k i block piece → (r ≡ 0 → ⊥) → encodeOf n t k i block piece ≡ encoded r piece
   unfolding encodeOf
   encode-refused r e ne =
@@ -153,16 +212,15 @@ module _ (n t k i : ℕ) (block piece : List ℕ) where
   pub encode-valid : encodeRefusal n t k i block piece ≡ 0 → Coded n t k × Numbered n i × (length block ≡ blockLength k t) × (length piece ≡ k)
   unfolding encodeRefusal
   encode-valid e =
-      let r = encode-0 (record { n = n; t = t; k = k; number = i; sender = 0 }) (encodeFits k t block piece) e in
-      let a = eqb (length block) (blockLength k t) in
-      let b = eqb (length piece) k in
-      (r .0, r .1, eqb-true (length block) (blockLength k t) (and-left a b (r .2)), eqb-true (length piece) k (and-right a b (r .2)))
+      let r = encode-0 n t k i (encodeFits k t block piece) e in
+      let both = both-true (length block) (blockLength k t) (length piece) k (r .2) in
+      (r .0, r .1, both .0, both .1)
 
   pub valid-encode : Coded n t k → Numbered n i → length block ≡ blockLength k t → length piece ≡ k → encodeRefusal n t k i block piece ≡ 0
   unfolding encodeRefusal
   valid-encode v m a b =
-      0-encode (record { n = n; t = t; k = k; number = i; sender = 0 }) (encodeFits k t block piece) v m
-      (and-both (eqb (length block) (blockLength k t)) (eqb (length piece) k) (eq-eqb (length block) (blockLength k t) a) (eq-eqb (length piece) k b))
+      0-encode n t k i (encodeFits k t block piece) v m
+      (true-both (length block) (blockLength k t) (length piece) k a b)
 
 -- ---- pieces
 pub piece-length : (k t : ℕ) (block : List ℕ) (i : ℕ) → length (pieceOf k t block i) ≡ k
@@ -203,16 +261,16 @@ blocks-equal n t k b b′ same few l l′ h h′ equal many =
 
 -- ---- true pieces in enough slots: `right` says of an index that its slot has the block's piece
 pub pieces-decode : (n t k : ℕ) (slots b : List ℕ) (right : ℕ → Bool) → length b ≡ blockLength k t → Bytes b
-    → ((i : ℕ) → i < n → right i ≡ true → messageOf slots k (i + 1) ≡ pieceOf k t b (i + 1)) → n - t ≤ count n right → Decodes n t k slots b
-unfolding agreement received
+    → ((i : ℕ) → i < n → right i ≡ true → messageOf slots (layoutWith k) (i + 1) ≡ pieceOf k t b (i + 1)) → n - t ≤ count n right → Decodes n t k slots b
+unfolding agreeing received
 pieces-decode n t k slots b right l h true-piece many = record {
   size = l;
   bytes = h;
   agrees = λ s g.
       omega (
         arith,
-        count-mono n right (λ i. eqb (evaluate (stripe t b s) (i + 1)) (getD (messageOf slots k (i + 1)) s 0))
-            (λ i u e. eq-eqb (evaluate (stripe t b s) (i + 1)) (getD (messageOf slots k (i + 1)) s 0)
+        count-mono n right (λ i. eqb (evaluate (stripe t b s) (i + 1)) (getD (messageOf slots (layoutWith k) (i + 1)) s 0))
+            (λ i u e. eq-eqb (evaluate (stripe t b s) (i + 1)) (getD (messageOf slots (layoutWith k) (i + 1)) s 0)
             (sym (piece-byte k t b (i + 1) s g) ∙ ap (λ p. getD p s 0) (sym (true-piece i u e)))),
       );
 }

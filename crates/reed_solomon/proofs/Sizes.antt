@@ -1,15 +1,22 @@
--- The length of a block, tested with no product. The main law: `whole-block`.
+-- The length of a block, tested with no product, and two lengths tested. The main law: `whole-block`.
 use mathlib.Core.Path.{_≡_, refl, sym, ap, _∙_}
-use mathlib.Core.Bool.{false}
+use mathlib.Core.Bool.{true, false, _&&_}
 use Prim.Native.Nat.{ℕ, zero, suc, _+_, _-_, _*_, _/_, _%_, _<_, _≤_}
 use native.Mathlib.Nat.{zero-mul, mul-suc, mul-mod-right, div-add-mod, div-eq-of-eq-mul-right}
 use native.Mathlib.Numerals.{add-one}
 use native.Mathlib.Omega.{arith}
 use borrow.Author.Tests.{ne-eqb, eq-eqb, eqb-true}
 use lib.Dec.{eqb}
-use Rattle.lists.proofs.Tests.{bool-ext}
+use Rattle.lists.proofs.Tests.{bool-ext, and-left, and-right, and-both}
 use Rattle.wire.specs.Length.{blockLength}
 use Rattle.wire.proofs.Laws.{block-length}
+
+module _ (a b c d : ℕ) where
+  pub both-true : (eqb a b && eqb c d) ≡ true → (a ≡ b) × (c ≡ d)
+  both-true e = (eqb-true a b (and-left (eqb a b) (eqb c d) e), eqb-true c d (and-right (eqb a b) (eqb c d) e))
+
+  pub true-both : a ≡ b → c ≡ d → (eqb a b && eqb c d) ≡ true
+  true-both e f = and-both (eqb a b) (eqb c d) (eq-eqb a b e) (eq-eqb c d f)
 
 module _ (len k t : ℕ) where
   size : blockLength k t ≡ k * t + k

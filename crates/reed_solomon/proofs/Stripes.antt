@@ -1,4 +1,4 @@
--- Stripes and blocks, points and columns. The main laws: `block-joined`, a block is its stripes joined, and `agreement-points`, places counted
+-- Stripes and blocks, points and columns. The main laws: `block-joined`, a block is its stripes joined, and `agreeing-points`, places counted
 -- over the list of points.
 use mathlib.Core.Path.{_≡_, sym, ap, ap₂, subst, _∙_}
 use mathlib.Core.List.{List}
@@ -20,7 +20,8 @@ use Rattle.polynomial.proofs.Laws.{past-end}
 use Rattle.interpolation.specs.Interpolation.{agreements}
 use Rattle.interpolation.proofs.Laws.{Units, agreements-count, length-candidate, bytes-candidate}
 use Rattle.reed_solomon.specs.Encode.{stripe}
-use Rattle.reed_solomon.specs.Decode.{received, agreement, points, column, stripeOf}
+use Rattle.reed_solomon.specs.Decode.{received, agreeing}
+use Rattle.reed_solomon.specs.Steps.{points, column, stripeOf}
 
 -- ---- points and columns
 pub length-points : (n : ℕ) → length (points n) ≡ n
@@ -41,9 +42,9 @@ pub length-column : (k : ℕ) (slots : List ℕ) (s : ℕ) (xs : List ℕ) → l
 unfolding column
 length-column k slots s xs = length-tabulate (λ j. received k slots s (getD xs j 0)) (length xs)
 
-pub agreement-points : (n k : ℕ) (slots : List ℕ) (s : ℕ) (m : List ℕ) → agreements (points n) (column k slots s (points n)) m ≡ agreement n k slots s m
-unfolding agreement
-agreement-points n k slots s m =
+pub agreeing-points : (n k : ℕ) (slots : List ℕ) (s : ℕ) (m : List ℕ) → agreements (points n) (column k slots s (points n)) m ≡ agreeing n k slots s m
+unfolding agreeing
+agreeing-points n k slots s m =
     let ys = column k slots s (points n) in
     agreements-count (points n) ys m
     ∙ ap (λ c. count c (λ i. eqb (evaluate m (getD (points n) i 0)) (getD ys i 0))) (length-points n)

@@ -15,8 +15,7 @@ use Prim.Native.Nat.{ℕ, _+_, _*_}
 use lib.Dec.{eqb}
 use lib.ListN.{length, take, drop}
 use Rattle.lists.specs.Fill.{tabulate}
-use Rattle.settings.specs.declared.Entry.the-variants.{Encode}
-use Rattle.settings.specs.Refusal.{refusalOf}
+use Rattle.settings.specs.Refusal.{encodingRefusal}
 use Rattle.settings.specs.Valid.{Coded, Numbered}
 use Rattle.wire.specs.Length.{blockLength}
 use Rattle.polynomial.specs.Polynomial.{evaluate}
@@ -32,7 +31,7 @@ encodeFits k t block piece = eqb (length block) (blockLength k t) && eqb (length
 
 unfoldable pub encodeRefusal : (n t k i : ℕ) → List ℕ → List ℕ → ℕ
 encodeRefusal n t k i block piece =
-    refusalOf Encode (record { n = n; t = t; k = k; number = i; sender = 0 }) (encodeFits k t block piece)
+    encodingRefusal n t k i (encodeFits k t block piece)
 
 pub record Encoded : Type 0 where
   pub number : ℕ
@@ -49,7 +48,7 @@ encodeOf n t k i block piece =
 
 unfoldable pub isReady : (n t k i : ℕ) → List ℕ → Bool → Bool
 isReady n t k i block fits =
-    eqb (refusalOf Encode (record { n = n; t = t; k = k; number = i; sender = 0 }) (eqb (length block) (blockLength k t) && fits)) 0
+    eqb (encodingRefusal n t k i (eqb (length block) (blockLength k t) && fits)) 0
 
 pub record Coding (n t k i : ℕ) (block : List ℕ) : Type 0 where
   pub coded : Coded n t k

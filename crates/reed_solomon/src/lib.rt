@@ -1,18 +1,16 @@
 // The Reed-Solomon code (document 01, 'Field and code'): one piece of a block's coding, and a block from n slots of pieces. It knows of the
 // field only its contracts and laws.
+mod guessing;
+
 ghost use mathlib.Core.Path.{_≡_};
-ghost use Prim.Native.Nat.{_+_, _-_, _*_, _≤_, _<_};
+ghost use Prim.Native.Nat.{_+_, _-_, _*_, _≤_};
 ghost use lib.Dec.{eqb, leb};
 ghost use lib.ListN.{length};
-ghost use Rattle.settings.specs.Valid.{Coded};
 ghost use Rattle.wire.specs.Length.{blockLength};
 ghost use Rattle.interpolation.specs.Interpolation.{agreements};
 ghost use Rattle.reed_solomon.specs.Encode.{pieceOf, encodeFits, encoded, encodeOf, isReady};
-ghost use Rattle.reed_solomon.specs.Decode.{received, points, column, decodeFits, answerOf, rebuiltOf, decodeOf};
-ghost use Rattle.reed_solomon.specs.Steps.{Pointed, Tried, Rebuilt};
-ghost use Rattle.polynomial.specs.Polynomial.{Bytes};
-use settings::Entry;
-use settings::Settings;
+ghost use Rattle.reed_solomon.specs.Decode.{received, decodeFits, decodeRefusal, Answers};
+ghost use Rattle.reed_solomon.specs.Steps.{points, column, Pointed, Tried, Found};
 
 // What decoding answers; the block itself is in the lent bytes.
 pub enum Decoded {
@@ -43,7 +41,7 @@ fn agreements(xs: &[u8], ys: &[u8], m: &[u8]) -> usize
 fn received(slots: &[u8], k: usize, s: usize, j: usize) -> u8
     ensures { λ r. ⌜ r ≡ received k (now (slots .entry)) s j ⌝ }
 {
-    let m = wire::message(slots, k, j);
+    let m = wire::message(slots, wire::layout_with(k), j);
     if s < m.len() {
         return m[s];
     }
@@ -74,81 +72,6 @@ fn number_points(xs: &mut [u8])
     }
 }
 
-// The differences of order j of the values in m at the points xs, divided by the distance of their points (Newton's divided differences).
-fn divide_differences(xs: &[u8], m: &mut [u8], j: usize)
-    requires { ⌜ (length (now m) ≤ length (now xs)) × (1 ≤ j) ⌝ }
-{
-    let mut i = m.len();
-    while j < i {
-        i -= 1;
-        let d = gf256::add(xs[i], xs[i - j]);
-        m[i] = gf256::mul(gf256::add(m[i], m[i - 1]), gf256::inv(d));
-    }
-}
-
-// From Newton's form to coefficients, a point at a time.
-fn expand(xs: &[u8], m: &mut [u8], j: usize)
-    requires { ⌜ (length (now m) ≤ length (now xs)) × (j ≤ length (now m)) ⌝ }
-{
-    let mut i = j;
-    while i + 1 < m.len() {
-        m[i] = gf256::add(m[i], gf256::mul(xs[j], m[i + 1]));
-        i += 1;
-    }
-}
-
-// A byte as it is.
-fn byte(x: u8) -> u8
-    ensures { λ r. ⌜ r < 256 ⌝ }
-{
-    x
-}
-
-// Each byte as it is.
-fn as_bytes(m: &mut [u8])
-    ensures { λ _. ⌜ Bytes (now (m .exit)) ⌝ }
-{
-    let mut i: usize = 0;
-    while i < m.len() {
-        m[i] = byte(m[i]);
-        i += 1;
-    }
-}
-
-// Newton's form of the polynomial through the values in m, into m.
-fn newton(xs: &[u8], m: &mut [u8])
-    requires { ⌜ length (now m) ≤ length (now xs) ⌝ }
-{
-    let mut j: usize = 1;
-    while j < m.len() {
-        divide_differences(xs, m, j);
-        j += 1;
-    }
-}
-
-// Its coefficients, into m.
-fn coefficients(xs: &[u8], m: &mut [u8])
-    requires { ⌜ length (now m) ≤ length (now xs) ⌝ }
-{
-    let mut j = m.len();
-    while 0 < j {
-        j -= 1;
-        expand(xs, m, j);
-    }
-}
-
-// A guess: the polynomial through the first values, into m. It is the right one if these are true; whether it is, is told by the number of
-// agreements, whatever is written here.
-fn guess(xs: &[u8], ys: &[u8], m: &mut [u8])
-    requires { ⌜ length (now m) ≤ length (now xs) ⌝ }
-    ensures { λ _. ⌜ Bytes (now (m .exit)) ⌝ }
-{
-    wire::copy(m, ys);
-    newton(xs, m);
-    coefficients(xs, m);
-    as_bytes(m);
-}
-
 // The bytes of stripe s from the values at the points xs, into m, by way of ys; whether their code agrees with all but t of the values. First
 // the guess is tried.
 fn decode_column(
@@ -164,7 +87,7 @@ fn decode_column(
     ensures { λ r. ⌜ Tried t (now (xs .entry)) (column k (now (slots .entry)) s (now (xs .entry))) r (now (m .exit)) ⌝ }
 {
     gather(slots, k, s, xs, ys);
-    guess(xs, ys, m);
+    guessing::guess(xs, ys, m);
     if enough(xs.len(), t, agreements(xs, ys, m)) {
         return true;
     }
@@ -195,7 +118,7 @@ fn enough(n: usize, t: usize, count: usize) -> bool
 // The stripes of a block, one after the other, from the values at the points xs; whether each was found. The rest of the block stays.
 fn decode_stripes(slots: &[u8], t: usize, k: usize, xs: &[u8], block: &mut [u8]) -> bool
     requires { ⌜ Pointed t (now xs) × (k ≤ 128) × (length (now block) ≡ k * (t + 1)) ⌝ }
-    ensures { λ r. ⌜ Rebuilt (length (now (xs .entry))) t k (now (slots .entry)) r (now (block .exit)) ⌝ }
+    ensures { λ r. ⌜ Found (length (now (xs .entry))) t k (now (slots .entry)) r (now (block .exit)) ⌝ }
 {
     let mut s: usize = 0;
     while s < k {
@@ -212,7 +135,7 @@ fn decode_stripes(slots: &[u8], t: usize, k: usize, xs: &[u8], block: &mut [u8])
 // The same at the points 1, 2, .., which are written to xs.
 fn decode_points(slots: &[u8], t: usize, k: usize, xs: &mut [u8], block: &mut [u8]) -> bool
     requires { ⌜ (length (now xs) ≤ 16) × (3 * t + 1 ≤ length (now xs)) × (k ≤ 128) × (length (now block) ≡ k * (t + 1)) ⌝ }
-    ensures { λ r. ⌜ Rebuilt (length (now (xs .entry))) t k (now (slots .entry)) r (now (block .exit)) ⌝ }
+    ensures { λ r. ⌜ Found (length (now (xs .entry))) t k (now (slots .entry)) r (now (block .exit)) ⌝ }
 {
     number_points(xs);
     decode_stripes(slots, t, k, xs, block)
@@ -237,7 +160,7 @@ fn is_block(block: &[u8], t: usize, k: usize) -> bool
 fn decode_fits(n: usize, t: usize, k: usize, slots: &[u8], block: &[u8]) -> bool
     ensures { λ r. ⌜ r ≡ decodeFits n t k (now (slots .entry)) (now (block .entry)) ⌝ }
 {
-    if !wire::holds_exactly(slots, n, k) {
+    if !wire::holds_exactly(slots, n, wire::layout_with(k)) {
         return false;
     }
     is_block(block, t, k)
@@ -254,8 +177,8 @@ fn encode_fits(k: usize, t: usize, block: &[u8], piece: &[u8]) -> bool
 
 // The block, or zeros.
 fn rebuild(n: usize, t: usize, k: usize, slots: &[u8], block: &mut [u8]) -> Decoded
-    requires { ⌜ Coded n t k × (length (now block) ≡ blockLength k t) ⌝ }
-    ensures { λ r. ⌜ answerOf r (now (block .exit)) ≡ rebuiltOf n t k (now (slots .entry)) ⌝ }
+    requires { ⌜ decodeRefusal n t k (now slots) (now block) ≡ 0 ⌝ }
+    ensures { λ r. ⌜ Answers n t k (now (slots .entry)) (now (block .entry)) r (now (block .exit)) ⌝ }
 {
     let mut xs = [0u8; 16];
     if decode_points(slots, t, k, &mut xs[..n], block) {
@@ -267,22 +190,13 @@ fn rebuild(n: usize, t: usize, k: usize, slots: &[u8], block: &mut [u8]) -> Deco
 }
 
 // Decoding: the block whose code agrees, in each stripe, with the pieces in the n slots in at least n - t places, into the lent block; beyond
-// and zeros where some stripe has no such bytes. Shut out: must-fail/one_agreement_less, points_off_by_one, beyond_keeps_the_block,
+// and zeros where there is none. The relation determines the answer and the block that is left: at most one block meets the rule (laws
+// `decodes-unique`, `answers-unique`). Shut out: must-fail/one_agreement_less, points_off_by_one, beyond_keeps_the_block,
 // refusal_clears_the_block.
 pub fn decode(n: usize, t: usize, k: usize, slots: &[u8], block: &mut [u8]) -> Decoded
-    ensures { λ r. ⌜ answerOf r (now (block .exit)) ≡ decodeOf n t k (now (slots .entry)) (now (block .entry)) ⌝ }
+    ensures { λ r. ⌜ Answers n t k (now (slots .entry)) (now (block .entry)) r (now (block .exit)) ⌝ }
 {
-    let refused = settings::refusal(
-        Entry::Decode,
-        Settings {
-            n,
-            t,
-            k,
-            number: 0,
-            sender: 0,
-        },
-        decode_fits(n, t, k, slots, block),
-    );
+    let refused = settings::decoding_refusal(n, t, k, decode_fits(n, t, k, slots, block));
     if refused != 0 {
         return Decoded::Refused(refused);
     }
@@ -308,17 +222,7 @@ fn encode_piece(t: usize, block: &[u8], x: u8, piece: &mut [u8])
 pub fn encode(n: usize, t: usize, k: usize, number: usize, block: &[u8], piece: &mut [u8]) -> u8
     ensures { λ r. ⌜ encoded r (now (piece .exit)) ≡ encodeOf n t k number (now (block .entry)) (now (piece .entry)) ⌝ }
 {
-    let refusal = settings::refusal(
-        Entry::Encode,
-        Settings {
-            n,
-            t,
-            k,
-            number,
-            sender: 0,
-        },
-        encode_fits(k, t, block, piece),
-    );
+    let refusal = settings::encoding_refusal(n, t, k, number, encode_fits(k, t, block, piece));
     if refusal != 0 {
         return refusal;
     }
@@ -334,16 +238,5 @@ pub fn is_ready(n: usize, t: usize, k: usize, number: usize, block: &[u8], fits:
     if !is_block(block, t, k) {
         return false;
     }
-    settings::refusal(
-        Entry::Encode,
-        Settings {
-            n,
-            t,
-            k,
-            number,
-            sender: 0,
-        },
-        fits,
-    )
-        == 0
+    settings::encoding_refusal(n, t, k, number, fits) == 0
 }

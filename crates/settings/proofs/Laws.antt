@@ -1,5 +1,5 @@
--- What a refusal number says. The main laws: for each entry point, the number is 0 exactly where the settings are valid for it
--- (`star-0` and `0-star`, and so on).
+-- What a refusal number says. The main laws: for each entry point X, the number is 0 exactly where what it tries is valid: `X-0` says what
+-- number 0 gives, `0-X` is the converse.
 use mathlib.Core.Path.{_≡_, refl, sym, ap, _∙_}
 use mathlib.Core.Logic.{_⊎_, inl, inr, ⊎-elim}
 use mathlib.Core.Bool.{Bool, true, false, cond, not}
@@ -12,7 +12,8 @@ use Rattle.lists.proofs.Tests.{or-neither, or-right, cond-zero, cond-no, either
 use Rattle.settings.specs.declared.Settings.{Settings}
 use Rattle.settings.specs.declared.Entry.{Entry}
 use Rattle.settings.specs.declared.Entry.the-variants.{Start, State, Encode, Decode, Lengths, Star}
-use Rattle.settings.specs.Refusal.{outside, tooMany, broken, tried, firstOf, refusalOf}
+use Rattle.settings.specs.Refusal.{outside, tooMany, broken, tried, firstOf, refusalOf, untried, partial}
+use Rattle.settings.specs.Refusal.{stateRefusal, encodingRefusal, decodingRefusal, lengthsRefusal, starRefusal}
 use Rattle.settings.specs.Valid.{Quorum, Coded, Numbered, Valid}
 
 -- ---- the rows
@@ -71,120 +72,150 @@ rows Decode = omega arith
 rows Lengths = omega arith
 rows Star = omega arith
 
-module _ (s : Settings) (fits : Bool) where
+module _ (s : Settings) (i : ℕ) (fits : Bool) where
   -- what each entry point has tried
-  passed : (e : Entry) → refusalOf e s fits ≡ 0 → Each (λ r. broken s fits r ≡ false) (tried e)
+  passed : (e : Entry) → refusalOf e s i fits ≡ 0 → Each (λ r. broken s i fits r ≡ false) (tried e)
   unfolding refusalOf
-  passed e z = none-first (broken s fits) (tried e) (rows e) z
+  passed e z = none-first (broken s i fits) (tried e) (rows e) z
 
-  passes-all : (e : Entry) → Each (λ r. broken s fits r ≡ false) (tried e) → refusalOf e s fits ≡ 0
+  passes-all : (e : Entry) → Each (λ r. broken s i fits r ≡ false) (tried e) → refusalOf e s i fits ≡ 0
   unfolding refusalOf
-  passes-all e w = first-none (broken s fits) (tried e) w
+  passes-all e w = first-none (broken s i fits) (tried e) w
 
-  quorum : broken s fits 1 ≡ false → broken s fits 2 ≡ false → Quorum (s .n) (s .t)
+  quorum : broken s i fits 1 ≡ false → broken s i fits 2 ≡ false → Quorum (s .n) (s .t)
   unfolding broken
   quorum a b =
       let x = outside-no 4 16 (s .n) a in
       let y = too-many-no (s .n) (s .t) b in
       record { n-least = x .0; n-most = x .1; t-least = y .0; t-most = y .1 }
 
-  coded : broken s fits 1 ≡ false → broken s fits 2 ≡ false → broken s fits 3 ≡ false → Coded (s .n) (s .t) (s .k)
+  coded : broken s i fits 1 ≡ false → broken s i fits 2 ≡ false → broken s i fits 3 ≡ false → Coded (s .n) (s .t) (s .k)
   unfolding broken
   coded a b c =
       let x = outside-no 1 128 (s .k) c in
       record { quorum = quorum a b; k-least = x .0; k-most = x .1 }
 
-  numbered : broken s fits 4 ≡ false → Numbered (s .n) (s .number)
+  numbered : broken s i fits 4 ≡ false → Numbered (s .n) i
   unfolding broken
   numbered a =
-      let x = outside-no 1 (s .n) (s .number) a in
+      let x = outside-no 1 (s .n) i a in
       record { least = x .0; most = x .1 }
 
-  sending : broken s fits 5 ≡ false → Numbered (s .n) (s .sender)
+  sending : broken s i fits 5 ≡ false → Numbered (s .n) (s .sender)
   unfolding broken
   sending a =
       let x = outside-no 1 (s .n) (s .sender) a in
       record { least = x .0; most = x .1 }
 
-  fitting : broken s fits 6 ≡ false → fits ≡ true
+  fitting : broken s i fits 6 ≡ false → fits ≡ true
   unfolding broken
   fitting a = not-false fits a
 
-  one : Quorum (s .n) (s .t) → broken s fits 1 ≡ false
+  one : Quorum (s .n) (s .t) → broken s i fits 1 ≡ false
   unfolding broken
   one q = no-outside 4 16 (s .n) (q .n-least) (q .n-most)
 
-  two : Quorum (s .n) (s .t) → broken s fits 2 ≡ false
+  two : Quorum (s .n) (s .t) → broken s i fits 2 ≡ false
   unfolding broken
   two q = no-too-many (s .n) (s .t) (q .t-least) (q .t-most)
 
-  three : Coded (s .n) (s .t) (s .k) → broken s fits 3 ≡ false
+  three : Coded (s .n) (s .t) (s .k) → broken s i fits 3 ≡ false
   unfolding broken
   three q = no-outside 1 128 (s .k) (q .k-least) (q .k-most)
 
-  four : Numbered (s .n) (s .number) → broken s fits 4 ≡ false
+  four : Numbered (s .n) i → broken s i fits 4 ≡ false
   unfolding broken
-  four q = no-outside 1 (s .n) (s .number) (q .least) (q .most)
+  four q = no-outside 1 (s .n) i (q .least) (q .most)
 
-  five : Numbered (s .n) (s .sender) → broken s fits 5 ≡ false
+  five : Numbered (s .n) (s .sender) → broken s i fits 5 ≡ false
   unfolding broken
   five q = no-outside 1 (s .n) (s .sender) (q .least) (q .most)
 
-  six : fits ≡ true → broken s fits 6 ≡ false
+  six : fits ≡ true → broken s i fits 6 ≡ false
   unfolding broken
   six e = ap not e
 
-  -- ---- number 0, entry point by entry point, both ways
-  pub star-0 : refusalOf Star s fits ≡ 0 → Quorum (s .n) (s .t)
-  star-0 z = let w = passed Star z in quorum (w .0) (w .1 .0)
+  coded-rows : Coded (s .n) (s .t) (s .k) → (broken s i fits 1 ≡ false) × (broken s i fits 2 ≡ false) × (broken s i fits 3 ≡ false)
+  coded-rows q = (one (q .quorum), two (q .quorum), three q)
 
-  pub 0-star : Quorum (s .n) (s .t) → refusalOf Star s fits ≡ 0
-  0-star q = passes-all Star (one q, (two q, tt))
+  valid : broken s i fits 1 ≡ false → broken s i fits 2 ≡ false → broken s i fits 3 ≡ false → broken s i fits 4 ≡ false → broken s i fits 5 ≡ false
+      → Valid s i
+  valid a b c d e = record { coded = coded a b c; number = numbered d; sender = sending e }
 
-  pub lengths-0 : refusalOf Lengths s fits ≡ 0 → Coded (s .n) (s .t) (s .k)
-  lengths-0 z = let w = passed Lengths z in coded (w .0) (w .1 .0) (w .1 .1 .0)
+-- ---- number 0, entry point by entry point, both ways
+module _ (n t : ℕ) where
+  abbrev Q : Settings
+  Q = partial n t untried
 
-  pub 0-lengths : Coded (s .n) (s .t) (s .k) → refusalOf Lengths s fits ≡ 0
-  0-lengths q = passes-all Lengths (one (q .quorum), (two (q .quorum), (three q, tt)))
+  pub star-0 : starRefusal n t ≡ 0 → Quorum n t
+  unfolding starRefusal
+  star-0 z = let w = passed Q untried true Star z in quorum Q untried true (w .0) (w .1 .0)
 
-  pub decode-0 : refusalOf Decode s fits ≡ 0 → Coded (s .n) (s .t) (s .k) × (fits ≡ true)
-  decode-0 z = let w = passed Decode z in (coded (w .0) (w .1 .0) (w .1 .1 .0), fitting (w .1 .1 .1 .0))
+  pub 0-star : Quorum n t → starRefusal n t ≡ 0
+  unfolding starRefusal
+  0-star q = passes-all Q untried true Star (one Q untried true q, (two Q untried true q, tt))
 
-  pub 0-decode : Coded (s .n) (s .t) (s .k) → fits ≡ true → refusalOf Decode s fits ≡ 0
-  0-decode q e = passes-all Decode (one (q .quorum), (two (q .quorum), (three q, (six e, tt))))
+module _ (n t k : ℕ) where
+  abbrev P : Settings
+  P = partial n t k
 
-  pub encode-0 : refusalOf Encode s fits ≡ 0 → Coded (s .n) (s .t) (s .k) × Numbered (s .n) (s .number) × (fits ≡ true)
-  encode-0 z =
-      let w = passed Encode z in
-      (coded (w .0) (w .1 .0) (w .1 .1 .0), numbered (w .1 .1 .1 .0), fitting (w .1 .1 .1 .1 .0))
+  pub lengths-0 : lengthsRefusal n t k ≡ 0 → Coded n t k
+  unfolding lengthsRefusal
+  lengths-0 z = let w = passed P untried true Lengths z in coded P untried true (w .0) (w .1 .0) (w .1 .1 .0)
 
-  pub 0-encode : Coded (s .n) (s .t) (s .k) → Numbered (s .n) (s .number) → fits ≡ true → refusalOf Encode s fits ≡ 0
-  0-encode q i e = passes-all Encode (one (q .quorum), (two (q .quorum), (three q, (four i, (six e, tt)))))
+  pub 0-lengths : Coded n t k → lengthsRefusal n t k ≡ 0
+  unfolding lengthsRefusal
+  0-lengths q = let r = coded-rows P untried true q in passes-all P untried true Lengths (r .0, (r .1, (r .2, tt)))
 
-  pub state-0 : refusalOf State s fits ≡ 0 → Valid s
-  state-0 z =
-      let w = passed State z in
-      record { coded = coded (w .0) (w .1 .0) (w .1 .1 .0); number = numbered (w .1 .1 .1 .0); sender = sending (w .1 .1 .1 .1 .0) }
+  pub decode-0 : (fits : Bool) → decodingRefusal n t k fits ≡ 0 → Coded n t k × (fits ≡ true)
+  unfolding decodingRefusal
+  decode-0 fits z =
+      let w = passed P untried fits Decode z in
+      (coded P untried fits (w .0) (w .1 .0) (w .1 .1 .0), fitting P untried fits (w .1 .1 .1 .0))
 
-  pub 0-state : Valid s → refusalOf State s fits ≡ 0
+  pub 0-decode : (fits : Bool) → Coded n t k → fits ≡ true → decodingRefusal n t k fits ≡ 0
+  unfolding decodingRefusal
+  0-decode fits q e =
+      let r = coded-rows P untried fits q in
+      passes-all P untried fits Decode (r .0, (r .1, (r .2, (six P untried fits e, tt))))
+
+  pub encode-0 : (i : ℕ) (fits : Bool) → encodingRefusal n t k i fits ≡ 0 → Coded n t k × Numbered n i × (fits ≡ true)
+  unfolding encodingRefusal
+  encode-0 i fits z =
+      let w = passed P i fits Encode z in
+      (coded P i fits (w .0) (w .1 .0) (w .1 .1 .0), numbered P i fits (w .1 .1 .1 .0), fitting P i fits (w .1 .1 .1 .1 .0))
+
+  pub 0-encode : (i : ℕ) (fits : Bool) → Coded n t k → Numbered n i → fits ≡ true → encodingRefusal n t k i fits ≡ 0
+  unfolding encodingRefusal
+  0-encode i fits q h e =
+      let r = coded-rows P i fits q in
+      passes-all P i fits Encode (r .0, (r .1, (r .2, (four P i fits h, (six P i fits e, tt)))))
+
+module _ (s : Settings) (own : ℕ) where
+  pub state-0 : stateRefusal s own ≡ 0 → Valid s own
+  unfolding stateRefusal
+  state-0 z = let w = passed s own true State z in valid s own true (w .0) (w .1 .0) (w .1 .1 .0) (w .1 .1 .1 .0) (w .1 .1 .1 .1 .0)
+
+  pub 0-state : Valid s own → stateRefusal s own ≡ 0
+  unfolding stateRefusal
   0-state v =
-      let q = v .coded in
-      passes-all State (one (q .quorum), (two (q .quorum), (three q, (four (v .number), (five (v .sender), tt)))))
+      let r = coded-rows s own true (v .coded) in
+      passes-all s own true State (r .0, (r .1, (r .2, (four s own true (v .number), (five s own true (v .sender), tt)))))
 
-  pub start-0 : refusalOf Start s fits ≡ 0 → Valid s × (fits ≡ true)
-  start-0 z =
-      let w = passed Start z in
-      (record { coded = coded (w .0) (w .1 .0) (w .1 .1 .0); number = numbered (w .1 .1 .1 .0); sender = sending (w .1 .1 .1 .1 .0) }, fitting (w .1 .1 .1 .1 .1 .0))
+  pub start-0 : (fits : Bool) → refusalOf Start s own fits ≡ 0 → Valid s own × (fits ≡ true)
+  start-0 fits z =
+      let w = passed s own fits Start z in
+      (valid s own fits (w .0) (w .1 .0) (w .1 .1 .0) (w .1 .1 .1 .0) (w .1 .1 .1 .1 .0), fitting s own fits (w .1 .1 .1 .1 .1 .0))
 
-  pub 0-start : Valid s → fits ≡ true → refusalOf Start s fits ≡ 0
-  0-start v e =
-      let q = v .coded in
-      passes-all Start (one (q .quorum), (two (q .quorum), (three q, (four (v .number), (five (v .sender), (six e, tt))))))
+  pub 0-start : (fits : Bool) → Valid s own → fits ≡ true → refusalOf Start s own fits ≡ 0
+  0-start fits v e =
+      let r = coded-rows s own fits (v .coded) in
+      passes-all s own fits Start (r .0, (r .1, (r .2, (four s own fits (v .number), (five s own fits (v .sender), (six s own fits e, tt))))))
 
 -- start tries the lent length last, so that the length counts only within rows 1 to 3
-pub start-fits : (s : Settings) (a b : Bool) → (Coded (s .n) (s .t) (s .k) → a ≡ b) → refusalOf Start s a ≡ refusalOf Start s b
+pub start-fits : (s : Settings) (own : ℕ) (a b : Bool) → (Coded (s .n) (s .t) (s .k) → a ≡ b) → refusalOf Start s own a ≡ refusalOf Start s own b
 unfolding refusalOf broken
-start-fits s a b h =
+start-fits s own a b h =
     ⊎-elim
     (λ (y : outside 4 16 (s .n) ≡ true). cond-yes (outside 4 16 (s .n)) 1 _ y ∙ sym (cond-yes (outside 4 16 (s .n)) 1 _ y))
     (λ (x : outside 4 16 (s .n) ≡ false).
@@ -194,7 +225,7 @@ start-fits s a b h =
     ⊎-elim
     (λ (z : outside 1 128 (s .k) ≡ true).
     ap (λ (r : ℕ). cond (outside 4 16 (s .n)) 1 (cond (tooMany (s .n) (s .t)) 2 r)) (cond-yes (outside 1 128 (s .k)) 3 _ z ∙ sym (cond-yes (outside 1 128 (s .k)) 3 _ z)))
-    (λ (z : outside 1 128 (s .k) ≡ false). ap (refusalOf Start s) (h (coded s a x y z)))
+    (λ (z : outside 1 128 (s .k) ≡ false). ap (refusalOf Start s own) (h (coded s own a x y z)))
     (either (outside 1 128 (s .k))))
     (either (tooMany (s .n) (s .t))))
     (either (outside 4 16 (s .n)))

@@ -2,7 +2,7 @@
 --   Quorum n t    rows 1 and 2
 --   Coded n t k   rows 1 to 3
 --   Numbered n i  i is a controller's number
---   Valid s       rows 1 to 5
+--   Valid s own   rows 1 to 5, own being a controller's own number
 use Prim.Native.Nat.{ℕ, _+_, _*_, _≤_}
 use Rattle.settings.specs.declared.Settings.{Settings}
 
@@ -21,7 +21,7 @@ pub record Numbered (n i : ℕ) : Type 0 where
   pub least : 1 ≤ i
   pub most : i ≤ n
 
-pub record Valid (s : Settings) : Type 0 where
+pub record Valid (s : Settings) (own : ℕ) : Type 0 where
   pub coded : Coded (s .n) (s .t) (s .k)
-  pub number : Numbered (s .n) (s .number)
+  pub number : Numbered (s .n) own
   pub sender : Numbered (s .n) (s .sender)

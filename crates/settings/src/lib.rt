@@ -4,13 +4,13 @@ ghost use mathlib.Core.List.{_++_};
 ghost use Prim.Native.Nat.{_-_};
 ghost use lib.ListN.{length, replicate};
 ghost use Rattle.settings.specs.Refusal.{outside, tooMany, broken, tried, refusalOf};
+ghost use Rattle.settings.specs.Refusal.{partial, stateRefusal, encodingRefusal, decodingRefusal, lengthsRefusal, starRefusal};
 
-// n controllers of which at most t are faulty, k stripes, the number of one controller (its own, or that of a piece), the sender.
+// What all controllers of a system share: n controllers of which at most t are faulty, k stripes, the sender.
 pub struct Settings {
     pub n: usize,
     pub t: usize,
     pub k: usize,
-    pub number: usize,
     pub sender: usize,
 }
 
@@ -53,15 +53,16 @@ fn too_many(n: usize, t: usize) -> bool
     (n - 1) / 3 < t
 }
 
-// Whether the settings break a row; `fits` says that each lent length is the stated one.
-fn breaks(s: Settings, fits: bool, row: u8) -> bool
-    ensures { λ r. ⌜ r ≡ broken s fits row ⌝ }
+// Whether the settings and a controller's number (its own, or that of a piece) break a row; `fits` says that each lent length is the stated
+// one.
+fn breaks(s: Settings, number: usize, fits: bool, row: u8) -> bool
+    ensures { λ r. ⌜ r ≡ broken s number fits row ⌝ }
 {
     match row {
         1 => is_outside(4, 16, s.n),
         2 => too_many(s.n, s.t),
         3 => is_outside(1, 128, s.k),
-        4 => is_outside(1, s.n, s.number),
+        4 => is_outside(1, s.n, number),
         5 => is_outside(1, s.n, s.sender),
         6 => !fits,
         _ => false,
@@ -82,20 +83,75 @@ fn rows(entry: Entry) -> [u8; 6]
     }
 }
 
-// The number of the first row, of those that the entry point tries, that the settings and the lent lengths break; 0 where they
+// The number of the first row, of those that the entry point tries, that the settings, the number and the lent lengths break; 0 where they
 // break none.
 // Shut out: n 17 taken; rows tried in another order (must-fail edits).
-pub fn refusal(entry: Entry, s: Settings, fits: bool) -> u8
-    ensures { λ r. ⌜ r ≡ refusalOf entry s fits ⌝ }
+pub fn refusal(entry: Entry, s: Settings, number: usize, fits: bool) -> u8
+    ensures { λ r. ⌜ r ≡ refusalOf entry s number fits ⌝ }
 {
     let order = rows(entry);
     let mut i: usize = 0;
     while i < 6 {
         let row = order[i];
-        if breaks(s, fits, row) {
+        if breaks(s, number, fits, row) {
             return row;
         }
         i += 1;
     }
     0
+}
+
+// What an entry point does not try has this value, which is in range.
+const UNTRIED: usize = 1;
+
+// Settings whose sender is not tried.
+fn partial(n: usize, t: usize, k: usize) -> Settings
+    ensures { λ r. ⌜ r ≡ partial n t k ⌝ }
+{
+    Settings {
+        n,
+        t,
+        k,
+        sender: UNTRIED,
+    }
+}
+
+// The settings and the own number of a given state.
+// Shut out: the sender for the own number; t for n.
+pub fn state_refusal(s: Settings, own: usize) -> u8
+    ensures { λ r. ⌜ r ≡ stateRefusal s own ⌝ }
+{
+    refusal(Entry::State, s, own, true)
+}
+
+// Coding: `number` is that of the piece, `fits` says that the lent lengths are the stated ones.
+// Shut out: the rows of decoding; k for the number.
+pub fn encoding_refusal(n: usize, t: usize, k: usize, number: usize, fits: bool) -> u8
+    ensures { λ r. ⌜ r ≡ encodingRefusal n t k number fits ⌝ }
+{
+    refusal(Entry::Encode, partial(n, t, k), number, fits)
+}
+
+// Decoding.
+// Shut out: the rows of message lengths; `fits` not asked.
+pub fn decoding_refusal(n: usize, t: usize, k: usize, fits: bool) -> u8
+    ensures { λ r. ⌜ r ≡ decodingRefusal n t k fits ⌝ }
+{
+    refusal(Entry::Decode, partial(n, t, k), UNTRIED, fits)
+}
+
+// Message lengths.
+// Shut out: the rows of the star; n and t the other way round.
+pub fn lengths_refusal(n: usize, t: usize, k: usize) -> u8
+    ensures { λ r. ⌜ r ≡ lengthsRefusal n t k ⌝ }
+{
+    refusal(Entry::Lengths, partial(n, t, k), UNTRIED, true)
+}
+
+// The star.
+// Shut out: the rows of message lengths with t for k; n and t the other way round.
+pub fn star_refusal(n: usize, t: usize) -> u8
+    ensures { λ r. ⌜ r ≡ starRefusal n t ⌝ }
+{
+    refusal(Entry::Star, partial(n, t, UNTRIED), UNTRIED, true)
 }

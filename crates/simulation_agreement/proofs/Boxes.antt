@@ -16,57 +16,54 @@ use Rattle.lists.proofs.Parts.{all-take, all-drop}
 use Rattle.lists.proofs.Joins.{part-take, length-joined, part-joined, all-joined}
 use Rattle.settings.specs.Valid.{Numbered}
 use Rattle.polynomial.specs.Polynomial.{Bytes}
+use Rattle.wire.specs.declared.slot.Layout.{Layout}
 use Rattle.wire.specs.Length.{blockLength, messageLength, inboxLength, outboxLength}
 use Rattle.wire.specs.Slot.{width, slotOf}
 use Rattle.wire.proofs.Laws.{length-pos, outbox-of, inbox-of, first-inbox, Sized, sized-silence, sized-bytes, content, written-each, slot-part, slot-length}
 use Rattle.protocol.specs.Step.{After, stepOf}
-use Rattle.simulation.specs.Run.{Scenario, Proper, Playing, spoken, slotTo, inboxOf, outboxOf, played}
+use Rattle.simulation.specs.Run.{layoutAt, Scenario, Proper, Playing, sentAs, slotTo, inboxOf, outboxOf, played}
 use Rattle.simulation.proofs.Laws.{began-is, called-is, inbox-first, inbox-later, slot-faulty, slot-correct, cleared, played-start, played-correct, played-faulty}
 use Rattle.simulation_agreement.proofs.Bytes.{IsBytes, Byte, zeros-bytes, step-bytes}
 
 -- ---- slots
-slot-bytes : (box : List ℕ) (len j : ℕ) → Bytes box → Bytes (slotOf box len j)
-slot-bytes box len j h =
-    subst Bytes (sym (slot-part box len j ∙ part-take (width len) box (j - 1)))
-    (all-take Byte (lit< tt) (width len) _ (all-drop Byte (lit< tt) ((j - 1) * width len) box h))
+slot-bytes : (box : List ℕ) (layout : Layout) (j : ℕ) → Bytes box → Bytes (slotOf box layout j)
+slot-bytes box layout j h =
+    subst Bytes (sym (slot-part box layout j ∙ part-take (width layout) box (j - 1)))
+    (all-take Byte (lit< tt) (width layout) _ (all-drop Byte (lit< tt) ((j - 1) * width layout) box h))
 
 -- what a faulty controller sends is its message
-spoken-content : (m : List ℕ) → content (spoken m) ≡ m
-spoken-content [] = refl
-spoken-content (x ∷ m) = refl
+sent-content : (m : List ℕ) → content (sentAs m) ≡ m
+sent-content [] = refl
+sent-content (x ∷ m) = refl
 
-spoken-sized : (len : ℕ) (m : List ℕ) → (m ≡ []) ⊎ (length m ≡ len) → Sized len (spoken m)
-spoken-sized len [] h = sized-silence len
-spoken-sized len (x ∷ m) h =
-    ⊎-elim (λ (e : x ∷ m ≡ []). absurd (omega (arith, ap length e))) (λ (e : length (x ∷ m) ≡ len). sized-bytes len (x ∷ m) e) h
+sent-sized : (layout : Layout) (m : List ℕ) → (m ≡ []) ⊎ (length m ≡ layout .length) → Sized layout (sentAs m)
+sent-sized layout [] h = sized-silence layout
+sent-sized layout (x ∷ m) h =
+    ⊎-elim (λ (e : x ∷ m ≡ []). absurd (omega (arith, ap length e))) (λ (e : length (x ∷ m) ≡ layout .length). sized-bytes layout (x ∷ m) e) h
 
 module _ (F : Scenario) (p : Proper F) where
-  -- the length of a message of round c
-  abbrev lenOf : ℕ → ℕ
-  lenOf c = messageLength (F .n) (F .t) (F .k) c
-
   slot-to-bytes : (c : ℕ) (now : ℕ → Playing) → ((j : ℕ) → Bytes (now j .outbox)) → (i j : ℕ) → Bytes (slotTo F c now i j)
   slot-to-bytes c now h i j =
       ⊎-elim
       (λ (y : F .faulty j ≡ true).
       subst Bytes (sym (slot-faulty F c now i j y))
-      (written-each Byte (lit< tt) (lit< tt) (lenOf c) (spoken (F .said c j i)) (subst Bytes (sym (spoken-content (F .said c j i))) (p .said-bytes c j i))))
-      (λ (y : F .faulty j ≡ false). subst Bytes (sym (slot-correct F c now i j y)) (slot-bytes (now j .outbox) (lenOf c) i (h j)))
+      (written-each Byte (lit< tt) (lit< tt) (layoutAt F c) (sentAs (F .said c j i)) (subst Bytes (sym (sent-content (F .said c j i))) (p .said-bytes c j i))))
+      (λ (y : F .faulty j ≡ false). subst Bytes (sym (slot-correct F c now i j y)) (slot-bytes (now j .outbox) (layoutAt F c) i (h j)))
       (either (F .faulty j))
 
   box-bytes : (c : ℕ) (now : ℕ → Playing) → ((j : ℕ) → Bytes (now j .outbox)) → (i : ℕ) → Bytes (inboxOf F c now i)
   box-bytes zero now h i = subst Bytes (sym (inbox-first F now i)) (λ x. lit< tt)
   box-bytes (suc c) now h i =
       subst Bytes (sym (inbox-later F c now i))
-      (all-joined Byte (λ x. slotTo F (suc c) now i (x + 1)) (F .n) (lit< tt) (λ x l. slot-to-bytes (suc c) now h i (x + 1)))
+      (all-joined Byte (λ x. slotTo F (suc c) now i (x + 1)) (F .settings .n) (lit< tt) (λ x l. slot-to-bytes (suc c) now h i (x + 1)))
 
   -- an outbox is lent cleared
-  pub lent-bytes : (c : ℕ) → IsBytes (outboxLength (F .n) (F .t) (F .k) c) (outboxOf F c)
-  lent-bytes c = subst (IsBytes (outboxLength (F .n) (F .t) (F .k) c)) (sym (cleared F c)) (zeros-bytes (outboxLength (F .n) (F .t) (F .k) c))
+  pub lent-bytes : (c : ℕ) → IsBytes (outboxLength (F .settings .n) (F .settings .t) (F .settings .k) c) (outboxOf F c)
+  lent-bytes c = subst (IsBytes (outboxLength (F .settings .n) (F .settings .t) (F .settings .k) c)) (sym (cleared F c)) (zeros-bytes (outboxLength (F .settings .n) (F .settings .t) (F .settings .k) c))
 
   -- block and outbox of a controller after c calls
   pub record Kept (c i : ℕ) : Type 0 where
-    pub block-is : IsBytes (blockLength (F .k) (F .t)) (played F c i .block)
+    pub block-is : IsBytes (blockLength (F .settings .k) (F .settings .t)) (played F c i .block)
     pub sends : Bytes (played F c i .outbox)
 
   -- a call of a correct controller
@@ -91,7 +88,7 @@ module _ (F : Scenario) (p : Proper F) where
   kept zero i =
       let e = played-start F i ∙ began-is F i in
       record {
-        block-is = subst (λ (x : Playing). IsBytes (blockLength (F .k) (F .t)) (x .block)) (sym e) (record { size = p .block-length; bytes = p .block-bytes });
+        block-is = subst (λ (x : Playing). IsBytes (blockLength (F .settings .k) (F .settings .t)) (x .block)) (sym e) (record { size = p .block-length; bytes = p .block-bytes });
         sends = subst (λ (x : Playing). Bytes (x .outbox)) (sym e) (λ x. lit< tt);
       }
   kept (suc c) i =
@@ -100,7 +97,7 @@ module _ (F : Scenario) (p : Proper F) where
       (λ (y : F .faulty i ≡ true).
       let e = sym (played-faulty F c i y) in
       record {
-        block-is = subst (λ (x : Playing). IsBytes (blockLength (F .k) (F .t)) (x .block)) e (q .block-is);
+        block-is = subst (λ (x : Playing). IsBytes (blockLength (F .settings .k) (F .settings .t)) (x .block)) e (q .block-is);
         sends = subst (λ (x : Playing). Bytes (x .outbox)) e (q .sends);
       })
       (λ (y : F .faulty i ≡ false).
@@ -108,7 +105,7 @@ module _ (F : Scenario) (p : Proper F) where
       let r = after-bytes c i (q .block-is .bytes) (λ j. kept c j .sends) in
       record {
         block-is =
-            subst (λ (x : Playing). IsBytes (blockLength (F .k) (F .t)) (x .block)) e
+            subst (λ (x : Playing). IsBytes (blockLength (F .settings .k) (F .settings .t)) (x .block)) e
             (subst (λ (m : ℕ). IsBytes m (after c i .block)) (q .block-is .size) (r .0));
         sends = subst (λ (x : Playing). Bytes (x .outbox)) e (r .1 .bytes);
       })
@@ -119,45 +116,45 @@ module _ (F : Scenario) (p : Proper F) where
 
   -- ---- lengths
   -- what a correct controller's call sends is as long as its outbox
-  sent-size : (c i : ℕ) → F .faulty i ≡ false → length (played F (suc c) i .outbox) ≡ outboxLength (F .n) (F .t) (F .k) (suc c)
+  sent-size : (c i : ℕ) → F .faulty i ≡ false → length (played F (suc c) i .outbox) ≡ outboxLength (F .settings .n) (F .settings .t) (F .settings .k) (suc c)
   unfolding taken
   sent-size c i y =
       ap (λ (x : Playing). length (x .outbox)) (step-is c i y)
       ∙ after-bytes c i (kept c i .block-is .bytes) (λ j. kept c j .sends) .1 .size
       ∙ lent-bytes (c + 1) .size
-      ∙ ap (outboxLength (F .n) (F .t) (F .k)) (add-one c)
+      ∙ ap (outboxLength (F .settings .n) (F .settings .t) (F .settings .k)) (add-one c)
 
-  some-length : (c : ℕ) → suc c ≤ 3 * F .t + 8 → 1 ≤ lenOf (suc c)
+  some-length : (c : ℕ) → suc c ≤ 3 * F .settings .t + 8 → 1 ≤ layoutAt F (suc c) .length
   some-length c l = length-pos (p .coded) (suc c) (omega arith) l
 
-  slot-size : (c i j : ℕ) → suc c ≤ 3 * F .t + 8 → Numbered (F .n) i → length (slotTo F (suc c) (played F (suc c)) i j) ≡ width (lenOf (suc c))
+  slot-size : (c i j : ℕ) → suc c ≤ 3 * F .settings .t + 8 → Numbered (F .settings .n) i → length (slotTo F (suc c) (played F (suc c)) i j) ≡ width (layoutAt F (suc c))
   slot-size c i j l v =
       ⊎-elim
       (λ (y : F .faulty j ≡ true).
-      ap length (slot-faulty F (suc c) (played F (suc c)) i j y) ∙ spoken-sized (lenOf (suc c)) (F .said (suc c) j i) (p .said-length (suc c) j i))
+      ap length (slot-faulty F (suc c) (played F (suc c)) i j y) ∙ sent-sized (layoutAt F (suc c)) (F .said (suc c) j i) (p .said-length (suc c) j i))
       (λ (y : F .faulty j ≡ false).
       ap length (slot-correct F (suc c) (played F (suc c)) i j y)
-      ∙ slot-length (played F (suc c) j .outbox) (lenOf (suc c)) i (v .least)
-      (subst (λ (m : ℕ). i * width (lenOf (suc c)) ≤ m)
-      (sym (sent-size c j y ∙ outbox-of (F .n) (F .t) (F .k) (suc c) (some-length c l)))
-      (mul-le-mul-right (width (lenOf (suc c))) (v .most))))
+      ∙ slot-length (played F (suc c) j .outbox) (layoutAt F (suc c)) i (v .least)
+      (subst (λ (m : ℕ). i * width (layoutAt F (suc c)) ≤ m)
+      (sym (sent-size c j y ∙ outbox-of (F .settings .n) (F .settings .t) (F .settings .k) (suc c) (some-length c l)))
+      (mul-le-mul-right (width (layoutAt F (suc c))) (v .most))))
       (either (F .faulty j))
 
-  pub inbox-size : (c i : ℕ) → c ≤ 3 * F .t + 8 → Numbered (F .n) i → length (inboxOf F c (played F c) i) ≡ inboxLength (F .n) (F .t) (F .k) (c + 1)
-  inbox-size zero i l v = ap length (inbox-first F (played F 0) i) ∙ sym (first-inbox (F .n) (F .t) (F .k))
+  pub inbox-size : (c i : ℕ) → c ≤ 3 * F .settings .t + 8 → Numbered (F .settings .n) i → length (inboxOf F c (played F c) i) ≡ inboxLength (F .settings .n) (F .settings .t) (F .settings .k) (c + 1)
+  inbox-size zero i l v = ap length (inbox-first F (played F 0) i) ∙ sym (first-inbox (F .settings .n) (F .settings .t) (F .settings .k))
   inbox-size (suc c) i l v =
       ap length (inbox-later F c (played F (suc c)) i)
-      ∙ length-joined (width (lenOf (suc c))) (λ x. slotTo F (suc c) (played F (suc c)) i (x + 1)) (F .n) (λ x b. slot-size c i (x + 1) l v)
-      ∙ sym (inbox-of (F .n) (F .t) (F .k) (suc c) (some-length c l))
+      ∙ length-joined (width (layoutAt F (suc c))) (λ x. slotTo F (suc c) (played F (suc c)) i (x + 1)) (F .settings .n) (λ x b. slot-size c i (x + 1) l v)
+      ∙ sym (inbox-of (F .settings .n) (F .settings .t) (F .settings .k) (suc c) (some-length c l))
 
   -- slot i of an inbox is what came from i
-  pub in-slot : (c i j : ℕ) → suc c ≤ 3 * F .t + 8 → Numbered (F .n) i → Numbered (F .n) j
-      → slotOf (inboxOf F (suc c) (played F (suc c)) j) (lenOf (suc c)) i ≡ slotTo F (suc c) (played F (suc c)) j i
+  pub in-slot : (c i j : ℕ) → suc c ≤ 3 * F .settings .t + 8 → Numbered (F .settings .n) i → Numbered (F .settings .n) j
+      → slotOf (inboxOf F (suc c) (played F (suc c)) j) (layoutAt F (suc c)) i ≡ slotTo F (suc c) (played F (suc c)) j i
   in-slot c i j l v w =
       let a = v .least in
       let b = v .most in
       let e : i - 1 + 1 ≡ i = omega arith in
-      slot-part (inboxOf F (suc c) (played F (suc c)) j) (lenOf (suc c)) i
-      ∙ ap (λ (x : List ℕ). part (width (lenOf (suc c))) x (i - 1)) (inbox-later F c (played F (suc c)) j)
-      ∙ part-joined (width (lenOf (suc c))) (λ x. slotTo F (suc c) (played F (suc c)) j (x + 1)) (F .n) (λ x d. slot-size c j (x + 1) l w) (i - 1) (omega arith)
+      slot-part (inboxOf F (suc c) (played F (suc c)) j) (layoutAt F (suc c)) i
+      ∙ ap (λ (x : List ℕ). part (width (layoutAt F (suc c))) x (i - 1)) (inbox-later F c (played F (suc c)) j)
+      ∙ part-joined (width (layoutAt F (suc c))) (λ x. slotTo F (suc c) (played F (suc c)) j (x + 1)) (F .settings .n) (λ x d. slot-size c j (x + 1) l w) (i - 1) (omega arith)
       ∙ ap (slotTo F (suc c) (played F (suc c)) j) e

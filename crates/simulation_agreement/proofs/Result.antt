@@ -15,7 +15,7 @@ use Rattle.simulation_agreement.proofs.Run.{systemOf, number-of, not-fa
 some-correct : (F : Scenario) (p : Proper F) → Tolerated F → (x : ℕ) × Correct (systemOf F p) (x + 1)
 some-correct F p few =
     let q = p .coded .quorum .t-most in
-    let r = count-member (F .n) (λ i. not (F .faulty (i + 1))) (omega (arith, few, count-not (F .n) (λ i. F .faulty (i + 1)))) in
+    let r = count-member (F .settings .n) (λ i. not (F .faulty (i + 1))) (omega (arith, few, count-not (F .settings .n) (λ i. F .faulty (i + 1)))) in
     (r .0, record { least = omega arith; most = omega (arith, r .1); is = r .2 })
 
 pub one-result : SimulationAgrees
@@ -38,6 +38,6 @@ one-result F p few =
             shown i g .1 ∙ C .same-block i a g f ∙ sym (shown a f .1),
           );
       sender-agreed = λ y.
-          let g : Correct S (F .sender) = record { least = p .sender-number .least; most = p .sender-number .most; is = ap not y } in
+          let g : Correct S (F .settings .sender) = record { least = p .sender-number .least; most = p .sender-number .most; is = ap not y } in
           (shown a f .0 ∙ C .sender-outcome a g f, shown a f .1 ∙ C .sender-block a g f);
     }

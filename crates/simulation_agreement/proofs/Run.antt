@@ -12,6 +12,7 @@ use Rattle.lists.specs.Fill.{tabulate}
 use Rattle.lists.proofs.Tests.{not-not}
 use Rattle.lists.proofs.Sums.{count-ext}
 use Rattle.lists.proofs.Fills.{length-tabulate, getD-tabulate}
+use Rattle.settings.specs.declared.Settings.{Settings}
 use Rattle.settings.specs.Valid.{Numbered, Valid}
 use Rattle.settings.proofs.Laws.{0-start}
 use Rattle.wire.specs.Length.{blockLength, blockSize, messageLength, inboxLength, outboxLength}
@@ -22,8 +23,8 @@ use Rattle.protocol.specs.Step.{startOf}
 use Rattle.protocol.proofs.Laws.{start-number, start-state, start-length, step-number, of-ready}
 use Rattle.agreement.specs.Run.{Lent, Held, Made, stepped, left, ends, made, calls}
 use Rattle.agreement.specs.Agreement.{System, Correct, Supposed, atStart, callsOf, atEnd, noCall, call, Arrives}
-use Rattle.agreement.proofs.Run.{numberOf, At, step-at, settings-at}
-use Rattle.simulation.specs.Run.{Scenario, Proper, Playing, inboxOf, outboxOf, played, last, ended}
+use Rattle.agreement.proofs.Run.{numberOf, At, step-at, valid-at}
+use Rattle.simulation.specs.Run.{layoutAt, Scenario, Proper, Playing, inboxOf, outboxOf, played, last, ended}
 use Rattle.simulation.proofs.Laws.{began-is, called-is, slot-correct, played-start, played-correct}
 use Rattle.simulation_agreement.specs.Simulation.{Tolerated}
 use Rattle.simulation_agreement.proofs.Boxes.{kept, inbox-bytes, lent-bytes, inbox-size, in-slot}
@@ -41,10 +42,7 @@ lentTo F p i c = record { inbox = inboxOf F c (played F c) i; outbox = outboxOf 
 
 abbrev pub systemOf : (F : Scenario) → Proper F → System
 systemOf F p = record {
-  n = F .n;
-  t = F .t;
-  k = F .k;
-  sender = F .sender;
+  settings = F .settings;
   correct = λ i. not (F .faulty i);
   block = λ i. F .block;
   block-bytes = λ i. p .block-bytes;
@@ -52,16 +50,16 @@ systemOf F p = record {
 }
 
 -- ---- one correct controller
-module _ (F : Scenario) (p : Proper F) (i : ℕ) (v : Numbered (F .n) i) (y : F .faulty i ≡ false) where
-  valid : Valid (record { n = F .n; t = F .t; k = F .k; number = i; sender = F .sender })
+module _ (F : Scenario) (p : Proper F) (i : ℕ) (v : Numbered (F .settings .n) i) (y : F .faulty i ≡ false) where
+  valid : Valid (F .settings) i
   valid = record { coded = p .coded; number = v; sender = p .sender-number }
 
-  pub start-carried : startOf (F .n) (F .t) (F .k) i (F .sender) (length (F .block)) .number ≡ 0
+  pub start-carried : startOf (F .settings) i (length (F .block)) .number ≡ 0
   start-carried =
-      start-number (F .n) (F .t) (F .k) i (F .sender) (length (F .block))
-      ∙ sym (start-length (F .n) (F .t) (F .k) i (F .sender) (length (F .block)))
-      ∙ 0-start (record { n = F .n; t = F .t; k = F .k; number = i; sender = F .sender }) (eqb (length (F .block)) (blockSize (F .n) (F .t) (F .k))) valid
-      (eq-eqb (length (F .block)) (blockSize (F .n) (F .t) (F .k)) (p .block-length ∙ sym (block-size (p .coded))))
+      start-number (F .settings) i (length (F .block))
+      ∙ sym (start-length (F .settings) i (length (F .block)))
+      ∙ 0-start (F .settings) i (eqb (length (F .block)) (blockSize (F .settings .n) (F .settings .t) (F .settings .k))) valid
+      (eq-eqb (length (F .block)) (blockSize (F .settings .n) (F .settings .t) (F .settings .k)) (p .block-length ∙ sym (block-size (p .coded))))
 
   -- the run's call is a step on what is held, with what is lent
   goes-on : (c : ℕ) → left (heldBy F i c) (lentTo F p i c) ≡ heldBy F i (suc c)
@@ -74,36 +72,33 @@ module _ (F : Scenario) (p : Proper F) (i : ℕ) (v : Numbered (F .n) i) (y : F 
   begins = sym (ap holding (played-start F i ∙ began-is F i))
 
   -- each call is carried out
-  carried : (c : ℕ) → c < last F → At (F .n) (F .t) (F .k) i (F .sender) (c + 1) (heldBy F i c) → numberOf (heldBy F i c) (lentTo F p i c) ≡ 0
+  carried : (c : ℕ) → c < last F → At (F .settings) i (c + 1) (heldBy F i c) → numberOf (heldBy F i c) (lentTo F p i c) ≡ 0
   carried c l a =
       of-ready (played F c i .state) (length (played F c i .block)) (length (inboxOf F c (played F c) i)) (length (outboxOf F (c + 1)))
       (record {
-        valid = subst Valid (sym (settings-at (heldBy F i c) a)) valid;
+        valid = valid-at (heldBy F i c) a valid;
         next-least = omega arith;
-        next-most = omega arith;
-        block-length = kept F p c i .block-is .size ∙ sym (λ x. blockLength (a .k-is x) (a .t-is x));
-        inbox-length = inbox-size F p c i (omega arith) v ∙ sym (λ x. inboxLength (a .n-is x) (a .t-is x) (a .k-is x) (a .next-is x));
-        outbox-length = lent-bytes F p (c + 1) .size ∙ sym (λ x. outboxLength (a .n-is x) (a .t-is x) (a .k-is x) (a .next-is x));
+        next-most = omega (arith, ap (λ (x : Settings). x .t) (a .settings-is));
+        block-length = kept F p c i .block-is .size ∙ sym (λ x. blockLength (a .settings-is x .k) (a .settings-is x .t));
+        inbox-length = inbox-size F p c i (omega arith) v ∙ sym (λ x. inboxLength (a .settings-is x .n) (a .settings-is x .t) (a .settings-is x .k) (a .next-is x));
+        outbox-length = lent-bytes F p (c + 1) .size ∙ sym (λ x. outboxLength (a .settings-is x .n) (a .settings-is x .t) (a .settings-is x .k) (a .next-is x));
       })
 
   -- after c calls the next one is c + 1
-  at : (c : ℕ) → c ≤ last F → At (F .n) (F .t) (F .k) i (F .sender) (c + 1) (heldBy F i c)
+  at : (c : ℕ) → c ≤ last F → At (F .settings) i (c + 1) (heldBy F i c)
   at zero l =
-      let e = sym (ap (λ (h : Held). h .state) begins) ∙ start-state (F .n) (F .t) (F .k) i (F .sender) (length (F .block)) start-carried in
+      let e = sym (ap (λ (h : Held). h .state) begins) ∙ start-state (F .settings) i (length (F .block)) start-carried in
       record {
-        n-is = ap (λ (s : State). s .n) e;
-        t-is = ap (λ (s : State). s .t) e;
-        k-is = ap (λ (s : State). s .k) e;
+        settings-is = ap (λ (s : State). s .settings) e;
         own-is = ap (λ (s : State). s .own) e;
-        sender-is = ap (λ (s : State). s .sender) e;
         next-is = ap (λ (s : State). s .next) e;
       }
   at (suc c) l =
       let a = at c (omega arith) in
       let e : c + 1 + 1 ≡ suc c + 1 = omega arith in
-      subst (λ (x : ℕ). At (F .n) (F .t) (F .k) i (F .sender) x (heldBy F i (suc c))) e
-      (subst (At (F .n) (F .t) (F .k) i (F .sender) (c + 1 + 1)) (goes-on c)
-      (step-at (F .n) (F .t) (F .k) i (F .sender) (c + 1) (heldBy F i c) (lentTo F p i c) a (carried c (omega arith) a)))
+      subst (λ (x : ℕ). At (F .settings) i x (heldBy F i (suc c))) e
+      (subst (At (F .settings) i (c + 1 + 1)) (goes-on c)
+      (step-at (F .settings) i (c + 1) (heldBy F i c) (lentTo F p i c) a (carried c (omega arith) a)))
 
   goes : (c : ℕ) → c < last F → Goes (heldBy F i) (lentTo F p i) c
   goes c l = record {
@@ -137,7 +132,7 @@ module _ (F : Scenario) (p : Proper F) (i : ℕ) (v : Numbered (F .n) i) (y : F 
 
 -- ---- all of them
 module _ (F : Scenario) (p : Proper F) where
-  pub number-of : (i : ℕ) → Correct (systemOf F p) i → Numbered (F .n) i
+  pub number-of : (i : ℕ) → Correct (systemOf F p) i → Numbered (F .settings .n) i
   number-of i f = record { least = f .least; most = f .most }
 
   pub not-faulty : (i : ℕ) → Correct (systemOf F p) i → F .faulty i ≡ false
@@ -146,7 +141,7 @@ module _ (F : Scenario) (p : Proper F) where
   -- what i sent to j in round c + 1 is what j's next call is lent
   slot-arrives : (i j c : ℕ) → Correct (systemOf F p) i → Correct (systemOf F p) j → suc c < last F → Arrives (systemOf F p) i j (suc c)
   slot-arrives i j c f g l =
-      let len = messageLength (F .n) (F .t) (F .k) (suc c) in
+      let layout = layoutAt F (suc c) in
       let vi = number-of i f in
       let vj = number-of j g in
       let yi = not-faulty i f in
@@ -157,10 +152,10 @@ module _ (F : Scenario) (p : Proper F) where
       ap (λ (x : ℕ). getD (callsOf (systemOf F p) j) x noCall) a ∙ call-is F p j vj yj (suc c) l in
       let sends : call (systemOf F p) i (suc c) ≡ made (heldBy F i c) (lentTo F p i c) =
       ap (λ (x : ℕ). getD (callsOf (systemOf F p) i) x noCall) b ∙ call-is F p i vi yi c (omega arith) in
-      ap (λ (m : Made). slotOf (m .lent .inbox) len i) reads
+      ap (λ (m : Made). slotOf (m .lent .inbox) layout i) reads
       ∙ in-slot F p c i j (omega arith) vi vj
       ∙ slot-correct F (suc c) (played F (suc c)) j i yi
-      ∙ sym (ap (λ (m : Made). slotOf (m .sends) len j) sends ∙ ap (λ (o : List ℕ). slotOf o len j) (sends-on F p i vi yi c))
+      ∙ sym (ap (λ (m : Made). slotOf (m .sends) layout j) sends ∙ ap (λ (o : List ℕ). slotOf o layout j) (sends-on F p i vi yi c))
 
   arrival : (i j c : ℕ) → Correct (systemOf F p) i → Correct (systemOf F p) j → 1 ≤ c → c < last F → Arrives (systemOf F p) i j c
   arrival i j zero f g least most = absurd (omega arith)
@@ -169,7 +164,7 @@ module _ (F : Scenario) (p : Proper F) where
   pub run-supposed : Tolerated F → Supposed (systemOf F p)
   run-supposed few = record {
     tolerance = p .coded .quorum .t-most;
-    few = omega (arith, few, count-ext (F .n) (λ i. not (not (F .faulty (i + 1)))) (λ i. F .faulty (i + 1)) (λ i l. not-not (F .faulty (i + 1))));
+    few = omega (arith, few, count-ext (F .settings .n) (λ i. not (not (F .faulty (i + 1)))) (λ i. F .faulty (i + 1)) (λ i l. not-not (F .faulty (i + 1))));
     started = λ i f. start-carried F p i (number-of i f) (not-faulty i f);
     finished = λ i f. all-made F p i (number-of i f) (not-faulty i f);
     arrives = arrival;

@@ -17,9 +17,9 @@ use Rattle.simulator.specs.Output.{namesLine, results, simulated}
 pub record OneOutput (input : List ℕ) (c : Contents) : Type 0 where
   pub outcome : Outcome
   pub block : List ℕ
-  pub lines : simulated input ≡ namesLine ++ results (isFaulty (c .messages)) (λ _. outcome) (λ _. block) (c .n)
-  pub sender-agreed : isFaulty (c .messages) (c .sender) ≡ false → (outcome ≡ Agreed) × (block ≡ c .block)
+  pub lines : simulated input ≡ namesLine ++ results (isFaulty (c .messages)) (λ _. outcome) (λ _. block) (c .settings .n)
+  pub sender-agreed : isFaulty (c .messages) (c .settings .sender) ≡ false → (outcome ≡ Agreed) × (block ≡ c .block)
 
 abbrev pub SimulatorAgrees : Type 0
 SimulatorAgrees =
-    (input : List ℕ) (c : Contents) → readOf input ≡ right c → count (c .n) (λ i. isFaulty (c .messages) (i + 1)) ≤ c .t → OneOutput input c
+    (input : List ℕ) (c : Contents) → readOf input ≡ right c → count (c .settings .n) (λ i. isFaulty (c .messages) (i + 1)) ≤ c .settings .t → OneOutput input c

@@ -12,15 +12,15 @@ use Rattle.reconstruction.specs.declared.Outcome.the-variants.{Agreed}
 use Rattle.simulation.specs.Run.{Scenario, Proper, ended}
 
 abbrev pub Tolerated : Scenario → Type 0
-Tolerated F = count (F .n) (λ i. F .faulty (i + 1)) ≤ F .t
+Tolerated F = count (F .settings .n) (λ i. F .faulty (i + 1)) ≤ F .settings .t
 
 pub record OneResult (F : Scenario) : Type 0 where
   pub outcome : Outcome
   pub block : List ℕ
   -- each correct controller ends with both
-  pub all : (i : ℕ) → 1 ≤ i → i ≤ F .n → F .faulty i ≡ false → (ended F i .state .outcome ≡ outcome) × (ended F i .block ≡ block)
+  pub all : (i : ℕ) → 1 ≤ i → i ≤ F .settings .n → F .faulty i ≡ false → (ended F i .state .outcome ≡ outcome) × (ended F i .block ≡ block)
   -- a correct sender's block is agreed on
-  pub sender-agreed : F .faulty (F .sender) ≡ false → (outcome ≡ Agreed) × (block ≡ F .block)
+  pub sender-agreed : F .faulty (F .settings .sender) ≡ false → (outcome ≡ Agreed) × (block ≡ F .block)
 
 abbrev pub SimulationAgrees : Type 0
 SimulationAgrees = (F : Scenario) → Proper F → Tolerated F → OneResult F

@@ -40,7 +40,7 @@ pub simulated-wrong : (input : List ℕ) (x : ℕ) → readOf input ≡ wrong x 
 unfolding simulated writtenFor
 simulated-wrong input x e = ap (writtenFor input) e
 
-pub output-is : (F : Scenario) → outputOf F ≡ namesLine ++ results (F .faulty) (λ i. ended F i .state .outcome) (λ i. ended F i .block) (F .n)
+pub output-is : (F : Scenario) → outputOf F ≡ namesLine ++ results (F .faulty) (λ i. ended F i .state .outcome) (λ i. ended F i .block) (F .settings .n)
 unfolding outputOf
 output-is F = refl
 
@@ -58,28 +58,28 @@ scenario-proper input c e =
 
 -- the scenario of the table
 pub table-output : (input : List ℕ) (c : Contents) → readOf input ≡ right c
-    → outputOf (tableScenario (c .n) (c .t) (c .k) (c .sender) (c .block) (setOf 16 (λ i. isFaulty (c .messages) (i + 1))) (tableOf (c .messages)) input)
+    → outputOf (tableScenario (c .settings) (c .block) (setOf 16 (λ i. isFaulty (c .messages) (i + 1))) (tableOf (c .messages)) input)
     ≡ outputOf (scenarioOf input c)
 table-output input c e =
     let q = read-right input c e in
     let few = q .coded .quorum .n-most in
     let set = setOf 16 (λ i. isFaulty (c .messages) (i + 1)) in
-    let T = tableScenario (c .n) (c .t) (c .k) (c .sender) (c .block) set (tableOf (c .messages)) input in
+    let T = tableScenario (c .settings) (c .block) set (tableOf (c .messages)) input in
     let F = scenarioOf input c in
-    let faulty : (j : ℕ) → 1 ≤ j → j ≤ c .n → member set (j - 1) ≡ isFaulty (c .messages) j =
+    let faulty : (j : ℕ) → 1 ≤ j → j ≤ c .settings .n → member set (j - 1) ≡ isFaulty (c .messages) j =
     λ j a b.
     let back : j - 1 + 1 ≡ j = omega arith in
     faulty-member c (j - 1) (omega (arith, few)) ∙ ap (isFaulty (c .messages)) back in
-    let said : (r f j : ℕ) → 1 ≤ r → r ≤ 3 * c .t + 8 → 1 ≤ f → f ≤ c .n → 1 ≤ j → j ≤ c .n
-    → textOf input (messageLength (c .n) (c .t) (c .k) r) (placeIn (tableOf (c .messages)) r f j) ≡ saidOf input c r f j =
+    let said : (r f j : ℕ) → 1 ≤ r → r ≤ 3 * c .settings .t + 8 → 1 ≤ f → f ≤ c .settings .n → 1 ≤ j → j ≤ c .settings .n
+    → textOf input (messageLength (c .settings .n) (c .settings .t) (c .settings .k) r) (placeIn (tableOf (c .messages)) r f j) ≡ saidOf input c r f j =
     λ r f j a b d g h k.
-    ap (textOf input (messageLength (c .n) (c .t) (c .k) r))
+    ap (textOf input (messageLength (c .settings .n) (c .settings .t) (c .settings .k) r))
     (table-place (c .messages) r f j a (omega (arith, few, q .coded .quorum .t-most)) d (omega (arith, few)) h (omega (arith, few))) ∙ sym (said-is input c r f j) in
-    let same : (i : ℕ) → 1 ≤ i → i ≤ c .n → ended T i ≡ ended F i =
-    λ i a b. played-alike (c .n) (c .t) (c .k) (c .sender) (c .block) (λ j. member set (j - 1)) (isFaulty (c .messages))
-    (λ r f j. textOf input (messageLength (c .n) (c .t) (c .k) r) (placeIn (tableOf (c .messages)) r f j)) (saidOf input c) faulty said (3 * c .t + 9) i (omega arith) a b in
+    let same : (i : ℕ) → 1 ≤ i → i ≤ c .settings .n → ended T i ≡ ended F i =
+    λ i a b. played-alike (c .settings) (c .block) (λ j. member set (j - 1)) (isFaulty (c .messages))
+    (λ r f j. textOf input (messageLength (c .settings .n) (c .settings .t) (c .settings .k) r) (placeIn (tableOf (c .messages)) r f j)) (saidOf input c) faulty said (3 * c .settings .t + 9) i (omega arith) a b in
     output-is T
     ∙ ap (λ (l : List ℕ). namesLine ++ l)
-    (results-alike (λ j. member set (j - 1)) (isFaulty (c .messages)) (λ i. ended T i .state .outcome) (λ i. ended F i .state .outcome) (λ i. ended T i .block) (λ i. ended F i .block) (c .n) faulty
+    (results-alike (λ j. member set (j - 1)) (isFaulty (c .messages)) (λ i. ended T i .state .outcome) (λ i. ended F i .state .outcome) (λ i. ended T i .block) (λ i. ended F i .block) (c .settings .n) faulty
     (λ i a b _. (ap (λ (p : Playing). p .state .outcome) (same i a b), ap (λ (p : Playing). p .block) (same i a b))))
     ∙ sym (output-is F)

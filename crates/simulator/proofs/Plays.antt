@@ -15,6 +15,7 @@ use Rattle.lists.proofs.Sums.{below-suc}
 use Rattle.lists.proofs.Parts.{slot-within, length-put}
 use Rattle.lists.proofs.Joins.{part-put-same, part-put-other}
 use Rattle.bitset.specs.Set.{member}
+use Rattle.settings.specs.declared.Settings.{Settings}
 use Rattle.wire.specs.Length.{blockLength, messageLength, inboxLength, outboxLength}
 use Rattle.wire.specs.Slot.{copied}
 use Rattle.wire.proofs.Laws.{length-pos, inbox-of, outbox-of, copied-all}
@@ -28,48 +29,48 @@ use Rattle.simulator.specs.Steps.{Small, Rooms, Calling, Called, Held, t
 use Rattle.simulator.proofs.Running.{lent-length, inbox-most, outbox-most}
 
 -- a run finds what each call finds
-pub playable-calling : (input places : List ℕ) (n t k c : ℕ) (blocks₀ blocks sent sending : List ℕ) → Small n t k → Rooms input places n t k
-    → n * blockLength k t ≤ length blocks₀ → length blocks ≡ length blocks₀ → length sent ≡ 49408 → length sending ≡ 49408 → c ≤ 3 * t + 8
-    → Calling input places n t k c blocks sent sending
-playable-calling input places n t k c blocks₀ blocks sent sending v rooms room same is-sent is-sending most =
+pub playable-calling : (input places : List ℕ) (S : Settings) (c : ℕ) (blocks₀ blocks sent sending : List ℕ) → Small S → Rooms input places S
+    → S .n * blockLength (S .k) (S .t) ≤ length blocks₀ → length blocks ≡ length blocks₀ → length sent ≡ 49408 → length sending ≡ 49408 → c ≤ 3 * S .t + 8
+    → Calling input places S c blocks sent sending
+playable-calling input places S c blocks₀ blocks sent sending v rooms room same is-sent is-sending most =
     let few = v .coded .quorum .n-most in
     record {
       small = v;
       rooms = rooms;
       calls-most = most;
       blocks-room = omega (arith, room, same);
-      sent-room = omega (arith, is-sent, mul-le-mul {n₁ = n} {m₁ = inboxLength n t k (c + 1)} {n₂ = 16} {m₂ = 3088} few (inbox-most v c most));
+      sent-room = omega (arith, is-sent, mul-le-mul {n₁ = S .n} {m₁ = inboxLength (S .n) (S .t) (S .k) (c + 1)} {n₂ = 16} {m₂ = 3088} few (inbox-most v c most));
       sent-most = omega (arith, is-sent);
-      sending-room = omega (arith, is-sending, mul-le-mul {n₁ = n} {m₁ = outboxLength n t k (c + 1)} {n₂ = 16} {m₂ = 3088} few (outbox-most v (c + 1) (omega arith) (omega arith)));
+      sending-room = omega (arith, is-sending, mul-le-mul {n₁ = S .n} {m₁ = outboxLength (S .n) (S .t) (S .k) (c + 1)} {n₂ = 16} {m₂ = 3088} few (outbox-most v (c + 1) (omega arith) (omega arith)));
     }
 
-module _ (n t k sender : ℕ) (block : List ℕ) (faulty : ℕ) (places input : List ℕ) (v : Small n t k) where
+module _ (S : Settings) (block : List ℕ) (faulty : ℕ) (places input : List ℕ) (v : Small S) where
   F : Scenario
-  F = tableScenario n t k sender block faulty places input
+  F = tableScenario S block faulty places input
 
-  module _ (c : ℕ) (states next : List State) (blocks blocks′ sent sending : List ℕ) (most : c ≤ 3 * t + 8)
-      (H : Held (tableScenario n t k sender block faulty places input) c states blocks (blockLength k t) sent (inboxLength n t k (c + 1)))
-      (C : Called (tableScenario n t k 0 [] faulty places input) c (nowOf states blocks (blockLength k t) sent (inboxLength n t k (c + 1)))
-      (nowOf next blocks′ (blockLength k t) sending (outboxLength n t k (c + 1)))) where
+  module _ (c : ℕ) (states next : List State) (blocks blocks′ sent sending : List ℕ) (most : c ≤ 3 * S .t + 8)
+      (H : Held (tableScenario S block faulty places input) c states blocks (blockLength (S .k) (S .t)) sent (inboxLength (S .n) (S .t) (S .k) (c + 1)))
+      (C : Called (tableScenario S [] faulty places input) c (nowOf states blocks (blockLength (S .k) (S .t)) sent (inboxLength (S .n) (S .t) (S .k) (c + 1)))
+      (nowOf next blocks′ (blockLength (S .k) (S .t)) sending (outboxLength (S .n) (S .t) (S .k) (c + 1)))) where
     now : ℕ → Playing
-    now = nowOf states blocks (blockLength k t) sent (inboxLength n t k (c + 1))
+    now = nowOf states blocks (blockLength (S .k) (S .t)) sent (inboxLength (S .n) (S .t) (S .k) (c + 1))
 
     after : ℕ → Playing
-    after = nowOf next blocks′ (blockLength k t) sending (outboxLength n t k (c + 1))
+    after = nowOf next blocks′ (blockLength (S .k) (S .t)) sending (outboxLength (S .n) (S .t) (S .k) (c + 1))
 
-    correct-is : (i : ℕ) → 1 ≤ i → i ≤ n → member faulty (i - 1) ≡ false → after i ≡ played F (suc c) i
+    correct-is : (i : ℕ) → 1 ≤ i → i ≤ S .n → member faulty (i - 1) ≡ false → after i ≡ played F (suc c) i
     unfolding F now after
     correct-is i a b f =
         C .correct i a b f
-        ∙ called-other n t k 0 sender [] block (λ j. member faulty (j - 1)) (λ r g j. textOf input (messageLength n t k r) (placeIn places r g j)) c now i
+        ∙ called-other S [] block (λ j. member faulty (j - 1)) (λ r g j. textOf input (messageLength (S .n) (S .t) (S .k) r) (placeIn places r g j)) c now i
         ∙ called-ext F c now (played F c) i (H .state i a b) (H .block i a b) (λ j d e g. H .outbox j d e most g)
         ∙ sym (played-correct F c i f)
 
     -- one call more
     pub held-next : (sent′ : List ℕ) → sent′ ≡ sending
-        → Held (tableScenario n t k sender block faulty places input) (c + 1) next blocks′ (blockLength k t) sent′ (inboxLength n t k (c + 1 + 1))
+        → Held (tableScenario S block faulty places input) (c + 1) next blocks′ (blockLength (S .k) (S .t)) sent′ (inboxLength (S .n) (S .t) (S .k) (c + 1 + 1))
     unfolding F now after
-    held-next sent′ is-sent = subst (λ (d : ℕ). Held F d next blocks′ (blockLength k t) sent′ (inboxLength n t k (c + 1 + 1))) (sym (add-one c)) (record {
+    held-next sent′ is-sent = subst (λ (d : ℕ). Held F d next blocks′ (blockLength (S .k) (S .t)) sent′ (inboxLength (S .n) (S .t) (S .k) (c + 1 + 1))) (sym (add-one c)) (record {
       state = λ i a b. ⊎-elim
           (λ (f : member faulty (i - 1) ≡ true).
           C .state i a b f ∙ H .state i a b ∙ ap (λ (p : Playing). p .state) (sym (played-faulty F c i f)))
@@ -82,8 +83,8 @@ module _ (n t k sender : ℕ) (block : List ℕ) (faulty : ℕ) (places input : 
           (either (member faulty (i - 1)));
       outbox = λ i a b l f.
           let pos = length-pos (v .coded) (c + 1) (omega arith) (omega arith) in
-          ap (λ (x : List ℕ). part (inboxLength n t k (c + 1 + 1)) x (i - 1)) is-sent
-          ∙ ap (λ (w : ℕ). part w sending (i - 1)) (inbox-of n t k (c + 1) pos ∙ sym (outbox-of n t k (c + 1) pos))
+          ap (λ (x : List ℕ). part (inboxLength (S .n) (S .t) (S .k) (c + 1 + 1)) x (i - 1)) is-sent
+          ∙ ap (λ (w : ℕ). part w sending (i - 1)) (inbox-of (S .n) (S .t) (S .k) (c + 1) pos ∙ sym (outbox-of (S .n) (S .t) (S .k) (c + 1) pos))
           ∙ ap (λ (p : Playing). p .outbox) (correct-is i a b f);
     })
 
@@ -109,18 +110,18 @@ module _ (n i : ℕ) (block blocks v : List ℕ) (l : i < n) (room : n * length 
   blocks-kept = length-put blocks v (i * length block) (i * length block + length block) (omega arith) (omega (arith, slot-within n (length block) i l)) (ap length copied-is ∙ omega arith)
 
 -- the states that start returns
-pub first-state : (n t k sender : ℕ) (block : List ℕ) (s : State) → s ≡ startOf n t k 1 sender (length block) .state → (x : ℕ) → x < 1
-    → getD (replicate 16 s) x zeroState ≡ startOf n t k (x + 1) sender (length block) .state
-first-state n t k sender block s e x l =
+pub first-state : (S : Settings) (block : List ℕ) (s : State) → s ≡ startOf S 1 (length block) .state → (x : ℕ) → x < 1
+    → getD (replicate 16 s) x zeroState ≡ startOf S (x + 1) (length block) .state
+first-state S block s e x l =
     let z : x ≡ 0 = omega arith in
-    getD-replicate 16 x s zeroState (omega arith) ∙ e ∙ ap (λ (y : ℕ). startOf n t k (y + 1) sender (length block) .state) (sym z)
+    getD-replicate 16 x s zeroState (omega arith) ∙ e ∙ ap (λ (y : ℕ). startOf S (y + 1) (length block) .state) (sym z)
 
-pub next-state : (n t k sender : ℕ) (block : List ℕ) (states : List State) (i : ℕ) (s : State) → i < length states → s ≡ startOf n t k (i + 1) sender (length block) .state
-    → ((x : ℕ) → x < i → getD states x zeroState ≡ startOf n t k (x + 1) sender (length block) .state)
-    → (x : ℕ) → x < i + 1 → getD (set states i s) x zeroState ≡ startOf n t k (x + 1) sender (length block) .state
-next-state n t k sender block states i s l e h x g =
+pub next-state : (S : Settings) (block : List ℕ) (states : List State) (i : ℕ) (s : State) → i < length states → s ≡ startOf S (i + 1) (length block) .state
+    → ((x : ℕ) → x < i → getD states x zeroState ≡ startOf S (x + 1) (length block) .state)
+    → (x : ℕ) → x < i + 1 → getD (set states i s) x zeroState ≡ startOf S (x + 1) (length block) .state
+next-state S block states i s l e h x g =
     ⊎-elim
     (λ (q : x ≡ i).
-    ap (λ (y : ℕ). getD (set states i s) y zeroState) q ∙ getD-set-same states i s zeroState l ∙ e ∙ ap (λ (y : ℕ). startOf n t k (y + 1) sender (length block) .state) (sym q))
+    ap (λ (y : ℕ). getD (set states i s) y zeroState) q ∙ getD-set-same states i s zeroState l ∙ e ∙ ap (λ (y : ℕ). startOf S (y + 1) (length block) .state) (sym q))
     (λ (d : x < i). getD-set-other states i x s zeroState (λ q. omega arith) ∙ h x d)
     (below-suc (omega arith))

@@ -13,6 +13,7 @@ use Rattle.lists.proofs.Sums.{below-suc}
 use Rattle.lists.proofs.Parts.{slot-within, length-put}
 use Rattle.lists.proofs.Joins.{part-put-same, part-put-other}
 use Rattle.bitset.specs.Set.{member}
+use Rattle.settings.specs.declared.Settings.{Settings}
 use Rattle.wire.specs.Length.{blockLength, inboxLength, outboxLength}
 use Rattle.protocol.specs.declared.State.{State}
 use Rattle.protocol.specs.State.{zeroState}
@@ -45,21 +46,21 @@ turn-start F faulty c now b o i states blocks sending z = record {
   same-block = λ x h. refl;
 }
 
-module _ (n t k faulty c : ℕ) (places input : List ℕ) (states : List State) (blocks₀ sent sending₀ : List ℕ)
-    (few : n ≤ length states) (blocks-room : n * blockLength k t ≤ length blocks₀) (sending-room : n * outboxLength n t k (c + 1) ≤ length sending₀) where
+module _ (S : Settings) (faulty c : ℕ) (places input : List ℕ) (states : List State) (blocks₀ sent sending₀ : List ℕ)
+    (few : S .n ≤ length states) (blocks-room : S .n * blockLength (S .k) (S .t) ≤ length blocks₀) (sending-room : S .n * outboxLength (S .n) (S .t) (S .k) (c + 1) ≤ length sending₀) where
   F : Scenario
-  F = tableScenario n t k 0 [] faulty places input
+  F = tableScenario S [] faulty places input
 
   now : ℕ → Playing
-  now = nowOf states blocks₀ (blockLength k t) sent (inboxLength n t k (c + 1))
+  now = nowOf states blocks₀ (blockLength (S .k) (S .t)) sent (inboxLength (S .n) (S .t) (S .k) (c + 1))
 
-  module _ (i : ℕ) (l : i < n) (next : List State) (blocks sending : List ℕ)
-      (T : Turned (tableScenario n t k 0 [] faulty places input) faulty c (nowOf states blocks₀ (blockLength k t) sent (inboxLength n t k (c + 1)))
-      (blockLength k t) (outboxLength n t k (c + 1)) i states next blocks₀ blocks sending₀ sending) where
+  module _ (i : ℕ) (l : i < S .n) (next : List State) (blocks sending : List ℕ)
+      (T : Turned (tableScenario S [] faulty places input) faulty c (nowOf states blocks₀ (blockLength (S .k) (S .t)) sent (inboxLength (S .n) (S .t) (S .k) (c + 1)))
+      (blockLength (S .k) (S .t)) (outboxLength (S .n) (S .t) (S .k) (c + 1)) i states next blocks₀ blocks sending₀ sending) where
     -- a faulty one stays
     pub turn-faulty : member faulty i ≡ true
-        → Turned (tableScenario n t k 0 [] faulty places input) faulty c (nowOf states blocks₀ (blockLength k t) sent (inboxLength n t k (c + 1)))
-        (blockLength k t) (outboxLength n t k (c + 1)) (i + 1) states next blocks₀ blocks sending₀ sending
+        → Turned (tableScenario S [] faulty places input) faulty c (nowOf states blocks₀ (blockLength (S .k) (S .t)) sent (inboxLength (S .n) (S .t) (S .k) (c + 1)))
+        (blockLength (S .k) (S .t)) (outboxLength (S .n) (S .t) (S .k) (c + 1)) (i + 1) states next blocks₀ blocks sending₀ sending
     turn-faulty f = record {
       next-length = T .next-length;
       blocks-length = T .blocks-length;
@@ -84,17 +85,17 @@ module _ (n t k faulty c : ℕ) (places input : List ℕ) (states : List State) 
 
     -- a correct one makes its call
     module _ (s r : State) (blocks′ sending′ : List ℕ) (is-s : s ≡ getD next i zeroState) (f : member faulty i ≡ false)
-        (P : Parted (blockLength k t) (outboxLength n t k (c + 1)) i s
-        (inboxOf (tableScenario n t k 0 [] faulty places input) c (sentBy sent (inboxLength n t k (c + 1))) (i + 1)) blocks sending r blocks′ sending′) where
+        (P : Parted (blockLength (S .k) (S .t)) (outboxLength (S .n) (S .t) (S .k) (c + 1)) i s
+        (inboxOf (tableScenario S [] faulty places input) c (sentBy sent (inboxLength (S .n) (S .t) (S .k) (c + 1))) (i + 1)) blocks sending r blocks′ sending′) where
       result-is : P .result ≡ called F c now (i + 1)
       unfolding F now
       result-is =
           let back : i + 1 - 1 ≡ i = omega arith in
           let e : s ≡ getD states (i + 1 - 1) zeroState =
           is-s ∙ T .same-state i (inl (omega arith)) ∙ ap (λ (x : ℕ). getD states x zeroState) (sym back) in
-          let g : part (blockLength k t) blocks i ≡ part (blockLength k t) blocks₀ (i + 1 - 1) =
-          T .same-block i (inl (omega arith)) ∙ ap (part (blockLength k t) blocks₀) (sym back) in
-          let m = inbox-ext F c (sentBy sent (inboxLength n t k (c + 1))) now (i + 1) (λ j _ _ _. refl) in
+          let g : part (blockLength (S .k) (S .t)) blocks i ≡ part (blockLength (S .k) (S .t)) blocks₀ (i + 1 - 1) =
+          T .same-block i (inl (omega arith)) ∙ ap (part (blockLength (S .k) (S .t)) blocks₀) (sym back) in
+          let m = inbox-ext F c (sentBy sent (inboxLength (S .n) (S .t) (S .k) (c + 1))) now (i + 1) (λ j _ _ _. refl) in
           P .is
           ∙ (λ x. taken (stepOf (e x) (g x) (m x) (sym (cleared F (c + 1)) x)))
           ∙ sym (called-is F c now (i + 1))
@@ -110,33 +111,33 @@ module _ (n t k faulty c : ℕ) (places input : List ℕ) (states : List State) 
       weak x (inl h) = inl (omega arith)
       weak x (inr h) = inr h
 
-      blocks-fit : n * blockLength k t ≤ length blocks
+      blocks-fit : S .n * blockLength (S .k) (S .t) ≤ length blocks
       blocks-fit = omega (arith, T .blocks-length, blocks-room)
 
-      sending-fit : n * outboxLength n t k (c + 1) ≤ length sending
+      sending-fit : S .n * outboxLength (S .n) (S .t) (S .k) (c + 1) ≤ length sending
       sending-fit = omega (arith, T .sending-length, sending-room)
 
-      block-other : (x : ℕ) → (x ≡ i → ⊥) → part (blockLength k t) blocks′ x ≡ part (blockLength k t) blocks x
-      block-other x d = ap (λ (y : List ℕ). part (blockLength k t) y x) (P .blocks-is) ∙ part-put-other (blockLength k t) blocks (P .result .block) n i l blocks-fit (P .block-length) x d
+      block-other : (x : ℕ) → (x ≡ i → ⊥) → part (blockLength (S .k) (S .t)) blocks′ x ≡ part (blockLength (S .k) (S .t)) blocks x
+      block-other x d = ap (λ (y : List ℕ). part (blockLength (S .k) (S .t)) y x) (P .blocks-is) ∙ part-put-other (blockLength (S .k) (S .t)) blocks (P .result .block) (S .n) i l blocks-fit (P .block-length) x d
 
-      outbox-other : (x : ℕ) → (x ≡ i → ⊥) → part (outboxLength n t k (c + 1)) sending′ x ≡ part (outboxLength n t k (c + 1)) sending x
+      outbox-other : (x : ℕ) → (x ≡ i → ⊥) → part (outboxLength (S .n) (S .t) (S .k) (c + 1)) sending′ x ≡ part (outboxLength (S .n) (S .t) (S .k) (c + 1)) sending x
       outbox-other x d =
-          ap (λ (y : List ℕ). part (outboxLength n t k (c + 1)) y x) (P .sending-is)
-          ∙ part-put-other (outboxLength n t k (c + 1)) sending (P .result .outbox) n i l sending-fit (P .outbox-length) x d
+          ap (λ (y : List ℕ). part (outboxLength (S .n) (S .t) (S .k) (c + 1)) y x) (P .sending-is)
+          ∙ part-put-other (outboxLength (S .n) (S .t) (S .k) (c + 1)) sending (P .result .outbox) (S .n) i l sending-fit (P .outbox-length) x d
 
       state-other : (x : ℕ) → (x ≡ i → ⊥) → getD (set next i r) x zeroState ≡ getD next x zeroState
       state-other x d = getD-set-other next i x r zeroState d
 
-      put-long : (w : ℕ) (d v : List ℕ) → length v ≡ w → n * w ≤ length d → length (take (i * w) d ++ (v ++ drop (i * w + w - i * w) (drop (i * w) d))) ≡ length d
-      put-long w d v e h = length-put d v (i * w) (i * w + w) (omega arith) (omega (arith, slot-within n w i l)) (e ∙ omega arith)
+      put-long : (w : ℕ) (d v : List ℕ) → length v ≡ w → S .n * w ≤ length d → length (take (i * w) d ++ (v ++ drop (i * w + w - i * w) (drop (i * w) d))) ≡ length d
+      put-long w d v e h = length-put d v (i * w) (i * w + w) (omega arith) (omega (arith, slot-within (S .n) w i l)) (e ∙ omega arith)
 
-      pub turn-correct : Turned (tableScenario n t k 0 [] faulty places input) faulty c (nowOf states blocks₀ (blockLength k t) sent (inboxLength n t k (c + 1)))
-          (blockLength k t) (outboxLength n t k (c + 1)) (i + 1) states (set next i r) blocks₀ blocks′ sending₀ sending′
+      pub turn-correct : Turned (tableScenario S [] faulty places input) faulty c (nowOf states blocks₀ (blockLength (S .k) (S .t)) sent (inboxLength (S .n) (S .t) (S .k) (c + 1)))
+          (blockLength (S .k) (S .t)) (outboxLength (S .n) (S .t) (S .k) (c + 1)) (i + 1) states (set next i r) blocks₀ blocks′ sending₀ sending′
       unfolding F now
       turn-correct = record {
         next-length = length-set next i r ∙ T .next-length;
-        blocks-length = ap length (P .blocks-is) ∙ put-long (blockLength k t) blocks (P .result .block) (P .block-length) blocks-fit ∙ T .blocks-length;
-        sending-length = ap length (P .sending-is) ∙ put-long (outboxLength n t k (c + 1)) sending (P .result .outbox) (P .outbox-length) sending-fit ∙ T .sending-length;
+        blocks-length = ap length (P .blocks-is) ∙ put-long (blockLength (S .k) (S .t)) blocks (P .result .block) (P .block-length) blocks-fit ∙ T .blocks-length;
+        sending-length = ap length (P .sending-is) ∙ put-long (outboxLength (S .n) (S .t) (S .k) (c + 1)) sending (P .result .outbox) (P .outbox-length) sending-fit ∙ T .sending-length;
         state = λ x h g. ⊎-elim
             (λ (e : x ≡ i).
             ap (λ (y : ℕ). getD (set next i r) y zeroState) e ∙ getD-set-same next i r zeroState (omega (arith, T .next-length, few)) ∙ P .state
@@ -145,15 +146,15 @@ module _ (n t k faulty c : ℕ) (places input : List ℕ) (states : List State) 
             (below-suc (omega arith));
         block = λ x h g. ⊎-elim
             (λ (e : x ≡ i).
-            ap (part (blockLength k t) blocks′) e ∙ ap (λ (y : List ℕ). part (blockLength k t) y i) (P .blocks-is)
-            ∙ part-put-same (blockLength k t) blocks (P .result .block) n i l blocks-fit (P .block-length)
+            ap (part (blockLength (S .k) (S .t)) blocks′) e ∙ ap (λ (y : List ℕ). part (blockLength (S .k) (S .t)) y i) (P .blocks-is)
+            ∙ part-put-same (blockLength (S .k) (S .t)) blocks (P .result .block) (S .n) i l blocks-fit (P .block-length)
             ∙ ap (λ (p : Playing). p .block) result-is ∙ ap (λ (y : ℕ). called F c now (y + 1) .block) (sym e))
             (λ (d : x < i). block-other x (other x d) ∙ T .block x d g)
             (below-suc (omega arith));
         outbox = λ x h g. ⊎-elim
             (λ (e : x ≡ i).
-            ap (part (outboxLength n t k (c + 1)) sending′) e ∙ ap (λ (y : List ℕ). part (outboxLength n t k (c + 1)) y i) (P .sending-is)
-            ∙ part-put-same (outboxLength n t k (c + 1)) sending (P .result .outbox) n i l sending-fit (P .outbox-length)
+            ap (part (outboxLength (S .n) (S .t) (S .k) (c + 1)) sending′) e ∙ ap (λ (y : List ℕ). part (outboxLength (S .n) (S .t) (S .k) (c + 1)) y i) (P .sending-is)
+            ∙ part-put-same (outboxLength (S .n) (S .t) (S .k) (c + 1)) sending (P .result .outbox) (S .n) i l sending-fit (P .outbox-length)
             ∙ ap (λ (p : Playing). p .outbox) result-is ∙ ap (λ (y : ℕ). called F c now (y + 1) .outbox) (sym e))
             (λ (d : x < i). outbox-other x (other x d) ∙ T .outbox x d g)
             (below-suc (omega arith));
@@ -161,11 +162,11 @@ module _ (n t k faulty c : ℕ) (places input : List ℕ) (states : List State) 
         same-block = λ x h. block-other x (later x h) ∙ T .same-block x (weak x h);
       }
 
-  pub turned-called : (i : ℕ) (next : List State) (blocks sending : List ℕ) → i ≡ n
-      → Turned (tableScenario n t k 0 [] faulty places input) faulty c (nowOf states blocks₀ (blockLength k t) sent (inboxLength n t k (c + 1)))
-      (blockLength k t) (outboxLength n t k (c + 1)) i states next blocks₀ blocks sending₀ sending
-      → Called (tableScenario n t k 0 [] faulty places input) c (nowOf states blocks₀ (blockLength k t) sent (inboxLength n t k (c + 1)))
-      (nowOf next blocks (blockLength k t) sending (outboxLength n t k (c + 1)))
+  pub turned-called : (i : ℕ) (next : List State) (blocks sending : List ℕ) → i ≡ S .n
+      → Turned (tableScenario S [] faulty places input) faulty c (nowOf states blocks₀ (blockLength (S .k) (S .t)) sent (inboxLength (S .n) (S .t) (S .k) (c + 1)))
+      (blockLength (S .k) (S .t)) (outboxLength (S .n) (S .t) (S .k) (c + 1)) i states next blocks₀ blocks sending₀ sending
+      → Called (tableScenario S [] faulty places input) c (nowOf states blocks₀ (blockLength (S .k) (S .t)) sent (inboxLength (S .n) (S .t) (S .k) (c + 1)))
+      (nowOf next blocks (blockLength (S .k) (S .t)) sending (outboxLength (S .n) (S .t) (S .k) (c + 1)))
   unfolding F now
   turned-called i next blocks sending e T = record {
     correct = λ j a b f.

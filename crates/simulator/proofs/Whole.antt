@@ -11,6 +11,7 @@ use Rattle.lists.proofs.Joins.{part-take}
 use Rattle.bitset.specs.Set.{member, setOf}
 use Rattle.text.specs.Write.{padded}
 use Rattle.text.proofs.Laws.{length-padded}
+use Rattle.settings.specs.declared.Settings.{Settings}
 use Rattle.wire.specs.Length.{blockLength, blockSize, inboxLength}
 use Rattle.wire.proofs.Laws.{first-inbox, block-size}
 use Rattle.protocol.specs.declared.State.{State}
@@ -29,14 +30,14 @@ use Rattle.simulator.proofs.Running.{block-most}
 use Rattle.simulator.proofs.Writing.{take-padded, zeros-wrote}
 use Rattle.simulator.proofs.Laws.{results-alike, output-is, simulated-right, table-output}
 
-blocks-fit : {n t k : ℕ} → Small n t k → n * blockLength k t ≤ 3072
-blocks-fit {n} {t} {k} v = omega (arith, mul-le-mul {n₁ = n} {m₁ = blockLength k t} {n₂ = 16} {m₂ = 192} (v .coded .quorum .n-most) (block-most v))
+blocks-fit : {S : Settings} → Small S → S .n * blockLength (S .k) (S .t) ≤ 3072
+blocks-fit {S} v = omega (arith, mul-le-mul {n₁ = S .n} {m₁ = blockLength (S .k) (S .t)} {n₂ = 16} {m₂ = 192} (v .coded .quorum .n-most) (block-most v))
 
-module _ {input places : List ℕ} {n t k : ℕ} {block blocks sent sending out : List ℕ} (h : Runnable input places n t k block blocks sent sending out) where
-  pub fill-room : n * length block ≤ length blocks
-  fill-room = omega (arith, ap (λ (x : ℕ). n * x) (h .block-is), h .blocks-is, blocks-fit (h .small))
+module _ {input places : List ℕ} {S : Settings} {block blocks sent sending out : List ℕ} (h : Runnable input places S block blocks sent sending out) where
+  pub fill-room : S .n * length block ≤ length blocks
+  fill-room = omega (arith, ap (λ (x : ℕ). S .n * x) (h .block-is), h .blocks-is, blocks-fit (h .small))
 
-  pub runnable-playable : (blocks′ : List ℕ) → length blocks′ ≡ length blocks → Playable input places n t k blocks′ sent sending
+  pub runnable-playable : (blocks′ : List ℕ) → length blocks′ ≡ length blocks → Playable input places S blocks′ sent sending
   runnable-playable blocks′ e = record {
     small = h .small;
     rooms = h .rooms;
@@ -46,32 +47,32 @@ module _ {input places : List ℕ} {n t k : ℕ} {block blocks sent sending out 
   }
 
 -- what the run begins with
-pub held-start : (n t k sender : ℕ) (block : List ℕ) (faulty : ℕ) (places input : List ℕ) (states : List State) (blocks sent : List ℕ) → length block ≡ blockLength k t
-    → ((x : ℕ) → x < n → getD states x zeroState ≡ startOf n t k (x + 1) sender (length block) .state)
-    → ((x : ℕ) → x < n → part (length block) blocks x ≡ block)
-    → Held (tableScenario n t k sender block faulty places input) 0 states blocks (blockLength k t) sent (inboxLength n t k 1)
-held-start n t k sender block faulty places input states blocks sent size s b =
-    let F = tableScenario n t k sender block faulty places input in
-    let is : (i : ℕ) → played F 0 i ≡ record { state = startOf n t k i sender (length block) .state; block = block; outbox = [] } = λ i. played-start F i ∙ began-is F i in
+pub held-start : (S : Settings) (block : List ℕ) (faulty : ℕ) (places input : List ℕ) (states : List State) (blocks sent : List ℕ) → length block ≡ blockLength (S .k) (S .t)
+    → ((x : ℕ) → x < S .n → getD states x zeroState ≡ startOf S (x + 1) (length block) .state)
+    → ((x : ℕ) → x < S .n → part (length block) blocks x ≡ block)
+    → Held (tableScenario S block faulty places input) 0 states blocks (blockLength (S .k) (S .t)) sent (inboxLength (S .n) (S .t) (S .k) 1)
+held-start S block faulty places input states blocks sent size s b =
+    let F = tableScenario S block faulty places input in
+    let is : (i : ℕ) → played F 0 i ≡ record { state = startOf S i (length block) .state; block = block; outbox = [] } = λ i. played-start F i ∙ began-is F i in
     record {
       state = λ i l m.
           let e : i - 1 + 1 ≡ i = omega arith in
-          s (i - 1) (omega arith) ∙ ap (λ (x : ℕ). startOf n t k x sender (length block) .state) e ∙ sym (ap (λ (p : Playing). p .state) (is i));
+          s (i - 1) (omega arith) ∙ ap (λ (x : ℕ). startOf S x (length block) .state) e ∙ sym (ap (λ (p : Playing). p .state) (is i));
       block = λ i l m. ap (λ (w : ℕ). part w blocks (i - 1)) (sym size) ∙ b (i - 1) (omega arith) ∙ sym (ap (λ (p : Playing). p .block) (is i));
       outbox = λ i l m _ _.
-          ap (λ (w : ℕ). part w sent (i - 1)) (first-inbox n t k) ∙ part-take 0 sent (i - 1) ∙ sym (ap (λ (p : Playing). p .outbox) (is i));
+          ap (λ (w : ℕ). part w sent (i - 1)) (first-inbox (S .n) (S .t) (S .k)) ∙ part-take 0 sent (i - 1) ∙ sym (ap (λ (p : Playing). p .outbox) (is i));
     }
 
 -- what it ends with
-pub held-output : (n t k sender : ℕ) (block : List ℕ) (faulty : ℕ) (places input : List ℕ) (states : List State) (blocks : List ℕ) (b : ℕ) (sent : List ℕ) (o : ℕ) → b ≡ blockLength k t
-    → Held (tableScenario n t k sender block faulty places input) (3 * t + 9) states blocks (blockLength k t) sent o
-    → namesLine ++ results (λ i. member faulty (i - 1)) (λ i. getD states (i - 1) zeroState .outcome) (λ i. part b blocks (i - 1)) n
-    ≡ outputOf (tableScenario n t k sender block faulty places input)
-held-output n t k sender block faulty places input states blocks b sent o e H =
-    let F = tableScenario n t k sender block faulty places input in
+pub held-output : (S : Settings) (block : List ℕ) (faulty : ℕ) (places input : List ℕ) (states : List State) (blocks : List ℕ) (b : ℕ) (sent : List ℕ) (o : ℕ) → b ≡ blockLength (S .k) (S .t)
+    → Held (tableScenario S block faulty places input) (3 * S .t + 9) states blocks (blockLength (S .k) (S .t)) sent o
+    → namesLine ++ results (λ i. member faulty (i - 1)) (λ i. getD states (i - 1) zeroState .outcome) (λ i. part b blocks (i - 1)) (S .n)
+    ≡ outputOf (tableScenario S block faulty places input)
+held-output S block faulty places input states blocks b sent o e H =
+    let F = tableScenario S block faulty places input in
     ap (λ (l : List ℕ). namesLine ++ l)
     (results-alike (λ i. member faulty (i - 1)) (λ i. member faulty (i - 1)) (λ i. getD states (i - 1) zeroState .outcome) (λ i. ended F i .state .outcome)
-    (λ i. part b blocks (i - 1)) (λ i. ended F i .block) n (λ i l m. refl)
+    (λ i. part b blocks (i - 1)) (λ i. ended F i .block) (S .n) (λ i l m. refl)
     (λ i l m _. (ap (λ (s : State). s .outcome) (H .state i l m), ap (λ (w : ℕ). part w blocks (i - 1)) e ∙ H .block i l m)))
     ∙ sym (output-is F)
 
@@ -84,14 +85,14 @@ cleared-wrote {out} {s} {out′} {r} e w = zeros-wrote 6400 (subst (λ (o : List
 pub record FileRun (input : List ℕ) (file : SystemFile) (b : ℕ) : Type 0 where
   pub block-most : b ≤ length (file .block)
   pub block-long : length (take b (file .block)) ≡ b
-  pub runnable : Runnable input (file .places) (file .n) (file .t) (file .k) (take b (file .block)) (replicate 3072 0) (replicate 49408 0) (replicate 49408 0) (replicate 6400 0)
-  pub output : outputOf (tableScenario (file .n) (file .t) (file .k) (file .sender) (take b (file .block)) (file .faulty) (file .places) input) ≡ simulated input
+  pub runnable : Runnable input (file .places) (file .settings) (take b (file .block)) (replicate 3072 0) (replicate 49408 0) (replicate 49408 0) (replicate 6400 0)
+  pub output : outputOf (tableScenario (file .settings) (take b (file .block)) (file .faulty) (file .places) input) ≡ simulated input
 
-module _ (input : List ℕ) (c : Contents) (e : readOf input ≡ right c) (b : ℕ) (is-b : b ≡ blockSize (c .n) (c .t) (c .k)) where
+module _ (input : List ℕ) (c : Contents) (e : readOf input ≡ right c) (b : ℕ) (is-b : b ≡ blockSize (c .settings .n) (c .settings .t) (c .settings .k)) where
   proper : Properly input c
   proper = read-right input c e
 
-  small : Small (c .n) (c .t) (c .k)
+  small : Small (c .settings)
   small = record { coded = proper .coded; few-stripes = proper .stripes }
 
   size : b ≡ length (c .block)
@@ -117,13 +118,13 @@ module _ (input : List ℕ) (c : Contents) (e : readOf input ≡ right c) (b : �
       out-is = refl;
     };
     output =
-        ap (λ (x : List ℕ). outputOf (tableScenario (c .n) (c .t) (c .k) (c .sender) x (setOf 16 (λ i. isFaulty (c .messages) (i + 1))) (tableOf (c .messages)) input)) block-is
+        ap (λ (x : List ℕ). outputOf (tableScenario (c .settings) x (setOf 16 (λ i. isFaulty (c .messages) (i + 1))) (tableOf (c .messages)) input)) block-is
         ∙ table-output input c e ∙ sym (simulated-right input c e);
   }
 
-pub file-run : (input : List ℕ) (file : SystemFile) (b : ℕ) → file ≡ fileOf (readOf input) → file .form ≡ Right → b ≡ blockSize (file .n) (file .t) (file .k) → FileRun input file b
+pub file-run : (input : List ℕ) (file : SystemFile) (b : ℕ) → file ≡ fileOf (readOf input) → file .form ≡ Right → b ≡ blockSize (file .settings .n) (file .settings .t) (file .settings .k) → FileRun input file b
 file-run input file b is form is-b =
     let q = file-right (readOf input) (ap (λ (f : SystemFile). f .form) (sym is) ∙ form) in
     let i : file ≡ fileOf (right (q .0)) = is ∙ ap fileOf (q .1) in
     subst (λ (f : SystemFile). FileRun input f b) (sym i)
-    (right-run input (q .0) (q .1) b (is-b ∙ ap (λ (f : SystemFile). blockSize (f .n) (f .t) (f .k)) i))
+    (right-run input (q .0) (q .1) b (is-b ∙ ap (λ (f : SystemFile). blockSize (f .settings .n) (f .settings .t) (f .settings .k)) i))

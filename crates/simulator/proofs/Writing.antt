@@ -18,7 +18,7 @@ use Rattle.text.specs.Write.{decimal, hexadecimal, appended, endOf, padded}
 use Rattle.text.proofs.Laws.{append-behind, padded-none, length-padded, append-padded, end-padded, decimal-short, length-hexadecimal}
 use Rattle.reconstruction.specs.declared.Outcome.{Outcome}
 use Rattle.reconstruction.specs.declared.Outcome.the-variants.{Open, Agreed, None, Beyond}
-use Rattle.reconstruction.specs.Reconstruction.{outcomeWord}
+use Rattle.reconstruction.specs.Outcomes.{outcomeWord}
 use Rattle.bitset.specs.Set.{member}
 use Rattle.protocol.specs.declared.State.{State}
 use Rattle.protocol.specs.State.{zeroState}

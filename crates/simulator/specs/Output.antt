@@ -14,7 +14,7 @@ use Prim.Native.Nat.{ℕ, zero, suc}
 use Rattle.text.specs.Read.{newline, comma}
 use Rattle.text.specs.Write.{decimal, hexadecimal}
 use Rattle.reconstruction.specs.declared.Outcome.{Outcome}
-use Rattle.reconstruction.specs.Reconstruction.{outcomeWord}
+use Rattle.reconstruction.specs.Outcomes.{outcomeWord}
 use Rattle.system_file.specs.Form.{Contents, Read, wrong, right, readOf}
 use Rattle.system_file.specs.Table.{isFaulty, saidOf}
 use Rattle.simulation.specs.Run.{Scenario, ended}
@@ -33,7 +33,7 @@ results faulty w b zero = []
 results faulty w b (suc i) = results faulty w b i ++ cond (faulty (suc i)) [] (resultLine (suc i) (w (suc i)) (b (suc i)))
 
 unfoldable pub outputOf : Scenario → List ℕ
-outputOf F = namesLine ++ results (F .faulty) (λ i. ended F i .state .outcome) (λ i. ended F i .block) (F .n)
+outputOf F = namesLine ++ results (F .faulty) (λ i. ended F i .state .outcome) (λ i. ended F i .block) (F .settings .n)
 
 -- bad,
 unfoldable pub badLine : ℕ → List ℕ
@@ -41,10 +41,7 @@ badLine x = 0x62 ∷ 0x61 ∷ 0x64 ∷ comma ∷ (decimal x ++ (newline ∷ []))
 
 abbrev pub scenarioOf : List ℕ → Contents → Scenario
 scenarioOf input c = record {
-  n = c .n;
-  t = c .t;
-  k = c .k;
-  sender = c .sender;
+  settings = c .settings;
   block = c .block;
   faulty = isFaulty (c .messages);
   said = saidOf input c;

@@ -1,5 +1,6 @@
 -- What the functions of the simulator do, on the way to `simulated`.
---   Small n t k                the settings of a system file
+--   layoutIn S c               the layout of the slots of round c
+--   Small S                    the settings of a system file
 --   Rooms input len places     each message of the table stands in the file
 --   Filling ..                 what filling an inbox finds: lengths, and a cleared inbox
 --   putPart w l i y            l with part i, counted from 0, replaced by y
@@ -23,9 +24,11 @@ use Prim.Native.Nat.{ℕ, _+_, _-_, _*_, _≤_, _<_}
 use lib.ListN.{length, getD, take, drop, replicate}
 use Rattle.lists.specs.Join.{part}
 use Rattle.bitset.specs.Set.{member}
+use Rattle.settings.specs.declared.Settings.{Settings}
 use Rattle.settings.specs.Valid.{Coded}
 use Rattle.text.specs.Write.{padded}
-use Rattle.wire.specs.Length.{blockLength, messageLength, inboxLength, outboxLength}
+use Rattle.wire.specs.Length.{blockLength, roundLayout, messageLength, inboxLength, outboxLength}
+use Rattle.wire.specs.declared.slot.Layout.{Layout}
 use Rattle.wire.specs.Slot.{width}
 use Rattle.protocol.specs.declared.State.{State}
 use Rattle.protocol.specs.State.{zeroState}
@@ -33,40 +36,40 @@ use Rattle.protocol.specs.Step.{After, stepOf}
 use Rattle.system_file.specs.Table.{textOf, placeIn}
 use Rattle.simulation.specs.Run.{Scenario, Playing, called, played}
 
-pub record Small (n t k : ℕ) : Type 0 where
-  pub coded : Coded n t k
-  pub few-stripes : k ≤ 32
+abbrev pub layoutIn : Settings → ℕ → Layout
+layoutIn S c = roundLayout (S .n) (S .t) (S .k) c
+
+pub record Small (S : Settings) : Type 0 where
+  pub coded : Coded (S .n) (S .t) (S .k)
+  pub few-stripes : S .k ≤ 32
 
 -- each message of the table stands in the file
-pub record Rooms (input places : List ℕ) (n t k : ℕ) : Type 0 where
+pub record Rooms (input places : List ℕ) (S : Settings) : Type 0 where
   pub input-most : length input ≤ 65536
-  pub room : (r f j : ℕ) → (placeIn places r f j ≡ 0 → ⊥) → placeIn places r f j + 2 * messageLength n t k r ≤ length input
+  pub room : (r f j : ℕ) → (placeIn places r f j ≡ 0 → ⊥) → placeIn places r f j + 2 * messageLength (S .n) (S .t) (S .k) r ≤ length input
 
-pub record Filling (input places : List ℕ) (n t k c i o : ℕ) (sent m inbox : List ℕ) : Type 0 where
-  pub rooms : Rooms input places n t k
-  pub few : n ≤ 16
+pub record Filling (input places : List ℕ) (S : Settings) (c i o : ℕ) (sent m inbox : List ℕ) : Type 0 where
+  pub rooms : Rooms input places S
+  pub few : S .n ≤ 16
   pub round-least : 1 ≤ c
   pub number-least : 1 ≤ i
-  pub number-most : i ≤ n
-  pub some : 0 < messageLength n t k c
-  pub outbox-is : o ≡ n * width (messageLength n t k c)
-  pub sent-room : n * o ≤ length sent
+  pub number-most : i ≤ S .n
+  pub some : 0 < messageLength (S .n) (S .t) (S .k) c
+  pub outbox-is : o ≡ S .n * width (layoutIn S c)
+  pub sent-room : S .n * o ≤ length sent
   pub sent-most : length sent ≤ 49408
-  pub message-is : length m ≡ messageLength n t k c
+  pub message-is : length m ≡ messageLength (S .n) (S .t) (S .k) c
   pub cleared : inbox ≡ replicate o 0
 
 abbrev pub putPart : ℕ → List ℕ → ℕ → List ℕ → List ℕ
 putPart w l i y = take (i * w) l ++ (y ++ drop (i * w + w - i * w) (drop (i * w) l))
 
-abbrev pub tableScenario : (n t k sender : ℕ) (block : List ℕ) (faulty : ℕ) (places input : List ℕ) → Scenario
-tableScenario n t k sender block faulty places input = record {
-  n = n;
-  t = t;
-  k = k;
-  sender = sender;
+abbrev pub tableScenario : Settings → (block : List ℕ) (faulty : ℕ) (places input : List ℕ) → Scenario
+tableScenario S block faulty places input = record {
+  settings = S;
   block = block;
   faulty = λ i. member faulty (i - 1);
-  said = λ r f j. textOf input (messageLength n t k r) (placeIn places r f j);
+  said = λ r f j. textOf input (messageLength (S .n) (S .t) (S .k) r) (placeIn places r f j);
 }
 
 abbrev pub sentBy : List ℕ → ℕ → ℕ → Playing
@@ -80,26 +83,26 @@ nowOf states blocks b sent o i = record {
 }
 
 -- what making the inbox of a call finds: c calls were made
-pub record Making (input places : List ℕ) (n t k c i : ℕ) (sent m inbox : List ℕ) : Type 0 where
-  pub small : Small n t k
-  pub rooms : Rooms input places n t k
-  pub calls-most : c ≤ 3 * t + 8
+pub record Making (input places : List ℕ) (S : Settings) (c i : ℕ) (sent m inbox : List ℕ) : Type 0 where
+  pub small : Small S
+  pub rooms : Rooms input places S
+  pub calls-most : c ≤ 3 * S .t + 8
   pub number-least : 1 ≤ i
-  pub number-most : i ≤ n
-  pub sent-room : n * inboxLength n t k (c + 1) ≤ length sent
+  pub number-most : i ≤ S .n
+  pub sent-room : S .n * inboxLength (S .n) (S .t) (S .k) (c + 1) ≤ length sent
   pub sent-most : length sent ≤ 49408
-  pub message-is : length m ≡ messageLength n t k c
-  pub cleared : inbox ≡ replicate (inboxLength n t k (c + 1)) 0
+  pub message-is : length m ≡ messageLength (S .n) (S .t) (S .k) c
+  pub cleared : inbox ≡ replicate (inboxLength (S .n) (S .t) (S .k) (c + 1)) 0
 
 -- what a call finds: c calls were made
-pub record Calling (input places : List ℕ) (n t k c : ℕ) (blocks sent sending : List ℕ) : Type 0 where
-  pub small : Small n t k
-  pub rooms : Rooms input places n t k
-  pub calls-most : c ≤ 3 * t + 8
-  pub blocks-room : n * blockLength k t ≤ length blocks
-  pub sent-room : n * inboxLength n t k (c + 1) ≤ length sent
+pub record Calling (input places : List ℕ) (S : Settings) (c : ℕ) (blocks sent sending : List ℕ) : Type 0 where
+  pub small : Small S
+  pub rooms : Rooms input places S
+  pub calls-most : c ≤ 3 * S .t + 8
+  pub blocks-room : S .n * blockLength (S .k) (S .t) ≤ length blocks
+  pub sent-room : S .n * inboxLength (S .n) (S .t) (S .k) (c + 1) ≤ length sent
   pub sent-most : length sent ≤ 49408
-  pub sending-room : n * outboxLength n t k (c + 1) ≤ length sending
+  pub sending-room : S .n * outboxLength (S .n) (S .t) (S .k) (c + 1) ≤ length sending
 
 -- a step, with what is held after it
 abbrev pub taken : After → Playing
@@ -116,26 +119,26 @@ pub record Parted (b o i : ℕ) (s : State) (inbox blocks sending : List ℕ) (r
   pub sending-is : sending′ ≡ putPart o sending i (result .outbox)
 
 pub record Called (F : Scenario) (c : ℕ) (now after : ℕ → Playing) : Type 0 where
-  pub correct : (i : ℕ) → 1 ≤ i → i ≤ F .n → F .faulty i ≡ false → after i ≡ called F c now i
-  pub state : (i : ℕ) → 1 ≤ i → i ≤ F .n → F .faulty i ≡ true → after i .state ≡ now i .state
-  pub block : (i : ℕ) → 1 ≤ i → i ≤ F .n → F .faulty i ≡ true → after i .block ≡ now i .block
+  pub correct : (i : ℕ) → 1 ≤ i → i ≤ F .settings .n → F .faulty i ≡ false → after i ≡ called F c now i
+  pub state : (i : ℕ) → 1 ≤ i → i ≤ F .settings .n → F .faulty i ≡ true → after i .state ≡ now i .state
+  pub block : (i : ℕ) → 1 ≤ i → i ≤ F .settings .n → F .faulty i ≡ true → after i .block ≡ now i .block
 
 pub record Held (F : Scenario) (c : ℕ) (states : List State) (blocks : List ℕ) (b : ℕ) (sent : List ℕ) (o : ℕ) : Type 0 where
-  pub state : (i : ℕ) → 1 ≤ i → i ≤ F .n → getD states (i - 1) zeroState ≡ played F c i .state
-  pub block : (i : ℕ) → 1 ≤ i → i ≤ F .n → part b blocks (i - 1) ≡ played F c i .block
-  pub outbox : (i : ℕ) → 1 ≤ i → i ≤ F .n → c ≤ 3 * F .t + 8 → F .faulty i ≡ false → part o sent (i - 1) ≡ played F c i .outbox
+  pub state : (i : ℕ) → 1 ≤ i → i ≤ F .settings .n → getD states (i - 1) zeroState ≡ played F c i .state
+  pub block : (i : ℕ) → 1 ≤ i → i ≤ F .settings .n → part b blocks (i - 1) ≡ played F c i .block
+  pub outbox : (i : ℕ) → 1 ≤ i → i ≤ F .settings .n → c ≤ 3 * F .settings .t + 8 → F .faulty i ≡ false → part o sent (i - 1) ≡ played F c i .outbox
 
-pub record Playable (input places : List ℕ) (n t k : ℕ) (blocks sent sending : List ℕ) : Type 0 where
-  pub small : Small n t k
-  pub rooms : Rooms input places n t k
-  pub blocks-room : n * blockLength k t ≤ length blocks
+pub record Playable (input places : List ℕ) (S : Settings) (blocks sent sending : List ℕ) : Type 0 where
+  pub small : Small S
+  pub rooms : Rooms input places S
+  pub blocks-room : S .n * blockLength (S .k) (S .t) ≤ length blocks
   pub sent-is : length sent ≡ 49408
   pub sending-is : length sending ≡ 49408
 
-pub record Runnable (input places : List ℕ) (n t k : ℕ) (block blocks sent sending out : List ℕ) : Type 0 where
-  pub small : Small n t k
-  pub rooms : Rooms input places n t k
-  pub block-is : length block ≡ blockLength k t
+pub record Runnable (input places : List ℕ) (S : Settings) (block blocks sent sending out : List ℕ) : Type 0 where
+  pub small : Small S
+  pub rooms : Rooms input places S
+  pub block-is : length block ≡ blockLength (S .k) (S .t)
   pub blocks-is : length blocks ≡ 3072
   pub sent-is : length sent ≡ 49408
   pub sending-is : length sending ≡ 49408

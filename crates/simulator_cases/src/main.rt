@@ -1,19 +1,24 @@
 // Plays each system file that its arguments name: the files of data/, right ones and broken ones. For each it writes the name and then the
 // simulator's output. Files, names and the expected output come from the independent reference:
 //     cd bench && cargo run --release --bin system_files -- ../crates/simulator_cases
-use libc::STDOUT_FILENO;
 
-// Writes the first `length` bytes.
-fn write(bytes: &[u8], length: usize) {
-    if length <= bytes.len() {
-        io::write_all(STDOUT_FILENO, &bytes[..length]);
-    }
+// Prints the first `length` bytes.
+fn print(bytes: &[u8], length: usize) {
+    let end = cases::fitting(length, bytes);
+    cases::text(&bytes[..end]);
+}
+
+// The simulator's output.
+fn simulate(input: &[u8]) {
+    let output = simulator::simulate(input);
+    let bytes = output.bytes;
+    print(&bytes, output.length);
 }
 
 // One file, of which one byte more than the longest is read.
 fn play(name: &[u8]) {
-    io::write_all(STDOUT_FILENO, name);
-    io::write_all(STDOUT_FILENO, b"\n");
+    cases::text(name);
+    cases::newline();
     let file = os::open_read(name);
     if file < 0 {
         os::fail(name);
@@ -22,9 +27,7 @@ fn play(name: &[u8]) {
     let mut input = [0u8; 65537];
     let length = io::read_full(file, &mut input);
     libc::close(file);
-    let output = simulator::simulate(&input[..length]);
-    let bytes = output.bytes;
-    write(&bytes, output.length);
+    simulate(&input[..length]);
 }
 
 fn play_argument(i: usize) {

@@ -10,23 +10,30 @@
 --   setsFrom n t adj M   the four sets
 --   noSets r             four empty sets, with the refusal's number
 --   isLarge n t s        C has at least n - 2t members, D at least n - t, F and E at least 2t + 1
---   starFrom n t adj     the four sets of the first largest matching if they are large enough, else none
+--   starWith n t adj M   the four sets if they are large enough, else none
 --   refusalFor n t       the number with which the star refuses n and t; 0 where it does not
---   starOf rows n t      the star of the graph of rows of marks
---   starOfBits bits n t  the star of the graph of any 120 bits (document 02, U9)
+--   IsStar n t adj s     s is the star of the graph: refused, the number and no sets; else the star with the matching that, of the largest
+--                        ones, is the first in dictionary order (`FirstLargest`)
 --   found s              the core is found: E is not empty
+-- The star as a function, for callers that need one:
+--   starFrom n t adj     the star with `matchingOf n adj`
+--   starFor n t adj      the star of the graph
+--   starOf rows n t      of the graph of rows of marks
+--   starOfBits bits n t  of the graph of any 120 bits (document 02, U9)
+--   StarIsOne            the relation holds of what the function answers and of nothing else (proofs/Same: `star-is-one`)
+--   StarOfBits           the star of the bits of the rows is the star of the rows (proofs/Same: `star-of-bits`)
+use mathlib.Core.Path.{_≡_}
 use mathlib.Core.List.{List}
 use mathlib.Core.Bool.{Bool, true, cond, not, _&&_}
 use Prim.Native.Nat.{ℕ, _+_, _-_, _*_}
 use lib.Dec.{eqb, ltb, leb}
 use Rattle.lists.specs.Sum.{count}
 use Rattle.bitset.specs.Set.{member, setOf, sizeOf}
-use Rattle.settings.specs.declared.Entry.the-variants.{Star}
-use Rattle.settings.specs.Refusal.{refusalOf}
+use Rattle.settings.specs.Refusal.{starRefusal}
 use Rattle.graph.specs.Neighbour.{neighbour}
 use Rattle.graph.specs.Pairs.{Pair}
-use Rattle.graph.specs.Bits.{adjacent}
-use Rattle.matching.specs.Matching.{anyPair, matched}
+use Rattle.graph.specs.Bits.{bitsOf, adjacent}
+use Rattle.matching.specs.Matching.{FirstLargest, Missing, anyPair, matched}
 use Rattle.matching.specs.First.{matchingOf}
 use Rattle.star.specs.declared.Sets.{Sets}
 
@@ -61,17 +68,33 @@ unfoldable pub isLarge : ℕ → ℕ → Sets → Bool
 isLarge n t s =
     leb (n - 2 * t) (sizeOf (s .c)) && (leb (n - t) (sizeOf (s .d)) && (leb (2 * t + 1) (sizeOf (s .f)) && leb (2 * t + 1) (sizeOf (s .e))))
 
-unfoldable pub starFrom : ℕ → ℕ → (ℕ → ℕ → Bool) → Sets
-starFrom n t adj = cond (isLarge n t (setsFrom n t adj (matchingOf n adj))) (setsFrom n t adj (matchingOf n adj)) (noSets 0)
+abbrev pub starWith : ℕ → ℕ → (ℕ → ℕ → Bool) → List Pair → Sets
+starWith n t adj M = cond (isLarge n t (setsFrom n t adj M)) (setsFrom n t adj M) (noSets 0)
 
 unfoldable pub refusalFor : ℕ → ℕ → ℕ
-refusalFor n t = refusalOf Star (record { n = n; t = t; k = 0; number = 0; sender = 0 }) true
+refusalFor n t = starRefusal n t
 
-unfoldable pub starOf : List ℕ → ℕ → ℕ → Sets
-starOf rows n t = cond (eqb (refusalFor n t) 0) (starFrom n t (neighbour rows)) (noSets (refusalFor n t))
-
-unfoldable pub starOfBits : List ℕ → ℕ → ℕ → Sets
-starOfBits bits n t = cond (eqb (refusalFor n t) 0) (starFrom n t (adjacent bits)) (noSets (refusalFor n t))
+pub record IsStar (n t : ℕ) (adj : ℕ → ℕ → Bool) (s : Sets) : Type 0 where
+  pub refused : (refusalFor n t ≡ 0 → ⊥) → s ≡ noSets (refusalFor n t)
+  pub carried : refusalFor n t ≡ 0 → (M : List Pair) × FirstLargest (Missing n adj) M × (s ≡ starWith n t adj M)
 
 unfoldable pub found : Sets → Bool
 found s = ltb 0 (s .e)
+
+unfoldable pub starFrom : ℕ → ℕ → (ℕ → ℕ → Bool) → Sets
+starFrom n t adj = starWith n t adj (matchingOf n adj)
+
+abbrev pub starFor : ℕ → ℕ → (ℕ → ℕ → Bool) → Sets
+starFor n t adj = cond (eqb (refusalFor n t) 0) (starFrom n t adj) (noSets (refusalFor n t))
+
+unfoldable pub starOf : List ℕ → ℕ → ℕ → Sets
+starOf rows n t = starFor n t (neighbour rows)
+
+unfoldable pub starOfBits : List ℕ → ℕ → ℕ → Sets
+starOfBits bits n t = starFor n t (adjacent bits)
+
+abbrev pub StarIsOne : Type 0
+StarIsOne = (n t : ℕ) (adj : ℕ → ℕ → Bool) (s : Sets) → (IsStar n t adj s → s ≡ starFor n t adj) × (s ≡ starFor n t adj → IsStar n t adj s)
+
+abbrev pub StarOfBits : Type 0
+StarOfBits = (rows : List ℕ) (n t : ℕ) → starOfBits (bitsOf n (neighbour rows)) n t ≡ starOf rows n t

@@ -10,18 +10,16 @@ use graph::bits_of;
 use graph::missing_row;
 use matching::Matching;
 use matching::largest;
-use settings::Entry;
-use settings::Settings;
-use settings::refusal;
+use settings::star_refusal;
 ghost use mathlib.Core.Path.{_≡_};
 ghost use mathlib.Core.Bool.{not, _&&_};
 ghost use Prim.Native.Nat.{_^_, _<_, _≤_};
 ghost use Rattle.bitset.specs.Set.{member, setOf, sizeOf, removed, intersection, difference};
-ghost use Rattle.graph.specs.Neighbour.{missing};
+ghost use Rattle.graph.specs.Neighbour.{neighbour, missing};
 ghost use Rattle.graph.specs.Bits.{adjacent};
 ghost use Rattle.matching.specs.Matching.{matched};
-ghost use Rattle.matching.specs.First.{pairsOf};
-ghost use Rattle.star.specs.Star.{setC, lacks, atLeast, setsFrom, noSets, isLarge, starOf, starOfBits};
+ghost use Rattle.matching.specs.Answer.{pairsOf};
+ghost use Rattle.star.specs.Star.{setC, lacks, atLeast, setsFrom, noSets, isLarge, IsStar};
 ghost use Rattle.star.specs.Parts.{Ends};
 
 // The number of a refusal, or 0, and the sets C, D, F and E, of which E is the core. All four are empty where the star is refused or
@@ -170,22 +168,12 @@ fn sets_of(bits: [u8; 15], n: usize, t: usize, m: Matching) -> Sets
     }
 }
 
-// The star of a graph given as 120 bits, of which those of pairs below n are read.
+// The star of a graph given as 120 bits, of which those of pairs below n are read. The relation holds of one answer (`star-is-one`).
 // Shut out: a struck controller kept in C; t for t + 1 in F; another threshold in E; members past n (must-fail edits).
 pub fn of_bits(bits: [u8; 15], n: usize, t: usize) -> Sets
-    ensures { λ r. ⌜ r ≡ starOfBits bits n t ⌝ }
+    ensures { λ r. ⌜ IsStar n t (adjacent bits) r ⌝ }
 {
-    let number = refusal(
-        Entry::Star,
-        Settings {
-            n,
-            t,
-            k: 0,
-            number: 0,
-            sender: 0,
-        },
-        true,
-    );
+    let number = star_refusal(n, t);
     if number != 0 {
         return no_sets(number);
     }
@@ -200,7 +188,7 @@ pub fn of_bits(bits: [u8; 15], n: usize, t: usize) -> Sets
 // rows' missing pairs (`star-of-bits`).
 // Shut out: the star of the bits of the first t controllers; n and t the other way round.
 pub fn find(rows: &[u16; 16], n: usize, t: usize) -> Sets
-    ensures { λ r. ⌜ r ≡ starOf (now (rows .entry)) n t ⌝ }
+    ensures { λ r. ⌜ IsStar n t (neighbour (now (rows .entry))) r ⌝ }
 {
     of_bits(bits_of(rows, n), n, t)
 }

@@ -3,27 +3,12 @@
 // chances, those of numbers past n too, and the missing pairs of one kind of graph for each n, 15 bytes. The expected output comes from
 // the independent reference, which searches exhaustively:
 //     cd bench && cargo run --release --bin star_vectors > ../crates/star_cases/stdout
-use libc::STDOUT_FILENO;
 use star::Sets;
-ghost use Prim.Native.Nat.{_≤_};
-
-// The generator: x times 1664525 plus 1013904223, modulo 2 to the 32.
-fn next(x: u64) -> u64 {
-    (x % 4294967296 * 1664525 + 1013904223) % 4294967296
-}
-
-fn mix(x: u64, y: u64) -> u64 {
-    next(std::num::wrapping_add_u64(x, y))
-}
+ghost use Prim.Native.Nat.{_≤_, _<_};
 
 // 16 bits for a purpose, a graph and two controllers.
-fn draw(purpose: u64, k: usize, i: usize, j: usize) -> u64 {
-    mix(mix(mix(k as u64, purpose), i as u64), j as u64) / 65536
-}
-
-// A number of at most 16 bits.
-fn word(x: u64) -> usize {
-    (x % 65536) as usize
+fn draw(purpose: usize, k: usize, i: usize, j: usize) -> usize {
+    cases::draw(k as u64, purpose, i, j)
 }
 
 // The largest odd number that is at most n, or 0.
@@ -76,10 +61,6 @@ fn on_path(i: usize, j: usize) -> bool {
     i % 4 == 1 && j % 4 == 3
 }
 
-fn is_third(t: usize, x: usize) -> bool {
-    x % 3 == 1 && x / 3 < t
-}
-
 // Whether i and j, i the smaller, are to be no neighbours in graph k of n controllers.
 fn apart(k: usize, n: usize, t: usize, i: usize, j: usize) -> bool {
     match k {
@@ -92,9 +73,9 @@ fn apart(k: usize, n: usize, t: usize, i: usize, j: usize) -> bool {
         6 => i / 4 < t / 2 && on_path(i, j),
         7 => on_cycle(5, i, j),
         8 => j < 6 && i / 3 == j / 3,
-        9..=15 => word(draw(0, k, i, j)) % 8 < less(k, 8),
+        9..=15 => draw(0, k, i, j) % 8 < less(k, 8),
         16..=19 => less(n, t) <= j && draw(0, k, i, j) % 2 == 0,
-        20..=23 => (is_third(t, i) || is_third(t, j)) && draw(0, k, i, j) % 2 == 0,
+        20..=23 => (cases::is_third(t, i) || cases::is_third(t, j)) && draw(0, k, i, j) % 2 == 0,
         _ => draw(0, k, i, j) % 16 == 0,
     }
 }
@@ -108,8 +89,11 @@ fn half_mark(k: usize, a: usize, b: usize, from_smaller: bool) -> bool {
     d == 2
 }
 
-// Whether i marks j. One's own mark and all past n are at random.
+// Whether i marks j. One's own mark and all past n are at random. From 28 on, each bit is set with a chance of k - 28 in 32.
 fn mark(k: usize, n: usize, t: usize, i: usize, j: usize) -> bool {
+    if 28 <= k {
+        return draw(300, n, i, j) % 32 < k - 28;
+    }
     if n <= i || n <= j || i == j {
         return draw(200, k, i, j) % 2 == 0;
     }
@@ -119,6 +103,7 @@ fn mark(k: usize, n: usize, t: usize, i: usize, j: usize) -> bool {
     !apart(k, n, t, j, i) || half_mark(k, j, i, false)
 }
 
+// 16 bits of kind k: whether i marks each.
 fn row(k: usize, n: usize, t: usize, i: usize) -> u16 {
     let mut r: u16 = 0;
     let mut j: usize = 0;
@@ -141,108 +126,93 @@ fn rows(k: usize, n: usize, t: usize) -> [u16; 16] {
     r
 }
 
-fn print(x: usize, end: &[u8]) {
-    io::print_decimal(STDOUT_FILENO, x as u64);
-    io::write_all(STDOUT_FILENO, end);
+// Byte i of the bits of kind k: the low eight of row i.
+fn bits_byte(k: usize, n: usize, i: usize) -> u8 {
+    let r = row(k, n, 0, i);
+    (r % 256) as u8
 }
 
-fn print_set(x: u16, end: &[u8]) {
-    print(x as usize, end);
+// The 120 bits of kind k.
+fn bits(k: usize, n: usize) -> [u8; 15] {
+    let mut r = [0u8; 15];
+    let mut i: usize = 0;
+    while i < 15 {
+        r[i] = bits_byte(k, n, i);
+        i += 1;
+    }
+    r
 }
 
 fn print_star(k: usize, n: usize, t: usize, s: Sets) {
-    print(n, b" ");
-    print(t, b" ");
-    print(k, b": ");
-    print(s.refusal as usize, b" ");
-    print_set(s.c, b" ");
-    print_set(s.d, b" ");
-    print_set(s.f, b" ");
-    print_set(s.e, b"\n");
+    cases::decimal(n);
+    cases::numbers(b"", &[t, k]);
+    cases::numbers(
+        b":",
+        &[
+            s.refusal as usize,
+            s.c as usize,
+            s.d as usize,
+            s.f as usize,
+            s.e as usize,
+        ],
+    );
+    cases::newline();
 }
 
+// The star of graph k; from 28 on, of bits.
 fn play(k: usize, n: usize, t: usize) {
-    let s = star::find(&rows(k, n, t), n, t);
-    print_star(k, n, t, s);
-}
-
-// Byte b of the bits, each set with a chance of k in 32.
-fn chance_byte(k: usize, n: usize, b: usize) -> u8 {
-    let mut s: u16 = 0;
-    let mut x: usize = 0;
-    while x < 8 {
-        if word(draw(300, n, b, x)) % 32 < k {
-            s = bitset::insert(s, x);
-        }
-        x += 1;
+    if k < 28 {
+        print_star(k, n, t, star::find(&rows(k, n, t), n, t));
+        return;
     }
-    (s % 256) as u8
-}
-
-// The star of 120 bits.
-fn play_bits(k: usize, n: usize, t: usize) {
-    let mut bits = [0u8; 15];
-    let mut b: usize = 0;
-    while b < 15 {
-        bits[b] = chance_byte(k, n, b);
-        b += 1;
-    }
-    print_star(k, n, t, star::of_bits(bits, n, t));
-}
-
-fn print_byte(x: u8) {
-    io::write_all(STDOUT_FILENO, b" ");
-    print(x as usize, b"");
+    print_star(k - 28, n, t, star::of_bits(bits(k, n), n, t));
 }
 
 // The missing pairs of graph k.
 fn print_bits(k: usize, n: usize, t: usize) {
-    let bits = graph::bits_of(&rows(k, n, t), n);
-    print(n, b":");
-    let mut b: usize = 0;
-    while b < 15 {
-        print_byte(bits[b]);
-        b += 1;
-    }
-    io::write_all(STDOUT_FILENO, b"\n");
+    let pairs = graph::bits_of(&rows(k, n, t), n);
+    cases::decimal(n);
+    cases::byte_line(b":", &pairs);
 }
 
-// The graphs of n controllers of which at most t are faulty.
-fn play_all(n: usize, t: usize) {
+// The 28 graphs of n controllers of which at most t are faulty, and the nine chances.
+fn kinds(n: usize, t: usize) {
     let mut k: usize = 0;
-    while k < 28 {
+    while k < 37 {
         play(k, n, t);
         k += 1;
     }
 }
 
-// The same for bits.
-fn play_all_bits(n: usize, t: usize) {
-    let mut k: usize = 0;
-    while k < 9 {
-        play_bits(k, n, t);
-        k += 1;
-    }
-}
-
-fn play_size(n: usize)
-    requires { ⌜ n ≤ 16 ⌝ }
+// If n allows t. The missing pairs are printed once for n.
+fn play_size(n: usize, t: usize)
+    requires { ⌜ t ≤ 5 ⌝ }
 {
-    let mut t: usize = 1;
-    while 3 * t < n {
-        play_all(n, t);
-        play_all_bits(n, t);
-        t += 1;
+    if 3 * t < n {
+        kinds(n, t);
     }
-    print_bits(12, n, 1);
+    if t == 5 {
+        print_bits(12, n, 1);
+    }
 }
 
-fn main() {
-    let mut n: usize = 4;
-    while n <= 16 {
-        play_size(n);
-        n += 1;
+// n from 4 to 16, t from 1 to 5.
+fn play_at(x: usize)
+    requires { ⌜ x < 65 ⌝ }
+{
+    play_size(4 + x / 5, 1 + x % 5);
+}
+
+fn sizes() {
+    let mut x: usize = 0;
+    while x < 65 {
+        play_at(x);
+        x += 1;
     }
+}
+
+// Settings that are refused or just taken.
+fn edges() {
     play(0, 3, 1);
     play(0, 3, 0);
     play(0, 17, 5);
@@ -252,9 +222,14 @@ fn main() {
     play(0, 7, 2);
     play(0, 16, 6);
     play(0, 16, 5);
-    play_bits(0, 3, 0);
-    play_bits(0, 17, 5);
-    play_bits(0, 4, 2);
-    play_bits(0, 16, 6);
+    play(28, 3, 0);
+    play(28, 17, 5);
+    play(28, 4, 2);
+    play(28, 16, 6);
     print_bits(1, 17, 1);
+}
+
+fn main() {
+    sizes();
+    edges();
 }

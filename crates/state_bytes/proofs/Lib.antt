@@ -1,4 +1,4 @@
 -- Laws for the crates above (Laws), and those that the functions' proofs cite.
 pub mod Laws
 mod Digits
-mod Records
+mod Fields

@@ -1,28 +1,35 @@
--- The state of a controller as bytes, for callers that keep it in a buffer. The main law is `read-written` (proofs/Laws.antt): what was written
--- is read back.
+-- The state of a controller as bytes, for callers that keep it in a buffer: ten fields, one behind the other, each of a width of its own, a number
+-- with its lowest byte first. The main law is `read-written` (proofs/Laws.antt): what was written is read back.
 --   littleEndian w x     the w low bytes of the number x, the lowest first
 --   numberOf bytes       the number that such bytes stand for
---   numbersOf s          the six numbers of a state
---   outcomeNumber w      the number of an outcome
---   outcomeOf x          the outcome of a number; open where it is no outcome's
---   stateLength          how many bytes a state takes
---   bytesOf s            the bytes of a state: six numbers of 8 bytes, the outcome in one, matrix and weak matrix in 16 rows of marks each,
---                        and the core as one more row
---   partFrom bytes a w   the w bytes from a on
---   fieldsOf bytes       the state whose fields stand in the bytes
+--   widths               how many bytes each field takes: n, t, k, own number, sender, next call, outcome, matrix, weak matrix, core
+--   widthOf i            the width of field i, counted from 0
+--   offset i             where field i starts: the sum of the widths before it
+--   stateLength          how many bytes a state takes: the sum of all widths
+--   numbersOf s          the first six fields, which are numbers
+--   fieldsOf s           the bytes of the ten fields: numbers, and 16 rows of marks for each matrix
+--   fieldBytes s i       those of field i
+--   bytesOf s            the bytes of a state
+--   fieldIn bytes i      field i in the bytes of a state
+--   numberIn bytes i     the number in it
+--   rowsIn bytes i       the 16 rows in it
+--   outcomeFrom x        the outcome of a number (the listing is reconstruction's `outcomeNumber`); open where it is no outcome's
+--   stateIn bytes        the state whose fields stand in the bytes
 --   stateOf bytes        the state that the bytes stand for: every list of that length is a state; the zero state where it has another length
 --   Words s              the bounds of a state's fields: numbers below 2 ^ 64, and rows of 16 bits
 use mathlib.Core.Path.{_≡_}
 use mathlib.Core.Bool.{cond}
-use mathlib.Core.List.{List, [], _∷_, _++_}
+use mathlib.Core.List.{List, [], _∷_}
 use Prim.Native.Nat.{ℕ, zero, suc, _+_, _*_, _/_, _%_, _^_, _<_}
 use lib.Dec.{eqb}
 use lib.ListN.{length, getD, take, drop}
+use Rattle.lists.specs.Sum.{sum}
 use Rattle.lists.specs.Fill.{tabulate}
-use Rattle.lists.specs.Join.{joined, part}
+use Rattle.lists.specs.Join.{joined}
 use Rattle.bitset.specs.Row.{rowOf, rowsOf}
 use Rattle.reconstruction.specs.declared.Outcome.{Outcome}
 use Rattle.reconstruction.specs.declared.Outcome.the-variants.{Open, Agreed, None, Beyond}
+use Rattle.reconstruction.specs.Outcomes.{outcomeNumber}
 use Rattle.protocol.specs.declared.State.{State}
 use Rattle.protocol.specs.State.{zeroState}
 
@@ -34,45 +41,58 @@ unfoldable pub numberOf : List ℕ → ℕ
 numberOf [] = 0
 numberOf (b ∷ bytes) = b + 256 * numberOf bytes
 
-abbrev pub numbersOf : State → List ℕ
-numbersOf s = s .n ∷ s .t ∷ s .k ∷ s .own ∷ s .sender ∷ s .next ∷ []
+abbrev pub widths : List ℕ
+widths = 8 ∷ 8 ∷ 8 ∷ 8 ∷ 8 ∷ 8 ∷ 1 ∷ 32 ∷ 32 ∷ 2 ∷ []
 
-unfoldable pub outcomeNumber : Outcome → ℕ
-outcomeNumber Open = 0
-outcomeNumber Agreed = 1
-outcomeNumber None = 2
-outcomeNumber Beyond = 3
+unfoldable pub widthOf : ℕ → ℕ
+widthOf i = getD widths i 0
 
-unfoldable pub outcomeOf : ℕ → Outcome
-outcomeOf x = cond (eqb x 1) Agreed (cond (eqb x 2) None (cond (eqb x 3) Beyond Open))
+unfoldable pub offset : ℕ → ℕ
+offset i = sum i widthOf
 
 abbrev pub stateLength : ℕ
-stateLength = 115
+stateLength = offset (length widths)
+
+abbrev pub numbersOf : State → List ℕ
+numbersOf s = s .settings .n ∷ s .settings .t ∷ s .settings .k ∷ s .own ∷ s .settings .sender ∷ s .next ∷ []
+
+abbrev pub fieldsOf : State → List (List ℕ)
+fieldsOf s =
+    littleEndian (widthOf 0) (s .settings .n) ∷ littleEndian (widthOf 1) (s .settings .t) ∷ littleEndian (widthOf 2) (s .settings .k)
+    ∷ littleEndian (widthOf 3) (s .own) ∷ littleEndian (widthOf 4) (s .settings .sender) ∷ littleEndian (widthOf 5) (s .next)
+    ∷ littleEndian (widthOf 6) (outcomeNumber (s .outcome)) ∷ rowsOf 16 (s .matrix) ∷ rowsOf 16 (s .weak) ∷ littleEndian (widthOf 9) (s .core) ∷ []
+
+unfoldable pub fieldBytes : State → ℕ → List ℕ
+fieldBytes s i = getD (fieldsOf s) i []
 
 unfoldable pub bytesOf : State → List ℕ
-bytesOf s =
-    joined (λ i. littleEndian 8 (getD (numbersOf s) i 0)) 6
-    ++ (littleEndian 1 (outcomeNumber (s .outcome)) ++ (rowsOf 16 (s .matrix) ++ (rowsOf 16 (s .weak) ++ littleEndian 2 (s .core))))
+bytesOf s = joined (fieldBytes s) (length widths)
 
-abbrev pub partFrom : List ℕ → (a w : ℕ) → List ℕ
-partFrom bytes a w = take w (drop a bytes)
+unfoldable pub fieldIn : List ℕ → ℕ → List ℕ
+fieldIn bytes i = take (widthOf i) (drop (offset i) bytes)
 
-unfoldable pub fieldsOf : List ℕ → State
-fieldsOf bytes = record {
-  n = numberOf (part 8 bytes 0);
-  t = numberOf (part 8 bytes 1);
-  k = numberOf (part 8 bytes 2);
-  own = numberOf (part 8 bytes 3);
-  sender = numberOf (part 8 bytes 4);
-  next = numberOf (part 8 bytes 5);
-  outcome = outcomeOf (numberOf (partFrom bytes 48 1));
-  matrix = tabulate (rowOf 16 (partFrom bytes 49 32)) 16;
-  weak = tabulate (rowOf 16 (partFrom bytes 81 32)) 16;
-  core = rowOf 16 (partFrom bytes 113 2) 0;
+abbrev pub numberIn : List ℕ → ℕ → ℕ
+numberIn bytes i = numberOf (fieldIn bytes i)
+
+abbrev pub rowsIn : List ℕ → ℕ → List ℕ
+rowsIn bytes i = tabulate (rowOf 16 (fieldIn bytes i)) 16
+
+unfoldable pub outcomeFrom : ℕ → Outcome
+outcomeFrom x = cond (eqb x 1) Agreed (cond (eqb x 2) None (cond (eqb x 3) Beyond Open))
+
+unfoldable pub stateIn : List ℕ → State
+stateIn bytes = record {
+  settings = record { n = numberIn bytes 0; t = numberIn bytes 1; k = numberIn bytes 2; sender = numberIn bytes 4 };
+  own = numberIn bytes 3;
+  next = numberIn bytes 5;
+  outcome = outcomeFrom (numberIn bytes 6);
+  matrix = rowsIn bytes 7;
+  weak = rowsIn bytes 8;
+  core = rowOf 16 (fieldIn bytes 9) 0;
 }
 
 unfoldable pub stateOf : List ℕ → State
-stateOf bytes = cond (eqb (length bytes) stateLength) (fieldsOf bytes) zeroState
+stateOf bytes = cond (eqb (length bytes) stateLength) (stateIn bytes) zeroState
 
 pub record Words (s : State) : Type 0 where
   pub numbers : (i : ℕ) → getD (numbersOf s) i 0 < 2 ^ 64

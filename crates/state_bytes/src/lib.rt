@@ -1,24 +1,51 @@
 // The state of a controller as bytes, for callers that keep it in a buffer of their own, as those of the static library do.
 ghost use mathlib.Core.Path.{_≡_};
 ghost use mathlib.Core.Bool.{cond};
-ghost use Prim.Native.Nat.{_+_, _*_, _<_, _≤_};
+ghost use Prim.Native.Nat.{_<_, _≤_};
 ghost use lib.Dec.{eqb};
 ghost use lib.ListN.{length, getD};
 ghost use Rattle.lists.specs.Fill.{tabulate};
-ghost use Rattle.lists.specs.Join.{joined, part};
 ghost use Rattle.bitset.specs.Row.{rowOf};
-ghost use Rattle.state_bytes.specs.State.{littleEndian, numberOf, outcomeNumber, outcomeOf, stateLength, bytesOf, fieldsOf, stateOf};
+ghost use Rattle.reconstruction.specs.Outcomes.{outcomeNumber};
+ghost use Rattle.state_bytes.specs.State.{littleEndian, numberOf, widths, widthOf, offset, stateLength, numbersOf, fieldBytes, bytesOf, fieldIn, numberIn, outcomeFrom, stateIn, stateOf};
 use protocol::State;
 use reconstruction::Outcome;
+use settings::Settings;
 
-// How many bytes a state takes.
-const LENGTH: usize = 115;
+// How many fields a state has.
+const FIELDS: usize = 10;
 
-// How many bytes a state takes. Shut out: 114; 116.
+// How many bytes each field takes: n, t, k, own number, sender, next call, outcome, matrix, weak matrix, core.
+const WIDTHS: [usize; FIELDS] = [8, 8, 8, 8, 8, 8, 1, 32, 32, 2];
+
+// The width of field i.
+fn width(i: usize) -> usize
+    requires { ⌜ i < length widths ⌝ }
+    ensures { λ r. ⌜ r ≡ widthOf i ⌝ }
+{
+    WIDTHS[i]
+}
+
+// Where field i starts: the sum of the widths before it.
+fn offset(i: usize) -> usize
+    requires { ⌜ i ≤ length widths ⌝ }
+    ensures { λ r. ⌜ r ≡ offset i ⌝ }
+{
+    let mut a: usize = 0;
+    let mut j: usize = 0;
+    while j < i {
+        a += width(j);
+        j += 1;
+    }
+    a
+}
+
+// How many bytes a state takes: the sum of all widths.
+// Shut out: without the last field; and must-fail/wrong_width.
 pub fn length() -> usize
     ensures { λ r. ⌜ r ≡ stateLength ⌝ }
 {
-    LENGTH
+    offset(FIELDS)
 }
 
 // The low bytes of x, the lowest first.
@@ -30,20 +57,6 @@ fn put(bytes: &mut [u8], x: usize)
     while i < bytes.len() {
         bytes[i] = (rest % 256) as u8;
         rest = rest / 256;
-        i += 1;
-    }
-}
-
-// Six numbers of 8 bytes.
-fn put_numbers(bytes: &mut [u8], xs: &[usize; 6])
-    requires { ⌜ length (now bytes) ≡ 48 ⌝ }
-    ensures { λ _. ⌜ now (bytes .exit) ≡ joined (λ i. littleEndian 8 (getD (now (xs .entry)) i 0)) 6 ⌝ }
-{
-    let mut i: usize = 0;
-    while i < 6 {
-        let a = i * 8;
-        let e = a + 8;
-        put(&mut bytes[a..e], xs[i]);
         i += 1;
     }
 }
@@ -61,23 +74,73 @@ pub fn outcome_number(outcome: Outcome) -> u8
     }
 }
 
+// The number in field i, one of the first six.
+fn number(s: State, i: usize) -> usize
+    requires { ⌜ i < 6 ⌝ }
+    ensures { λ r. ⌜ r ≡ getD (numbersOf s) i 0 ⌝ }
+{
+    let numbers = [
+        s.settings.n,
+        s.settings.t,
+        s.settings.k,
+        s.own,
+        s.settings.sender,
+        s.next,
+    ];
+    numbers[i]
+}
+
+// Writes field i to as many bytes as it takes.
+fn put_field(bytes: &mut [u8], s: State, i: usize)
+    requires { ⌜ (i < length widths) × (length (now bytes) ≡ widthOf i) ⌝ }
+    ensures { λ _. ⌜ now (bytes .exit) ≡ fieldBytes s i ⌝ }
+{
+    if i < 6 {
+        put(bytes, number(s, i));
+        return;
+    }
+    if i == 6 {
+        let outcome = s.outcome;
+        put(bytes, outcome_number(outcome) as usize);
+        return;
+    }
+    if i == 7 {
+        let matrix = s.matrix;
+        bitset::write_rows(bytes, &matrix, 16);
+        return;
+    }
+    if i == 8 {
+        let weak = s.weak;
+        bitset::write_rows(bytes, &weak, 16);
+        return;
+    }
+    put(bytes, s.core as usize);
+}
+
+// Writes the fields one behind the other.
+fn put_fields(bytes: &mut [u8], s: State)
+    requires { ⌜ length (now bytes) ≡ stateLength ⌝ }
+    ensures { λ _. ⌜ now (bytes .exit) ≡ bytesOf s ⌝ }
+{
+    let mut a: usize = 0;
+    let mut i: usize = 0;
+    while i < FIELDS {
+        let e = a + width(i);
+        put_field(&mut bytes[a..e], s, i);
+        a = e;
+        i += 1;
+    }
+}
+
 // Writes a state to a buffer of its length; nothing is written to one of another length.
-// Shut out: the weak matrix for the matrix; own number and sender the other way round.
+// Shut out: the weak matrix for the matrix; own number and sender the other way round; the last field not written.
 pub fn write(s: State, bytes: &mut [u8])
     ensures { λ _. ⌜ now (bytes .exit) ≡ cond (eqb (length (now (bytes .entry))) stateLength) (bytesOf s) (now (bytes .entry)) ⌝ }
 {
-    if bytes.len() != LENGTH {
+    if bytes.len() != length() {
         return;
     }
-    let numbers = [s.n, s.t, s.k, s.own, s.sender, s.next];
-    let outcome = s.outcome;
-    let matrix = s.matrix;
-    let weak = s.weak;
-    put_numbers(&mut bytes[0..48], &numbers);
-    put(&mut bytes[48..49], outcome_number(outcome) as usize);
-    bitset::write_rows(&mut bytes[49..81], &matrix, 16);
-    bitset::write_rows(&mut bytes[81..113], &weak, 16);
-    put(&mut bytes[113..115], s.core as usize);
+    put_fields(bytes, s);
 }
 
 // A byte as a wider number.
@@ -101,18 +164,27 @@ fn get(bytes: &[u8]) -> usize
     x
 }
 
-// Number i of 8 bytes.
-fn number_at(bytes: &[u8], i: usize) -> usize
-    requires { ⌜ i * 8 + 8 ≤ length (now bytes) ⌝ }
-    ensures { λ r. ⌜ r ≡ numberOf (part 8 (now (bytes .entry)) i) ⌝ }
+// Field i in the bytes of a state.
+fn field(bytes: &[u8], i: usize) -> &[u8]
+    requires { ⌜ (length (now bytes) ≡ stateLength) × (i < length widths) ⌝ }
+    ensures { λ r. ⌜ now r ≡ fieldIn (now (bytes .entry)) i ⌝ }
 {
-    let a = i * 8;
-    get(&bytes[a..a + 8])
+    let a = offset(i);
+    let e = a + width(i);
+    &bytes[a..e]
+}
+
+// The number in field i, one of the first seven.
+fn number_in(bytes: &[u8], i: usize) -> usize
+    requires { ⌜ (length (now bytes) ≡ stateLength) × (i < 7) ⌝ }
+    ensures { λ r. ⌜ r ≡ numberIn (now (bytes .entry)) i ⌝ }
+{
+    get(field(bytes, i))
 }
 
 // The outcome of a number; open where it is no outcome's.
-fn outcome_of(x: usize) -> Outcome
-    ensures { λ r. ⌜ r ≡ outcomeOf x ⌝ }
+fn outcome_from(x: usize) -> Outcome
+    ensures { λ r. ⌜ r ≡ outcomeFrom x ⌝ }
 {
     if x == 1 {
         return Outcome::Agreed;
@@ -141,52 +213,34 @@ pub fn get_rows(bytes: &[u8]) -> [u16; 16]
 }
 
 // The state in a buffer of its length.
-fn fields(bytes: &[u8]) -> State
+fn state_in(bytes: &[u8]) -> State
     requires { ⌜ length (now bytes) ≡ stateLength ⌝ }
-    ensures { λ r. ⌜ r ≡ fieldsOf (now (bytes .entry)) ⌝ }
+    ensures { λ r. ⌜ r ≡ stateIn (now (bytes .entry)) ⌝ }
 {
-    let n = number_at(bytes, 0);
-    let t = number_at(bytes, 1);
-    let k = number_at(bytes, 2);
-    let own = number_at(bytes, 3);
-    let sender = number_at(bytes, 4);
-    let next = number_at(bytes, 5);
-    let outcome = outcome_of(get(&bytes[48..49]));
-    let matrix = get_rows(&bytes[49..81]);
-    let weak = get_rows(&bytes[81..113]);
-    let core = bitset::read_row(&bytes[113..115], 16, 0);
-    State {
-        n,
-        t,
-        k,
-        own,
-        sender,
-        next,
-        outcome,
-        matrix,
-        weak,
-        core,
-    }
+    let n = number_in(bytes, 0);
+    let t = number_in(bytes, 1);
+    let k = number_in(bytes, 2);
+    let own = number_in(bytes, 3);
+    let sender = number_in(bytes, 4);
+    let next = number_in(bytes, 5);
+    let outcome = outcome_from(number_in(bytes, 6));
+    let matrix = get_rows(field(bytes, 7));
+    let weak = get_rows(field(bytes, 8));
+    let core = bitset::read_row(field(bytes, 9), 16, 0);
+    let settings = Settings { n, t, k, sender };
+    let first = protocol::initial(settings, own, next);
+    let told = protocol::with_call(first, next, outcome);
+    let voted = protocol::with_votes(told, matrix, weak);
+    protocol::with_core(voted, matrix, core)
 }
 
 // The state that a buffer holds; the zero state where the buffer has another length.
-// Shut out: beyond for every outcome byte past 3; n 1 where the buffer has another length.
+// Shut out: beyond for every outcome byte past 3; n 1 where the buffer has another length; and must-fail/outcome_from_another_field.
 pub fn read(bytes: &[u8]) -> State
     ensures { λ r. ⌜ r ≡ stateOf (now (bytes .entry)) ⌝ }
 {
-    if bytes.len() == LENGTH {
-        return fields(bytes);
+    if bytes.len() == length() {
+        return state_in(bytes);
     }
-    State {
-        n: 0,
-        t: 0,
-        k: 0,
-        own: 0,
-        sender: 0,
-        next: 0,
-        outcome: Outcome::Open,
-        matrix: [0u16; 16],
-        weak: [0u16; 16],
-        core: 0,
-    }
+    protocol::zero_state()
 }

@@ -11,9 +11,10 @@ use Rattle.bitset.specs.Set.{setOf}
 use Rattle.text.specs.Write.{appended, padded}
 use Rattle.text.proofs.Laws.{append-behind, padded-none, append-padded}
 use Rattle.system_file.specs.declared.SystemFile.{SystemFile}
+use Rattle.settings.specs.declared.Settings.{Settings}
 use Rattle.system_file.specs.declared.Form.the-variants.{Right as IsRight}
-use Rattle.system_file.specs.declared.Lines.{Lines}
-use Rattle.system_file.specs.declared.Lines.the-variants.{Right, Wrong}
+use Rattle.system_file.specs.declared.messages.Lines.{Lines}
+use Rattle.system_file.specs.declared.messages.Lines.the-variants.{Right, Wrong}
 use Rattle.system_file.specs.Form.{Contents, Read, wrong, right}
 use Rattle.system_file.specs.Table.{isFaulty, placeOf, tableSize, tableOf, fileOf}
 use Rattle.system_file.specs.Steps.{restored, linesOf, tableIn}
@@ -30,26 +31,22 @@ unfolding tableOf placeOf
 table-none = sym (tabulate-const 0 tableSize)
 
 -- ---- the answer
-abbrev pub file : (n t k sender : ℕ) → List ℕ → ℕ → List ℕ → SystemFile
-file n t k sender block faulty places = record {
+abbrev pub file : Settings → List ℕ → ℕ → List ℕ → SystemFile
+file σ block faulty places = record {
   form = IsRight;
-  n = n;
-  t = t;
-  k = k;
-  sender = sender;
+  settings = σ;
   block = block;
   faulty = faulty;
   places = places;
 }
 
 pub file-right : (c : Contents) (r : Read) (faulty : ℕ) (places : List ℕ) (x : Lines) → x ≡ linesOf r → x ≡ Right faulty → places ≡ tableIn r places
-    → file (c .n) (c .t) (c .k) (c .sender) (padded 192 (c .block)) faulty places ≡ fileOf (restored c r)
+    → file (c .settings) (padded 192 (c .block)) faulty places ≡ fileOf (restored c r)
 file-right c (wrong line) faulty places x d e p = let z : _≡_ {A = ℕ} 0 1 = cc in absurd (omega arith)
 file-right c (right b) faulty places x d e p =
     let s = setOf 16 (λ i. isFaulty (b .messages) (i + 1)) in
     let q : faulty ≡ s = cc in
-    ap (λ (y : ℕ). file (c .n) (c .t) (c .k) (c .sender) (padded 192 (c .block)) y places) q
-    ∙ ap (file (c .n) (c .t) (c .k) (c .sender) (padded 192 (c .block)) s) p
+    ap (λ (y : ℕ). file (c .settings) (padded 192 (c .block)) y places) q ∙ ap (file (c .settings) (padded 192 (c .block)) s) p
 
 pub file-wrong : (c : Contents) (r : Read) (line : ℕ) (x : Lines) → x ≡ linesOf r → x ≡ Wrong line → fileOf (wrong line) ≡ fileOf (restored c r)
 file-wrong c (wrong l) line x d e = let q : line ≡ l = cc in ap (λ (y : ℕ). fileOf (wrong y)) q

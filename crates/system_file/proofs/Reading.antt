@@ -10,14 +10,12 @@ use borrow.Author.Tests.{le-leb, lt-leb, lt-ltb, le-ltb}
 use lib.Dec.{leb, ltb}
 use lib.ListN.{length}
 use Rattle.lists.proofs.Tests.{either, and-left, and-right, cond-yes, cond-no, lt-or-le}
+use Rattle.text.specs.Lines.{lineAt, isEnded, nextAt, isNames}
+use Rattle.text.proofs.Laws.{next-is}
 use Rattle.system_file.specs.Form.{
   limit,
   settingsNames,
   messageNames,
-  lineAt,
-  isEnded,
-  nextAt,
-  isNames,
   isSettings,
   isMessage,
   Message,
@@ -34,11 +32,11 @@ use Rattle.system_file.specs.Form.{
 }
 use Rattle.system_file.specs.Steps.{bare, restored}
 use Rattle.system_file.proofs.Rows.{All, more}
-use Rattle.system_file.proofs.Fields.{Placed, message-placed, next-is}
+use Rattle.system_file.proofs.MessageLine.{Placed, message-placed}
 
 -- the test of one message line
 unfoldable pub isLine : List ℕ → Contents → ℕ → Bool
-isLine input c a = isEnded input a && (isMessage (c .n) (c .t) (c .k) (lineAt input a) && not (isRepeated (c .messages) (messageAt input a)))
+isLine input c a = isEnded input a && (isMessage (c .settings) (lineAt input a) && not (isRepeated (c .messages) (messageAt input a)))
 
 -- ---- message lines
 module _ (input : List ℕ) (c : Contents) (a line : ℕ) where
@@ -56,12 +54,14 @@ module _ (input : List ℕ) (c : Contents) (a line : ℕ) where
 
   pub read-stop : (fuel : ℕ) → a < length input → isLine input c a ≡ false → readFrom (suc fuel) input c a line ≡ wrong line
   unfolding Turn
-  read-stop fuel h e = turn fuel h ∙ cond-no (isLine input c a) (readFrom fuel input (withMessage c (messageAt input a)) (nextAt input a) (line + 1)) (wrong line) e
+  read-stop fuel h e =
+      turn fuel h ∙ cond-no (isLine input c a) (readFrom fuel input (withMessage c (messageAt input a)) (nextAt input a) (line + 1)) (wrong line) e
 
   pub read-more : (fuel : ℕ) → a < length input → isLine input c a ≡ true
       → readFrom (suc fuel) input c a line ≡ readFrom fuel input (withMessage c (messageAt input a)) (nextAt input a) (line + 1)
   unfolding Turn
-  read-more fuel h e = turn fuel h ∙ cond-yes (isLine input c a) (readFrom fuel input (withMessage c (messageAt input a)) (nextAt input a) (line + 1)) (wrong line) e
+  read-more fuel h e =
+      turn fuel h ∙ cond-yes (isLine input c a) (readFrom fuel input (withMessage c (messageAt input a)) (nextAt input a) (line + 1)) (wrong line) e
 
 -- ---- the settings alone
 restored-same : (c : Contents) (m : Message) (r : Read) → restored (withMessage c m) r ≡ restored c r
@@ -69,17 +69,17 @@ restored-same c m (wrong line) = refl
 restored-same c m (right d) = refl
 
 pub read-bare : (fuel : ℕ) (input : List ℕ) (c : Contents) (a line : ℕ)
-    → readFrom fuel input c a line ≡ restored c (readFrom fuel input (bare (c .n) (c .t) (c .k) (c .messages)) a line)
+    → readFrom fuel input c a line ≡ restored c (readFrom fuel input (bare (c .settings) (c .messages)) a line)
 unfolding readFrom isLine
 read-bare zero input c a line = refl
 read-bare (suc fuel) input c a line =
-    let b = bare (c .n) (c .t) (c .k) (c .messages) in
+    let b = bare (c .settings) (c .messages) in
     let m = messageAt input a in
     ⊎-elim
     (λ (h : a < length input). ⊎-elim
     (λ (e : isLine input c a ≡ true).
     read-more input c a line fuel h e ∙ read-bare fuel input (withMessage c m) (nextAt input a) (line + 1)
-    ∙ restored-same c m (readFrom fuel input (bare (c .n) (c .t) (c .k) (m ∷ c .messages)) (nextAt input a) (line + 1))
+    ∙ restored-same c m (readFrom fuel input (bare (c .settings) (m ∷ c .messages)) (nextAt input a) (line + 1))
     ∙ ap (restored c) (sym (read-more input b a line fuel h e)))
     (λ (e : isLine input c a ≡ false). read-stop input c a line fuel h e ∙ ap (restored c) (sym (read-stop input b a line fuel h e)))
     (either (isLine input c a)))
@@ -89,7 +89,7 @@ read-bare (suc fuel) input c a line =
 -- ---- what was read
 -- c with the messages ms
 abbrev pub withAll : Contents → List Message → Contents
-withAll c ms = record { n = c .n; t = c .t; k = c .k; sender = c .sender; block = c .block; messages = ms }
+withAll c ms = record { settings = c .settings; block = c .block; messages = ms }
 
 right-inj : (c d : Contents) → right c ≡ right d → c ≡ d
 right-inj c d e = cc
@@ -98,10 +98,12 @@ wrong-right : (line : ℕ) (c : Contents) → wrong line ≡ right c → ⊥
 wrong-right line c e = let z : _≡_ {A = ℕ} 0 1 = cc in omega arith
 
 -- the messages are in range, and all else stays
-pub read-keeps : (fuel : ℕ) (input : List ℕ) (c : Contents) (a line : ℕ) (d : Contents) → 1 ≤ a → All (Placed (c .n) (c .t) (c .k) (length input)) (c .messages)
-    → readFrom fuel input c a line ≡ right d → (withAll c (d .messages) ≡ d) × All (Placed (c .n) (c .t) (c .k) (length input)) (d .messages)
+pub read-keeps : (fuel : ℕ) (input : List ℕ) (c : Contents) (a line : ℕ) (d : Contents) → 1 ≤ a → All (Placed (c .settings) (length input)) (c .messages)
+    → readFrom fuel input c a line ≡ right d → (withAll c (d .messages) ≡ d) × All (Placed (c .settings) (length input)) (d .messages)
 unfolding readFrom
-read-keeps zero input c a line d h p e = let q = right-inj c d e in subst (λ (x : Contents). (withAll c (x .messages) ≡ x) × All (Placed (c .n) (c .t) (c .k) (length input)) (x .messages)) q (refl, p)
+read-keeps zero input c a line d h p e =
+    let q = right-inj c d e in
+    subst (λ (x : Contents). (withAll c (x .messages) ≡ x) × All (Placed (c .settings) (length input)) (x .messages)) q (refl, p)
 read-keeps (suc fuel) input c a line d h p e =
     let m = messageAt input a in
     ⊎-elim
@@ -113,14 +115,14 @@ read-keeps (suc fuel) input c a line d h p e =
     (either (isLine input c a)))
     (λ (g : length input ≤ a).
     let q = right-inj c d (sym (read-end input c a line (suc fuel) g) ∙ e) in
-    subst (λ (x : Contents). (withAll c (x .messages) ≡ x) × All (Placed (c .n) (c .t) (c .k) (length input)) (x .messages)) q (refl, p))
+    subst (λ (x : Contents). (withAll c (x .messages) ≡ x) × All (Placed (c .settings) (length input)) (x .messages)) q (refl, p))
     (lt-or-le a (length input))
   where
-    new : isLine input c a ≡ true → Placed (c .n) (c .t) (c .k) (length input) (messageAt input a)
+    new : isLine input c a ≡ true → Placed (c .settings) (length input) (messageAt input a)
     new y = unfold isLine in (
-        let r = isMessage (c .n) (c .t) (c .k) (lineAt input a) && not (isRepeated (c .messages) (messageAt input a)) in
-        message-placed (c .n) (c .t) (c .k) input a h (and-left (isEnded input a) r y)
-        (and-left (isMessage (c .n) (c .t) (c .k) (lineAt input a)) (not (isRepeated (c .messages) (messageAt input a))) (and-right (isEnded input a) r y)))
+        let r = isMessage (c .settings) (lineAt input a) && not (isRepeated (c .messages) (messageAt input a)) in
+        message-placed (c .settings) input a h (and-left (isEnded input a) r y)
+        (and-left (isMessage (c .settings) (lineAt input a)) (not (isRepeated (c .messages) (messageAt input a))) (and-right (isEnded input a) r y)))
 
 -- ---- the whole file
 module _ (input : List ℕ) where

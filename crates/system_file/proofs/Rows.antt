@@ -7,20 +7,19 @@ use mathlib.Core.Logic.{_⊎_, inl, inr, ⊎-elim}
 use Prim.Native.Nat.{ℕ, _+_, _-_, _*_, _/_, _%_, _≤_, _<_}
 use native.Mathlib.Omega.{arith}
 use borrow.Author.Tests.{eq-eqb, ne-eqb, eqb-true, eqb-false, lt-ltb, ltb-true, not-true}
-use lib.Dec.{eqb, lit<}
-use lib.Pow.{pow-pos}
+use lib.Dec.{eqb}
 use lib.ListN.{length, getD, take, drop, take-append-drop}
-use lib.Seq.{getD-take, getD-drop}
 use Rattle.lists.specs.Fill.{tabulate, filled}
 use Rattle.lists.specs.Join.{part}
 use Rattle.lists.specs.Sum.{count}
-use Rattle.lists.proofs.Tests.{true≢false, either, bool-ext, fails, and-left, and-right, and-both, and-no-left, and-tail, or-cases, or-left, or-right, or-tail, cond-yes, cond-no, same-or-not}
-use Rattle.lists.proofs.Fills.{length-tabulate, getD-tabulate, tabulate-ext, tabulate-getD, filled-all}
-use Rattle.lists.proofs.Joins.{part-take, length-part, joined-parts, joined-ext, part-put-same, part-put-other}
-use Rattle.lists.proofs.Parts.{length-put, slot-within}
+use Rattle.lists.proofs.Tests.{true≢false, either, bool-ext, fails, and-left, and-right, and-both, and-no-left, and-tail}
+use Rattle.lists.proofs.Tests.{or-cases, or-left, or-right, or-tail, or-comm, cond-yes, cond-no, same-or-not}
+use Rattle.lists.proofs.Fills.{length-tabulate, getD-tabulate, tabulate-ext, filled-all}
+use Rattle.lists.proofs.Joins.{part-take, same-parts, getD-part, part-given, part-tabulate, part-put-same, part-put-other}
+use Rattle.lists.proofs.Parts.{length-put}
 use Rattle.lists.proofs.Sums.{count-some, count-member}
 use Rattle.bitset.specs.Set.{setOf, inserted}
-use Rattle.bitset.proofs.Laws.{ext, set-lt, insert-lt, member-insert, member-set, member-over}
+use Rattle.bitset.proofs.Laws.{ext, set-lt, insert-lt, member-insert, member-set}
 use Rattle.system_file.specs.Form.{Message, clashes, isRepeated}
 use Rattle.system_file.specs.Table.{isFaulty, reaches, placeOf, tableSize, tableOf}
 use Rattle.system_file.specs.Steps.{isTo, isTaken, isGiven, rowWith, rowAt, isNew, tableWith, Enters}
@@ -33,28 +32,6 @@ pub data All (P : Message → Type 0) : List Message → Type 0 where
 pub all-map : {P Q : Message → Type 0} → ((m : Message) → P m → Q m) → {ms : List Message} → All P ms → All Q ms
 all-map f none = none
 all-map f (more {m = m} p a) = more (f m p) (all-map f a)
-
--- ---- parts of a list given by a function
-getD-part : (w : ℕ) (l : List ℕ) (i j : ℕ) → j < w → getD (part w l i) j 0 ≡ getD l (i * w + j) 0
-getD-part w l i j h = ap (λ (x : List ℕ). getD x j 0) (part-take w l i) ∙ getD-take w (drop (i * w) l) j 0 h ∙ getD-drop (i * w) l j 0
-
-part-given : (w : ℕ) (l : List ℕ) (n i : ℕ) → i < n → n * w ≤ length l → part w l i ≡ tabulate (λ j. getD l (i * w + j) 0) w
-part-given w l n i h m =
-    let e : length (part w l i) ≡ w = length-part w l n i h m in
-    sym (tabulate-getD (part w l i) 0) ∙ ap (tabulate (λ j. getD (part w l i) j 0)) e
-    ∙ tabulate-ext (λ j. getD (part w l i) j 0) (λ j. getD l (i * w + j) 0) w (λ j g. getD-part w l i j g)
-
-within : (w n i j : ℕ) → i < n → j < w → i * w + j < n * w
-within w n i j h g = omega (arith, slot-within n w i h)
-
-part-tabulate : (f : ℕ → ℕ) (w n i : ℕ) → i < n → part w (tabulate f (n * w)) i ≡ tabulate (λ j. f (i * w + j)) w
-part-tabulate f w n i h =
-    let l = tabulate f (n * w) in
-    part-given w l n i h (omega (arith, length-tabulate f (n * w)))
-    ∙ tabulate-ext (λ j. getD l (i * w + j) 0) (λ j. f (i * w + j)) w (λ j g. getD-tabulate f (n * w) (i * w + j) 0 (within w n i j h g))
-
-same-parts : (w n : ℕ) (a b : List ℕ) → length a ≡ n * w → length b ≡ n * w → ((i : ℕ) → i < n → part w a i ≡ part w b i) → a ≡ b
-same-parts w n a b ha hb h = joined-parts w a n ha ∙ joined-ext (part w a) (part w b) n h ∙ sym (joined-parts w b n hb)
 
 -- ---- the index of a place: what it says of round, sender and receiver
 pub at-index : {A : Type 0} (g : ℕ → ℕ → ℕ → A) (r f j : ℕ) → 1 ≤ r → 1 ≤ f → f ≤ 16 → j < 16
@@ -378,12 +355,6 @@ from-index f j h =
     bool-ext (eqb j (f - 1)) (eqb f (j + 1)) (λ e. let q = eqb-true j (f - 1) e in eq-eqb f (j + 1) (omega arith))
     (λ e. let q = eqb-true f (j + 1) e in eq-eqb j (f - 1) (omega arith))
 
-or-comm : (a b : Bool) → (a || b) ≡ (b || a)
-or-comm true true = refl
-or-comm true false = refl
-or-comm false true = refl
-or-comm false false = refl
-
 pub faulty-more : (m : Message) (ms : List Message) → 1 ≤ m .from
     → inserted (setOf 16 (λ i. isFaulty ms (i + 1))) (m .from - 1) ≡ setOf 16 (λ i. isFaulty (m ∷ ms) (i + 1))
 unfolding isFaulty
@@ -394,11 +365,6 @@ faulty-more m ms h =
     (λ i l.
     member-insert (setOf 16 q) (m .from - 1) i l ∙ ap₂ _||_ (member-set 16 q i l) (from-index (m .from) i h)
     ∙ or-comm (isFaulty ms (i + 1)) (eqb (m .from) (i + 1)) ∙ sym (member-set 16 d i l))
-
-pub set-empty : (n : ℕ) → setOf n (λ _. false) ≡ 0
-set-empty n =
-    ext n (setOf n (λ _. false)) 0 (set-lt n (λ _. false)) (pow-pos n)
-    (λ i l. member-set n (λ _. false) i l ∙ sym (member-over 0 0 i (lit< tt) (omega arith)))
 
 -- ---- the parts of the code's tests
 pub taken-none : (x to j : ℕ) → x ≡ 0 → isTaken x to j ≡ false

@@ -1,13 +1,8 @@
 -- The form of a system file, and what a file of that form says (document 01, 'The house program': it calls a system a house).
 --   limit                          the most bytes that a file has
 --   settingsNames, messageNames    the two lines of names
---   lineAt input a                 the line that starts at byte a, without its newline
---   isEnded input a                that line ends in a newline
---   nextAt input a                 where the line after it starts
---   rest i l, field i l            what follows the first i commas of the line l, and the field there
---   isNames names input a          the line at a has these names
 --   isSettings l                   n 4 to 16; t at least 1, 3t + 1 at most n; k 1 to 32; the sender 1 to n; a block of k(t + 1) bytes
---   isMessage n t k l              a round of the run; from 1 to n; to 0 to n; a message of its round's length
+--   isMessage s l                  a round of the run; from 1 to n; to 0 to n; a message of its round's length
 --   Message                        one line: its round, from, to, and the byte of the file where its message starts
 --   messageAt input a              the message in the line at a
 --   clashes m m′                   both give the same (round, from, to); `to` 0 gives all
@@ -16,15 +11,17 @@
 --   withMessage c m                with a message more
 --   Read                           the first wrong or missing line, 0 for a file that is too long; or what the file says
 --   readFrom fuel input c a line   the message lines from byte a on, the first of which is line number `line`, after the contents c
---   settingsOf l                   what the settings line says
+--   settingsIn l                   the settings that the settings line says
+--   settingsOf l                   what a file with this settings line says before its first message
 --   readOf input                   the whole file
 use mathlib.Core.Bool.{Bool, false, cond, not, _&&_, _||_}
 use mathlib.Core.List.{List, [], _∷_}
 use Prim.Native.Nat.{ℕ, zero, suc, _+_, _-_, _*_}
 use lib.Dec.{eqb, leb, ltb}
-use lib.ListN.{length, drop}
-use Rattle.lists.specs.Same.{same}
-use Rattle.text.specs.Read.{newline, comma, before, after, valueOf, numberIn, isBytes, bytesOf}
+use lib.ListN.{length}
+use Rattle.text.specs.Read.{valueOf, numberIn, isBytes, bytesOf}
+use Rattle.text.specs.Lines.{lineAt, isEnded, nextAt, isNames, rest, field}
+use Rattle.settings.specs.declared.Settings.{Settings}
 use Rattle.wire.specs.Length.{blockLength, messageLength}
 
 abbrev pub limit : ℕ
@@ -47,25 +44,6 @@ messageNames =
     ∷ 0x74 ∷ 0x6f ∷ 0x2c
     ∷ 0x6d ∷ 0x65 ∷ 0x73 ∷ 0x73 ∷ 0x61 ∷ 0x67 ∷ 0x65 ∷ []
 
-unfoldable pub lineAt : List ℕ → ℕ → List ℕ
-lineAt input a = before newline (drop a input)
-
-unfoldable pub isEnded : List ℕ → ℕ → Bool
-isEnded input a = ltb (a + length (lineAt input a)) (length input)
-
-unfoldable pub nextAt : List ℕ → ℕ → ℕ
-nextAt input a = a + length (lineAt input a) + 1
-
-unfoldable pub rest : ℕ → List ℕ → List ℕ
-rest zero l = l
-rest (suc i) l = rest i (after comma l)
-
-unfoldable pub field : ℕ → List ℕ → List ℕ
-field i l = before comma (rest i l)
-
-unfoldable pub isNames : List ℕ → List ℕ → ℕ → Bool
-isNames names input a = isEnded input a && same (lineAt input a) names
-
 -- the last field is the whole rest of the line, and not empty: so a line with too few or too many commas is wrong
 unfoldable pub isSettings : List ℕ → Bool
 isSettings l =
@@ -79,12 +57,12 @@ isSettings l =
     && (numberIn 1 n (field 3 l)
     && isBytes (blockLength k t) (rest 4 l)))))
 
-unfoldable pub isMessage : (n t k : ℕ) → List ℕ → Bool
-isMessage n t k l =
-    numberIn 1 (3 * t + 8) (field 0 l)
-    && (numberIn 1 n (field 1 l)
-    && (numberIn 0 n (field 2 l)
-    && isBytes (messageLength n t k (valueOf (field 0 l))) (rest 3 l)))
+unfoldable pub isMessage : Settings → List ℕ → Bool
+isMessage s l =
+    numberIn 1 (3 * s .t + 8) (field 0 l)
+    && (numberIn 1 (s .n) (field 1 l)
+    && (numberIn 0 (s .n) (field 2 l)
+    && isBytes (messageLength (s .n) (s .t) (s .k) (valueOf (field 0 l))) (rest 3 l)))
 
 pub record Message : Type 0 where
   pub round : ℕ
@@ -111,10 +89,7 @@ isRepeated [] m = false
 isRepeated (x ∷ ms) m = clashes x m || isRepeated ms m
 
 pub record Contents : Type 0 where
-  pub n : ℕ
-  pub t : ℕ
-  pub k : ℕ
-  pub sender : ℕ
+  pub settings : Settings
   pub block : List ℕ
   pub messages : List Message
 
@@ -123,7 +98,7 @@ pub data Read : Type 0 where
   right : Contents → Read
 
 abbrev pub withMessage : Contents → Message → Contents
-withMessage c m = record { n = c .n; t = c .t; k = c .k; sender = c .sender; block = c .block; messages = m ∷ c .messages }
+withMessage c m = record { settings = c .settings; block = c .block; messages = m ∷ c .messages }
 
 -- each line has a byte at least, so that the file's length is fuel enough
 unfoldable pub readFrom : (fuel : ℕ) → List ℕ → Contents → (a line : ℕ) → Read
@@ -131,19 +106,15 @@ readFrom zero input c a line = right c
 readFrom (suc fuel) input c a line =
     cond (leb (length input) a) (right c)
     (cond
-    (isEnded input a && (isMessage (c .n) (c .t) (c .k) (lineAt input a) && not (isRepeated (c .messages) (messageAt input a))))
+    (isEnded input a && (isMessage (c .settings) (lineAt input a) && not (isRepeated (c .messages) (messageAt input a))))
     (readFrom fuel input (withMessage c (messageAt input a)) (nextAt input a) (line + 1))
     (wrong line))
 
+unfoldable pub settingsIn : List ℕ → Settings
+settingsIn l = record { n = valueOf (field 0 l); t = valueOf (field 1 l); k = valueOf (field 2 l); sender = valueOf (field 3 l) }
+
 unfoldable pub settingsOf : List ℕ → Contents
-settingsOf l = record {
-  n = valueOf (field 0 l);
-  t = valueOf (field 1 l);
-  k = valueOf (field 2 l);
-  sender = valueOf (field 3 l);
-  block = bytesOf (rest 4 l);
-  messages = [];
-}
+settingsOf l = record { settings = settingsIn l; block = bytesOf (rest 4 l); messages = [] }
 
 unfoldable pub readOf : List ℕ → Read
 readOf input =

@@ -1,25 +1,24 @@
--- What the private functions ask and answer; a reader of the public contract needs none of it.
---   fieldIn low high l        the number from low to high in the first field of l, and where that field ends
---   headIn l a                what the settings line l that starts at byte a says
---   headAt input a            what the line at byte a says as the settings line
---   lineIn n t k l a          what the message line l that starts at byte a says
---   isTo to j                 a message to `to` is for j
---   isTaken x to j            j is a receiver, and x is no empty place
---   isGiven row to            a receiver has a place in the row
---   rowWith row to p          the row with the place p for each receiver
---   rowAt ps r f              the row of round r and sender f in the table ps
---   isNew ps m                no receiver of m has a place in its row
---   tableWith ps m            the table ps with the place of m for each receiver
---   message r f to p          the message with these numbers
---   isEntry n t k input a ps  the line at byte a is ended, a message, and new
---   entryAt, tableAt          what such a line gives: its sender and the next line; the table with it
---   bare n t k                the settings alone
---   restored c r              what was read from the settings of c alone, with all of c
---   linesOf r, tableIn r ps   what the reader of the message lines answers; the table that it leaves
---   blockAt input s e         the bytes that the digits from s to e say
---   opened n t k sender s     the settings and the block, before the first message
---   Enters m                  m is in range for the table
---   Started, Opened           what the readers of the message lines and of the contents ask
+-- For the contracts of the private functions; a reader of the public contracts needs none of it.
+--   headIn l a               what the settings line l that starts at byte a says
+--   headAt input a           what the line at byte a says as the settings line
+--   lineIn s l a             what the message line l that starts at byte a says in the settings s
+--   isTo to j                a message to `to` is for j
+--   isTaken x to j           j is a receiver, and x is no empty place
+--   isGiven row to           a receiver has a place in the row
+--   rowWith row to p         the row with the place p for each receiver
+--   rowAt ps r f             the row of round r and sender f in the table ps
+--   isNew ps m               no receiver of m has a place in its row
+--   tableWith ps m           the table ps with the place of m for each receiver
+--   message r f to p         the message with these numbers
+--   isEntry s input a ps     the line at byte a is ended, a message, and new
+--   entryAt, tableAt         what such a line gives: its sender and the next line; the table with it
+--   bare s ms                what a file of the settings s with the messages ms says, but the block
+--   restored c r             what was read from the settings of c alone, with all of c
+--   linesOf r, tableIn r ps  what the reader of the message lines answers; the table that it leaves
+--   blockAt input a e        the bytes that the digits from a to e say
+--   opened s block           the settings and the block, before the first message
+--   Enters m                 m is in range for the table
+--   Started, Opened          what the readers of the message lines and of the contents ask
 use mathlib.Core.Bool.{Bool, cond, not, _&&_, _||_}
 use mathlib.Core.List.{List, []}
 use Prim.Native.Nat.{ℕ, _+_, _-_, _*_, _/_, _%_, _≤_, _<_}
@@ -29,37 +28,33 @@ use Rattle.lists.specs.Fill.{tabulate}
 use Rattle.lists.specs.Join.{part}
 use Rattle.lists.specs.Sum.{count}
 use Rattle.bitset.specs.Set.{setOf}
-use Rattle.text.specs.Read.{comma, before, valueOf, numberIn, bytesOf}
+use Rattle.text.specs.Read.{valueOf, bytesOf}
+use Rattle.text.specs.Lines.{lineAt, isEnded, nextAt, rest, field}
 use Rattle.settings.specs.Valid.{Coded}
-use Rattle.system_file.specs.declared.Field.{Field}
-use Rattle.system_file.specs.declared.Field.the-variants.{Said as FieldSaid, Wrong as NoField}
-use Rattle.system_file.specs.declared.Head.{Head}
-use Rattle.system_file.specs.declared.Head.the-variants.{Said as HeadSaid, Wrong as NoHead}
-use Rattle.system_file.specs.declared.Line.{Line}
-use Rattle.system_file.specs.declared.Line.the-variants.{Said as LineSaid, Wrong as NoLine}
-use Rattle.system_file.specs.declared.Entry.{Entry}
-use Rattle.system_file.specs.declared.Entry.the-variants.{Made, Wrong as NoEntry}
-use Rattle.system_file.specs.declared.Lines.{Lines}
-use Rattle.system_file.specs.declared.Lines.the-variants.{Right, Wrong}
-use Rattle.system_file.specs.Form.{limit, lineAt, isEnded, nextAt, rest, field, isSettings, isMessage, Message, messageAt, Contents, Read, wrong, right}
+use Rattle.settings.specs.declared.Settings.{Settings}
+use Rattle.system_file.specs.declared.head.Head.{Head}
+use Rattle.system_file.specs.declared.head.Head.the-variants.{Said as HeadSaid, Wrong as NoHead}
+use Rattle.system_file.specs.declared.messages.Line.{Line}
+use Rattle.system_file.specs.declared.messages.Line.the-variants.{Said as LineSaid, Wrong as NoLine}
+use Rattle.system_file.specs.declared.messages.Entry.{Entry}
+use Rattle.system_file.specs.declared.messages.Entry.the-variants.{Made, Wrong as NoEntry}
+use Rattle.system_file.specs.declared.messages.Lines.{Lines}
+use Rattle.system_file.specs.declared.messages.Lines.the-variants.{Right, Wrong}
+use Rattle.system_file.specs.Form.{limit, isSettings, isMessage, Message, messageAt, Contents, Read, wrong, right, settingsIn}
 use Rattle.system_file.specs.Table.{isFaulty, reaches, tableSize, tableOf}
 
 -- ---- lines
-unfoldable pub fieldIn : (low high : ℕ) → List ℕ → Field
-fieldIn low high l = cond (numberIn low high (before comma l)) (FieldSaid (valueOf (before comma l)) (length (before comma l))) NoField
-
 unfoldable pub headIn : List ℕ → ℕ → Head
-headIn l a =
-    cond (isSettings l)
-    (HeadSaid (valueOf (field 0 l)) (valueOf (field 1 l)) (valueOf (field 2 l)) (valueOf (field 3 l)) (a + (length l - length (rest 4 l))) (a + length l))
-    NoHead
+headIn l a = cond (isSettings l) (HeadSaid (settingsIn l) (a + (length l - length (rest 4 l))) (a + length l)) NoHead
 
 unfoldable pub headAt : List ℕ → ℕ → Head
 headAt input a = cond (isEnded input a) (headIn (lineAt input a) a) NoHead
 
-unfoldable pub lineIn : (n t k : ℕ) → List ℕ → ℕ → Line
-lineIn n t k l a =
-    cond (isMessage n t k l) (LineSaid (valueOf (field 0 l)) (valueOf (field 1 l)) (valueOf (field 2 l)) (a + (length l - length (rest 3 l)))) NoLine
+unfoldable pub lineIn : Settings → List ℕ → ℕ → Line
+lineIn s l a =
+    cond (isMessage s l)
+    (LineSaid (valueOf (field 0 l)) (valueOf (field 1 l)) (valueOf (field 2 l)) (a + (length l - length (rest 3 l))))
+    NoLine
 
 -- ---- the table
 unfoldable pub isTo : ℕ → ℕ → Bool
@@ -96,21 +91,21 @@ pub record Enters (m : Message) : Type 0 where
   pub place-most : m .place < limit
 
 -- ---- message lines
-unfoldable pub isEntry : (n t k : ℕ) → List ℕ → ℕ → List ℕ → Bool
-isEntry n t k input a ps = isEnded input a && (isMessage n t k (lineAt input a) && isNew ps (messageAt input a))
+unfoldable pub isEntry : Settings → List ℕ → ℕ → List ℕ → Bool
+isEntry s input a ps = isEnded input a && (isMessage s (lineAt input a) && isNew ps (messageAt input a))
 
-unfoldable pub entryAt : (n t k : ℕ) → List ℕ → ℕ → List ℕ → Entry
-entryAt n t k input a ps = cond (isEntry n t k input a ps) (Made (messageAt input a .from) (nextAt input a)) NoEntry
+unfoldable pub entryAt : Settings → List ℕ → ℕ → List ℕ → Entry
+entryAt s input a ps = cond (isEntry s input a ps) (Made (messageAt input a .from) (nextAt input a)) NoEntry
 
-unfoldable pub tableAt : (n t k : ℕ) → List ℕ → ℕ → List ℕ → List ℕ
-tableAt n t k input a ps = cond (isEntry n t k input a ps) (tableWith ps (messageAt input a)) ps
+unfoldable pub tableAt : Settings → List ℕ → ℕ → List ℕ → List ℕ
+tableAt s input a ps = cond (isEntry s input a ps) (tableWith ps (messageAt input a)) ps
 
-abbrev pub bare : (n t k : ℕ) → List Message → Contents
-bare n t k ms = record { n = n; t = t; k = k; sender = 0; block = []; messages = ms }
+abbrev pub bare : Settings → List Message → Contents
+bare s ms = record { settings = s; block = []; messages = ms }
 
 abbrev pub restored : Contents → Read → Read
 restored c (wrong line) = wrong line
-restored c (right d) = right (record { n = c .n; t = c .t; k = c .k; sender = c .sender; block = c .block; messages = d .messages })
+restored c (right d) = right (record { settings = c .settings; block = c .block; messages = d .messages })
 
 abbrev pub linesOf : Read → Lines
 linesOf (wrong line) = Wrong line
@@ -121,19 +116,19 @@ tableIn (wrong line) ps = ps
 tableIn (right c) ps = tableOf (c .messages)
 
 unfoldable pub blockAt : List ℕ → ℕ → ℕ → List ℕ
-blockAt input s e = bytesOf (take (e - s) (drop s input))
+blockAt input a e = bytesOf (take (e - a) (drop a input))
 
-abbrev pub opened : (n t k sender : ℕ) → List ℕ → Contents
-opened n t k sender block = record { n = n; t = t; k = k; sender = sender; block = block; messages = [] }
+abbrev pub opened : Settings → List ℕ → Contents
+opened s block = record { settings = s; block = block; messages = [] }
 
-pub record Started (input : List ℕ) (n t k at : ℕ) : Type 0 where
-  pub coded : Coded n t k
+pub record Started (input : List ℕ) (s : Settings) (at : ℕ) : Type 0 where
+  pub coded : Coded (s .n) (s .t) (s .k)
   pub size : length input ≤ limit
   pub at-least : 1 ≤ at
   pub at-most : at ≤ length input
 
-pub record Opened (input : List ℕ) (n t k start end at : ℕ) : Type 0 where
-  pub started : Started input n t k at
+pub record Opened (input : List ℕ) (s : Settings) (start end at : ℕ) : Type 0 where
+  pub started : Started input s at
   pub order : start ≤ end
   pub within : end ≤ length input
   pub fits : length (blockAt input start end) ≤ 192

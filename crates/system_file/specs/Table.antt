@@ -42,7 +42,7 @@ unfoldable pub textOf : List ℕ → ℕ → ℕ → List ℕ
 textOf input len p = cond (eqb p 0) [] (bytesOf (take (2 * len) (drop p input)))
 
 unfoldable pub saidOf : List ℕ → Contents → (r f j : ℕ) → List ℕ
-saidOf input c r f j = textOf input (messageLength (c .n) (c .t) (c .k) r) (placeOf (c .messages) r f j)
+saidOf input c r f j = textOf input (messageLength (c .settings .n) (c .settings .t) (c .settings .k) r) (placeOf (c .messages) r f j)
 
 abbrev pub tableSize : ℕ
 tableSize = 5888
@@ -62,32 +62,26 @@ placeIn places r f j = cond (inTable r f j) (getD places (tableIndex r f j) 0) 0
 abbrev pub fileOf : Read → SystemFile
 fileOf (wrong line) = record {
   form = Wrong line;
-  n = 0;
-  t = 0;
-  k = 0;
-  sender = 0;
+  settings = record { n = 0; t = 0; k = 0; sender = 0 };
   block = replicate 192 0;
   faulty = 0;
   places = replicate tableSize 0;
 }
 fileOf (right c) = record {
   form = Right;
-  n = c .n;
-  t = c .t;
-  k = c .k;
-  sender = c .sender;
+  settings = c .settings;
   block = padded 192 (c .block);
   faulty = setOf 16 (λ i. isFaulty (c .messages) (i + 1));
   places = tableOf (c .messages);
 }
 
 pub record Properly (input : List ℕ) (c : Contents) : Type 0 where
-  pub coded : Coded (c .n) (c .t) (c .k)
-  pub stripes : c .k ≤ 32
-  pub sender : Numbered (c .n) (c .sender)
-  pub block-length : length (c .block) ≡ blockLength (c .k) (c .t)
+  pub coded : Coded (c .settings .n) (c .settings .t) (c .settings .k)
+  pub stripes : c .settings .k ≤ 32
+  pub sender : Numbered (c .settings .n) (c .settings .sender)
+  pub block-length : length (c .block) ≡ blockLength (c .settings .k) (c .settings .t)
   pub block-bytes : (i : ℕ) → getD (c .block) i 0 < 256
   pub size : length input ≤ limit
   pub room : (r f j : ℕ) → (placeOf (c .messages) r f j ≡ 0 → ⊥)
-      → placeOf (c .messages) r f j + 2 * messageLength (c .n) (c .t) (c .k) r ≤ length input
-  pub faulty : (i : ℕ) → isFaulty (c .messages) i ≡ true → Numbered (c .n) i
+      → placeOf (c .messages) r f j + 2 * messageLength (c .settings .n) (c .settings .t) (c .settings .k) r ≤ length input
+  pub faulty : (i : ℕ) → isFaulty (c .messages) i ≡ true → Numbered (c .settings .n) i

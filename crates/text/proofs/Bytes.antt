@@ -114,10 +114,13 @@ module _ (len : ℕ) (f : List ℕ) where
   unfolding isBytes
   bytes-even e h = and-tail (eqb (length f) (2 * len)) (every isHex f) (eq-eqb (length f) (2 * len) (omega arith))
 
-  -- such a field says len bytes
-  pub bytes-length : isBytes len f ≡ true → length (bytesOf f) ≡ len
+  -- such a field has two digits for each byte, and says len bytes
+  pub bytes-digits : isBytes len f ≡ true → length f ≡ 2 * len
   unfolding isBytes
-  bytes-length e = length-bytesOf len f (eqb-true (length f) (2 * len) (and-left (eqb (length f) (2 * len)) (every isHex f) e))
+  bytes-digits e = eqb-true (length f) (2 * len) (and-left (eqb (length f) (2 * len)) (every isHex f) e)
+
+  pub bytes-length : isBytes len f ≡ true → length (bytesOf f) ≡ len
+  bytes-length e = length-bytesOf len f (bytes-digits e)
 
 -- ---- the loop's end: all of the shorter one
 pub read-end : (s d : List ℕ) (n : ℕ) → n ≡ min (length s) (length d) → take n s ++ drop n d ≡ take (length d) s ++ drop (length s) d

@@ -5,4 +5,5 @@ pub mod Bytes
 pub mod Digits
 pub mod Buffers
 pub mod RoundTrips
+pub mod LineParts
 pub mod Laws

@@ -85,6 +85,11 @@ unfolding isNumber headed every
 number-headed [] = refl
 number-headed (d ∷ f) = refl
 
+pub number-some : (f : List ℕ) → isNumber f ≡ true → 0 < length f
+unfolding isNumber
+number-some [] e = absurd (true≢false (sym e))
+number-some (d ∷ f) e = omega arith
+
 -- ---- the value
 -- digits never make a number smaller
 pub value-grows : (f : List ℕ) (x : ℕ) → x ≤ valueFrom x f

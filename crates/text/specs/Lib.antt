@@ -1,4 +1,5 @@
 -- Lines, decimal numbers and hexadecimal bytes: how they are read and written.
 pub mod Read
+pub mod Lines
 pub mod Write
 pub mod Steps

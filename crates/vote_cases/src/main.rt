@@ -3,7 +3,7 @@
 // and the seed; a line for each round, from 3 on, with a digest of all matrices that the correct controllers then have; a line for each
 // correct controller with its number and the digest of its last matrix. The expected output comes from the independent reference:
 //     cd bench && cargo run --release --bin vote_vectors > ../crates/vote_cases/stdout
-use libc::STDOUT_FILENO;
+use wire::Layout;
 use wire::Round;
 ghost use mathlib.Core.Path.{_≡_};
 ghost use Prim.Native.Nat.{_+_, _*_, _<_, _≤_};
@@ -17,27 +17,16 @@ struct Setup {
     seed: u64,
 }
 
-// The generator: x times 1664525 plus 1013904223, modulo 2 to the 32.
-fn next(x: u64) -> u64 {
-    (x % 4294967296 * 1664525 + 1013904223) % 4294967296
-}
-
-fn mix(x: u64, y: u64) -> u64 {
-    next(std::num::wrapping_add_u64(x, y))
+// What happens to each controller in turn.
+enum Stage {
+    Send,
+    Receive,
+    Print,
 }
 
 // 16 bits for a purpose or round c, two controllers and a place.
-fn draw(seed: u64, c: usize, i: usize, j: usize, b: usize) -> u64 {
-    let x = mix(mix(next(seed), c as u64), i as u64);
-    mix(mix(x, j as u64), b as u64) / 65536
-}
-
-fn word(x: u64) -> u16 {
-    (x % 65536) as u16
-}
-
-fn byte(x: u64) -> u8 {
-    (x % 256) as u8
+fn draw(seed: u64, c: usize, i: usize, j: usize, b: usize) -> usize {
+    cases::draw(cases::mix(cases::next(seed), c as u64), i, j, b)
 }
 
 // Whether index i is faulty: nobody, the first t, the last t, or every third from index 1 on.
@@ -51,11 +40,11 @@ fn faulty(s: Setup, i: usize) -> bool {
     if s.faults == 2 {
         return i < s.n && s.n - i <= s.t;
     }
-    i % 3 == 1 && i / 3 < s.t
+    cases::is_third(s.t, i)
 }
 
 // How a faulty controller behaves: 0 silent, 1 all ones to every other receiver and zeros to the rest, 2 any bytes, 3 any bytes or absent.
-fn manner(s: Setup, i: usize) -> u64 {
+fn manner(s: Setup, i: usize) -> usize {
     draw(s.seed, 0, i, 0, 0) % 4
 }
 
@@ -77,7 +66,7 @@ fn fault_byte(s: Setup, c: usize, i: usize, j: usize, b: usize) -> u8 {
         }
         return 255;
     }
-    byte(draw(s.seed, c, i, j, b))
+    cases::byte(draw(s.seed, c, i, j, b))
 }
 
 fn fault_message(m: &mut [u8], s: Setup, c: usize, i: usize, j: usize) {
@@ -88,57 +77,58 @@ fn fault_message(m: &mut [u8], s: Setup, c: usize, i: usize, j: usize) {
     }
 }
 
-// Slot i of the inbox of j, from a faulty controller.
-fn from_faulty(inbox: &mut [u8], s: Setup, c: usize, len: usize, i: usize, j: usize)
+// Slot i of the inbox of j.
+fn put(inbox: &mut [u8], layout: Layout, i: usize, m: &[u8])
     requires { ⌜ i < 16 ⌝ }
 {
-    if 64 < len {
-        return;
-    }
+    wire::send_one(inbox, layout, i + 1, m);
+}
+
+fn put_part(inbox: &mut [u8], layout: Layout, i: usize, m: &[u8])
+    requires { ⌜ i < 16 ⌝ }
+{
+    let end = cases::fitting(layout.length, m);
+    put(inbox, layout, i, &m[..end]);
+}
+
+// From a faulty controller.
+fn from_faulty(inbox: &mut [u8], s: Setup, c: usize, layout: Layout, i: usize, j: usize)
+    requires { ⌜ i < 16 ⌝ }
+{
     if present(s, c, i, j) {
         let mut m = [0u8; 64];
         fault_message(&mut m, s, c, i, j);
-        wire::send_one(inbox, len, i + 1, &m[..len]);
+        put_part(inbox, layout, i, &m);
     }
 }
 
-// Slot i of the inbox of j, from a correct controller: what its outbox has for j. The outboxes lie 1040 bytes apart.
-fn from_correct(inbox: &mut [u8], boxes: &[u8], len: usize, i: usize, j: usize)
+// From a correct controller: what its outbox has for j. The outboxes lie 1040 bytes apart.
+fn from_correct(inbox: &mut [u8], boxes: &[u8], layout: Layout, i: usize, j: usize)
     requires { ⌜ (i < 16) × (j < 16) × (length (now boxes) ≡ 65536) ⌝ }
 {
     let a = i * 1040;
     let e = a + 1040;
-    let m = wire::message(&boxes[a..e], len, j + 1);
-    if m.len() == len {
-        wire::send_one(inbox, len, i + 1, m);
-    }
+    put(inbox, layout, i, wire::message(&boxes[a..e], layout, j + 1));
 }
 
-fn slot(inbox: &mut [u8], boxes: &[u8], s: Setup, c: usize, len: usize, i: usize, j: usize)
+fn slot(inbox: &mut [u8], boxes: &[u8], s: Setup, c: usize, layout: Layout, i: usize, j: usize)
     requires { ⌜ (i < 16) × (j < 16) × (length (now boxes) ≡ 65536) ⌝ }
 {
     if faulty(s, i) {
-        from_faulty(inbox, s, c, len, i, j);
+        from_faulty(inbox, s, c, layout, i, j);
     } else {
-        from_correct(inbox, boxes, len, i, j);
+        from_correct(inbox, boxes, layout, i, j);
     }
 }
 
-fn gather(inbox: &mut [u8], boxes: &[u8], s: Setup, c: usize, len: usize, j: usize)
+fn gather(inbox: &mut [u8], boxes: &[u8], s: Setup, c: usize, layout: Layout, j: usize)
     requires { ⌜ (s .n ≤ 16) × (j < 16) × (length (now boxes) ≡ 65536) ⌝ }
 {
     let n = s.n;
     let mut i: usize = 0;
     while i < n {
-        slot(inbox, boxes, s, c, len, i, j);
+        slot(inbox, boxes, s, c, layout, i, j);
         i += 1;
-    }
-}
-
-// What an absent slot holds: no 01.
-fn fill(inbox: &mut [u8], v: u8) {
-    for b in 0..inbox.len() {
-        inbox[b] = v;
     }
 }
 
@@ -173,10 +163,10 @@ fn put_matrix(state: &mut [u16], k: usize, m: &[u16; 16])
 
 // A row that all start with but for about an eighth of the bits.
 fn scattered_row(seed: u64, j: usize, r: usize) -> u16 {
-    let all = word(draw(seed, 500, 0, 0, r));
-    let flips = word(draw(seed, 501, j, 0, r))
-        & word(draw(seed, 502, j, 0, r))
-        & word(draw(seed, 503, j, 0, r));
+    let all = cases::word(draw(seed, 500, 0, 0, r));
+    let flips = cases::word(draw(seed, 501, j, 0, r))
+        & cases::word(draw(seed, 502, j, 0, r))
+        & cases::word(draw(seed, 503, j, 0, r));
     all ^ flips
 }
 
@@ -191,11 +181,11 @@ fn scattered(seed: u64, j: usize) -> [u16; 16] {
 }
 
 // Call 4. With an odd seed the vote starts from other matrices.
-fn on_marks(s: Setup, len: usize, inbox: &[u8], state: &mut [u16], j: usize)
+fn on_marks(s: Setup, layout: Layout, inbox: &[u8], state: &mut [u16], j: usize)
     requires { ⌜ (j < 16) × (length (now state) ≡ 1024) ⌝ }
 {
     if s.seed % 2 == 0 {
-        let m = phase_king::collect(inbox, len, s.n);
+        let m = phase_king::collect(inbox, layout, s.n);
         let rows = m.rows;
         put_matrix(state, j, &rows);
     } else {
@@ -205,10 +195,10 @@ fn on_marks(s: Setup, len: usize, inbox: &[u8], state: &mut [u16], j: usize)
 }
 
 // After round 3p + 1.
-fn on_matrix(s: Setup, len: usize, inbox: &[u8], state: &mut [u16], j: usize)
+fn on_matrix(s: Setup, layout: Layout, inbox: &[u8], state: &mut [u16], j: usize)
     requires { ⌜ (j < 16) × (length (now state) ≡ 1024) ⌝ }
 {
-    let seen = phase_king::tally(inbox, len, s.n, s.t);
+    let seen = phase_king::tally(inbox, layout, s.n, s.t);
     let zeros = seen.zeros;
     let ones = seen.ones;
     put_matrix(state, 32 + j, &zeros);
@@ -216,107 +206,106 @@ fn on_matrix(s: Setup, len: usize, inbox: &[u8], state: &mut [u16], j: usize)
 }
 
 // After round 3p + 2.
-fn on_seen(s: Setup, len: usize, inbox: &[u8], state: &mut [u16], j: usize)
+fn on_seen(s: Setup, layout: Layout, inbox: &[u8], state: &mut [u16], j: usize)
     requires { ⌜ (j < 16) × (length (now state) ≡ 1024) ⌝ }
 {
-    let held = phase_king::hold(inbox, len, s.n, s.t);
+    let held = phase_king::hold(inbox, layout, s.n, s.t);
     let rows = held.rows;
     let weak = held.weak;
     put_matrix(state, j, &rows);
     put_matrix(state, 16 + j, &weak);
 }
 
+fn layout_of(s: Setup, c: usize) -> Layout {
+    wire::round_layout(s.n, s.t, 1, c)
+}
+
+fn phase(c: usize) -> usize {
+    wire::phase(c)
+}
+
 // After round 3p + 3.
-fn on_king(s: Setup, c: usize, len: usize, inbox: &[u8], state: &mut [u16], j: usize)
+fn on_king(s: Setup, c: usize, layout: Layout, inbox: &[u8], state: &mut [u16], j: usize)
     requires { ⌜ (j < 16) × (length (now state) ≡ 1024) ⌝ }
 {
     let rows = matrix_at(state, j);
     let weak = matrix_at(state, 16 + j);
-    let m = phase_king::settle(&rows, &weak, inbox, len, s.n, wire::phase(c));
+    let m = phase_king::settle(&rows, &weak, inbox, layout, s.n, phase(c));
     let settled = m.rows;
     put_matrix(state, j, &settled);
 }
 
-fn act(s: Setup, c: usize, len: usize, inbox: &[u8], state: &mut [u16], j: usize)
+fn kind(s: Setup, c: usize) -> Round {
+    wire::round_kind(s.t, c)
+}
+
+fn act(s: Setup, c: usize, layout: Layout, inbox: &[u8], state: &mut [u16], j: usize)
     requires { ⌜ (j < 16) × (length (now state) ≡ 1024) ⌝ }
 {
-    let round = wire::round_kind(s.t, c);
+    let round = kind(s, c);
     match round {
-        Round::Marks => on_marks(s, len, inbox, state, j),
-        Round::Matrix => on_matrix(s, len, inbox, state, j),
-        Round::Seen => on_seen(s, len, inbox, state, j),
-        Round::King => on_king(s, c, len, inbox, state, j),
+        Round::Marks => on_marks(s, layout, inbox, state, j),
+        Round::Matrix => on_matrix(s, layout, inbox, state, j),
+        Round::Seen => on_seen(s, layout, inbox, state, j),
+        Round::King => on_king(s, c, layout, inbox, state, j),
         _ => {}
     }
 }
 
-// The call of index j after round c, if it is correct.
+// The call of index j after round c, if it is correct. An absent slot holds no 01.
 fn receive_one(s: Setup, c: usize, state: &mut [u16], boxes: &[u8], j: usize)
     requires { ⌜ (s .n ≤ 16) × (j < 16) × (length (now state) ≡ 1024) × (length (now boxes) ≡ 65536) ⌝ }
 {
     if faulty(s, j) {
         return;
     }
-    let len = wire::message_length(s.n, s.t, 1, c);
+    let layout = layout_of(s, c);
     let mut space = io::buffer();
     let inbox: &mut [u8] = &mut space;
-    fill(inbox, byte(c as u64 % 128 * 2));
-    gather(inbox, boxes, s, c, len, j);
-    act(s, c, len, inbox, state, j);
-}
-
-fn receive(s: Setup, c: usize, state: &mut [u16], boxes: &[u8])
-    requires { ⌜ (s .n ≤ 16) × (length (now state) ≡ 1024) × (length (now boxes) ≡ 65536) ⌝ }
-{
-    let n = s.n;
-    let mut j: usize = 0;
-    while j < n {
-        receive_one(s, c, state, boxes, j);
-        j += 1;
-    }
+    cases::fill(inbox, cases::byte(c % 128 * 2));
+    gather(inbox, boxes, s, c, layout, j);
+    act(s, c, layout, inbox, state, j);
 }
 
 // The marks of index i to all, bits past n too.
-fn emit_marks(s: Setup, outbox: &mut [u8], i: usize) {
+fn emit_marks(s: Setup, layout: Layout, outbox: &mut [u8], i: usize) {
     let x = draw(s.seed, 3, i, 0, 0);
-    let m = [byte(x), byte(x / 256)];
-    wire::send_all(outbox, s.n, &m);
+    let m = [cases::byte(x), cases::byte(x / 256)];
+    wire::send_all(outbox, layout, s.n, &m);
 }
 
-fn emit_matrix(s: Setup, state: &[u16], outbox: &mut [u8], i: usize)
+fn emit_matrix(s: Setup, layout: Layout, state: &[u16], outbox: &mut [u8], i: usize)
     requires { ⌜ (i < 16) × (length (now state) ≡ 1024) ⌝ }
 {
     let rows = matrix_at(state, i);
-    phase_king::send_matrix(outbox, &rows, s.n);
+    phase_king::send_matrix(outbox, layout, &rows, s.n);
 }
 
-fn emit_seen(s: Setup, state: &[u16], outbox: &mut [u8], i: usize)
+fn emit_seen(s: Setup, layout: Layout, state: &[u16], outbox: &mut [u8], i: usize)
     requires { ⌜ (i < 16) × (length (now state) ≡ 1024) ⌝ }
 {
     let zeros = matrix_at(state, 32 + i);
     let ones = matrix_at(state, 48 + i);
-    phase_king::send_seen(outbox, &zeros, &ones, s.n);
+    phase_king::send_seen(outbox, layout, &zeros, &ones, s.n);
 }
 
-fn emit_king(s: Setup, c: usize, state: &[u16], outbox: &mut [u8], i: usize)
+fn emit_king(s: Setup, c: usize, layout: Layout, state: &[u16], outbox: &mut [u8], i: usize)
     requires { ⌜ (i < 16) × (length (now state) ≡ 1024) ⌝ }
 {
-    if i + 1 == wire::phase(c) {
-        emit_matrix(s, state, outbox, i);
-    } else {
-        wire::silence(outbox);
-    }
+    let rows = matrix_at(state, i);
+    phase_king::send_as_king(outbox, layout, i + 1, phase(c), &rows, s.n);
 }
 
 fn emit(s: Setup, c: usize, state: &[u16], outbox: &mut [u8], i: usize)
     requires { ⌜ (i < 16) × (length (now state) ≡ 1024) ⌝ }
 {
-    let round = wire::round_kind(s.t, c);
+    let round = kind(s, c);
+    let layout = layout_of(s, c);
     match round {
-        Round::Marks => emit_marks(s, outbox, i),
-        Round::Matrix => emit_matrix(s, state, outbox, i),
-        Round::Seen => emit_seen(s, state, outbox, i),
-        Round::King => emit_king(s, c, state, outbox, i),
+        Round::Marks => emit_marks(s, layout, outbox, i),
+        Round::Matrix => emit_matrix(s, layout, state, outbox, i),
+        Round::Seen => emit_seen(s, layout, state, outbox, i),
+        Round::King => emit_king(s, c, layout, state, outbox, i),
         _ => {}
     }
 }
@@ -334,57 +323,37 @@ fn send_one(s: Setup, c: usize, state: &[u16], boxes: &mut [u8], i: usize)
     emit(s, c, state, &mut boxes[a..e], i);
 }
 
-fn send(s: Setup, c: usize, state: &[u16], boxes: &mut [u8])
-    requires { ⌜ (s .n ≤ 16) × (length (now state) ≡ 1024) × (length (now boxes) ≡ 65536) ⌝ }
-{
-    let n = s.n;
-    let mut i: usize = 0;
-    while i < n {
-        send_one(s, c, state, boxes, i);
-        i += 1;
-    }
-}
-
-fn wide(x: u16) -> u64 {
-    x as u64
-}
-
-// A digest of the words from a to e.
-fn digest(state: &[u16], a: usize, e: usize) -> u64
-    requires { ⌜ (a ≤ e) × (e ≤ length (now state)) ⌝ }
-{
-    let mut d: u64 = 0;
-    let mut p = a;
-    while p < e {
-        d = mix(d, wide(state[p]));
-        p += 1;
-    }
-    d
-}
-
 fn print_digest(name: &[u8], number: usize, d: u64) {
-    io::write_all(STDOUT_FILENO, name);
-    io::print_decimal(STDOUT_FILENO, number as u64);
-    io::write_all(STDOUT_FILENO, b" ");
-    io::print_hex(STDOUT_FILENO, d, 8);
-    io::write_all(STDOUT_FILENO, b"\n");
+    cases::numbers(name, &[number]);
+    cases::end_digest(d);
 }
 
 fn print_last(s: Setup, state: &[u16], i: usize)
     requires { ⌜ (i < 16) × (length (now state) ≡ 1024) ⌝ }
 {
     if !faulty(s, i) {
-        print_digest(b"controller ", i + 1, digest(state, 16 * i, 16 * i + 16));
+        let rows = matrix_at(state, i);
+        print_digest(b"controller", i + 1, cases::digest_words(0, &rows));
     }
 }
 
-fn print_all(s: Setup, state: &[u16])
-    requires { ⌜ (s .n ≤ 16) × (length (now state) ≡ 1024) ⌝ }
+fn turn(stage: Stage, s: Setup, c: usize, state: &mut [u16], boxes: &mut [u8], i: usize)
+    requires { ⌜ (s .n ≤ 16) × (i < 16) × (length (now state) ≡ 1024) × (length (now boxes) ≡ 65536) ⌝ }
+{
+    match stage {
+        Stage::Send => send_one(s, c, state, boxes, i),
+        Stage::Receive => receive_one(s, c, state, boxes, i),
+        Stage::Print => print_last(s, state, i),
+    }
+}
+
+fn turns(stage: Stage, s: Setup, c: usize, state: &mut [u16], boxes: &mut [u8])
+    requires { ⌜ (s .n ≤ 16) × (length (now state) ≡ 1024) × (length (now boxes) ≡ 65536) ⌝ }
 {
     let n = s.n;
     let mut i: usize = 0;
     while i < n {
-        print_last(s, state, i);
+        turn(stage, s, c, state, boxes, i);
         i += 1;
     }
 }
@@ -392,9 +361,9 @@ fn print_all(s: Setup, state: &[u16])
 fn round(s: Setup, c: usize, state: &mut [u16], boxes: &mut [u8])
     requires { ⌜ (s .n ≤ 16) × (length (now state) ≡ 1024) × (length (now boxes) ≡ 65536) ⌝ }
 {
-    send(s, c, state, boxes);
-    receive(s, c, state, boxes);
-    print_digest(b"round ", c, digest(state, 0, 1024));
+    turns(Stage::Send, s, c, state, boxes);
+    turns(Stage::Receive, s, c, state, boxes);
+    print_digest(b"round", c, cases::digest_words(0, state));
 }
 
 fn rounds(s: Setup, state: &mut [u16], boxes: &mut [u8])
@@ -409,15 +378,8 @@ fn rounds(s: Setup, state: &mut [u16], boxes: &mut [u8])
 }
 
 fn print_setup(s: Setup) {
-    io::write_all(STDOUT_FILENO, b"vote ");
-    io::print_decimal(STDOUT_FILENO, s.n as u64);
-    io::write_all(STDOUT_FILENO, b" ");
-    io::print_decimal(STDOUT_FILENO, s.t as u64);
-    io::write_all(STDOUT_FILENO, b" ");
-    io::print_decimal(STDOUT_FILENO, s.faults as u64);
-    io::write_all(STDOUT_FILENO, b" ");
-    io::print_decimal(STDOUT_FILENO, s.seed);
-    io::write_all(STDOUT_FILENO, b"\n");
+    cases::numbers(b"vote", &[s.n, s.t, s.faults, s.seed as usize]);
+    cases::newline();
 }
 
 fn play(s: Setup)
@@ -429,7 +391,7 @@ fn play(s: Setup)
     let mut space = io::large_buffer();
     let boxes: &mut [u8] = &mut space;
     rounds(s, state, boxes);
-    print_all(s, state);
+    turns(Stage::Print, s, 0, state, boxes);
 }
 
 // Each choice of faulty controllers with four seeds.

@@ -20,7 +20,8 @@ use Rattle.wire.specs.declared.Round.the-variants.{Block, Pieces, Marks,
 use Rattle.wire.specs.declared.Call.{Call}
 use Rattle.wire.specs.declared.Call.the-variants.{Send, Receive, Compare, Collect, Tally, Hold, Settle, Core, Choose, Finish, Outside as NoCall}
 use Rattle.wire.specs.Round.{roundCount, callCount, phaseRound, lastRound, roundKind, phaseCall, lastCall, callKind, phaseOf}
-use Rattle.wire.specs.Length.{blockLength, rowLength, inSettings, blockSize, messageLength, boxLength, inboxLength, outboxLength}
+use Rattle.wire.specs.Length.{blockLength, rowLength, inSettings, blockSize, kindLength, roundLayout, messageLength, boxLength, inboxLength, outboxLength}
+use Rattle.wire.specs.declared.slot.Layout.{Layout}
 use Rattle.wire.specs.Slot.{width, slotOf, messageOf, Sent, slots}
 use Rattle.wire.proofs.Numbers.{from-four}
 use Rattle.wire.proofs.Factors.{row-most}
@@ -45,6 +46,7 @@ pub use Rattle.wire.proofs.Slots.{
   written-each,
   slots-each,
   to-all,
+  to-all-no,
   put-next-slot,
   length-rest,
   copied-all,
@@ -60,20 +62,23 @@ pub use Rattle.wire.proofs.Slots.{
 -- ---- settings
 pub in-settings : {n t k : ℕ} → Coded n t k → inSettings n t k ≡ true
 unfolding inSettings
-in-settings {n} {t} {k} v = eq-eqb _ 0 (0-lengths (record { n = n; t = t; k = k; number = 0; sender = 0 }) true v)
+in-settings {n} {t} {k} v = eq-eqb _ 0 (0-lengths n t k v)
 
 pub settings-in : (n t k : ℕ) → inSettings n t k ≡ true → Coded n t k
 unfolding inSettings
-settings-in n t k e = lengths-0 (record { n = n; t = t; k = k; number = 0; sender = 0 }) true (eqb-true _ 0 e)
+settings-in n t k e = lengths-0 n t k (eqb-true _ 0 e)
 
 -- ---- lengths
+pub kind-length : {n t k : ℕ} → Coded n t k → (r : Round) → kindLength r n t k ≡ rowLength r n t k
+unfolding kindLength
+kind-length {n} {t} {k} v r = cond-yes (inSettings n t k) (rowLength r n t k) 0 (in-settings v)
+
 pub length-of : {n t k : ℕ} → Coded n t k → (c : ℕ) → messageLength n t k c ≡ rowLength (roundKind t c) n t k
-unfolding messageLength
-length-of {n} {t} {k} v c = cond-yes (inSettings n t k) (rowLength (roundKind t c) n t k) 0 (in-settings v)
+length-of {n} {t} {k} v c = kind-length v (roundKind t c)
 
 -- a length that is not 0 is within the settings
 pub length-some : (n t k c : ℕ) → (messageLength n t k c ≡ 0 → ⊥) → Coded n t k
-unfolding messageLength
+unfolding kindLength
 length-some n t k c h =
     ⊎-elim (λ (e : inSettings n t k ≡ true). settings-in n t k e)
     (λ (e : inSettings n t k ≡ false). absurd (h (cond-no (inSettings n t k) (rowLength (roundKind t c) n t k) 0 e)))
@@ -400,7 +405,7 @@ call-count t = refl
 
 -- outside the rounds there is no length
 pub length-none : (n t k c : ℕ) → roundKind t c ≡ Outside → messageLength n t k c ≡ 0
-unfolding messageLength
+unfolding kindLength
 length-none n t k c e =
     ⊎-elim
     (λ (q : inSettings n t k ≡ true). cond-yes (inSettings n t k) (rowLength (roundKind t c) n t k) 0 q ∙ ap (λ (r : Round). rowLength r n t k) e ∙ length-outside n t k)
@@ -409,18 +414,18 @@ length-none n t k c e =
 
 box-none : (n t k c : ℕ) → messageLength n t k c ≡ 0 → boxLength n t k c ≡ 0
 unfolding boxLength
-box-none n t k c e = cond-yes (eqb (messageLength n t k c) 0) 0 (n * width (messageLength n t k c)) (eq-eqb (messageLength n t k c) 0 e)
+box-none n t k c e = cond-yes (eqb (messageLength n t k c) 0) 0 (n * width (roundLayout n t k c)) (eq-eqb (messageLength n t k c) 0 e)
 
-box-some : (n t k c : ℕ) → 1 ≤ messageLength n t k c → boxLength n t k c ≡ n * width (messageLength n t k c)
+box-some : (n t k c : ℕ) → 1 ≤ messageLength n t k c → boxLength n t k c ≡ n * width (roundLayout n t k c)
 unfolding boxLength
-box-some n t k c l = cond-no (eqb (messageLength n t k c) 0) 0 (n * width (messageLength n t k c)) (ne-eqb (messageLength n t k c) 0 (λ e. omega arith))
+box-some n t k c l = cond-no (eqb (messageLength n t k c) 0) 0 (n * width (roundLayout n t k c)) (ne-eqb (messageLength n t k c) 0 (λ e. omega arith))
 
 -- the outbox of a call whose round has messages, and the inbox of the call after it: n slots
-pub outbox-of : (n t k c : ℕ) → 1 ≤ messageLength n t k c → outboxLength n t k c ≡ n * width (messageLength n t k c)
+pub outbox-of : (n t k c : ℕ) → 1 ≤ messageLength n t k c → outboxLength n t k c ≡ n * width (roundLayout n t k c)
 unfolding outboxLength
 outbox-of = box-some
 
-pub inbox-of : (n t k c : ℕ) → 1 ≤ messageLength n t k c → inboxLength n t k (c + 1) ≡ n * width (messageLength n t k c)
+pub inbox-of : (n t k c : ℕ) → 1 ≤ messageLength n t k c → inboxLength n t k (c + 1) ≡ n * width (roundLayout n t k c)
 unfolding inboxLength
 inbox-of n t k c l =
     let e : c + 1 - 1 ≡ c = omega arith in
@@ -436,13 +441,13 @@ last-outbox n t k = box-none n t k (3 * t + 9) (length-none n t k (3 * t + 9) (r
 
 -- ---- slots
 -- slot j of what was written, read back
-pub read-back : (len : ℕ) (f : ℕ → Sent) → ((i : ℕ) → Sized len (f i)) → (n j : ℕ) → 1 ≤ j → j ≤ n → messageOf (slots len f n) len j ≡ content (f j)
-read-back len f sized n j h l =
-    message-of-slot (slots len f n) len j (f j) h (subst (λ (m : ℕ). j * width len ≤ m) (sym (length-slots len f sized n)) (mul-le-mul-right (width len) l))
-    (slot-of-slots len f sized n j h l)
+pub read-back : (layout : Layout) (f : ℕ → Sent) → ((i : ℕ) → Sized layout (f i)) → (n j : ℕ) → 1 ≤ j → j ≤ n → messageOf (slots layout f n) layout j ≡ content (f j)
+read-back layout f sized n j h l =
+    message-of-slot (slots layout f n) layout j (f j) h (subst (λ (m : ℕ). j * width layout ≤ m) (sym (length-slots layout f sized n)) (mul-le-mul-right (width layout) l))
+    (slot-of-slots layout f sized n j h l)
 
 -- a slot that arrived, byte for byte, as it was sent is read as what was sent
-pub arrived : (len : ℕ) (f : ℕ → Sent) → ((i : ℕ) → Sized len (f i)) → (inbox outbox : List ℕ) (n i j : ℕ) → outbox ≡ slots len f n
-    → 1 ≤ j → j ≤ n → 1 ≤ i → i * width len ≤ length inbox → slotOf inbox len i ≡ slotOf outbox len j → messageOf inbox len i ≡ content (f j)
-arrived len f sized inbox outbox n i j e hj lj hi li same =
-    message-of-slot inbox len i (f j) hi li (same ∙ ap (λ (o : List ℕ). slotOf o len j) e ∙ slot-of-slots len f sized n j hj lj)
+pub arrived : (layout : Layout) (f : ℕ → Sent) → ((i : ℕ) → Sized layout (f i)) → (inbox outbox : List ℕ) (n i j : ℕ) → outbox ≡ slots layout f n
+    → 1 ≤ j → j ≤ n → 1 ≤ i → i * width layout ≤ length inbox → slotOf inbox layout i ≡ slotOf outbox layout j → messageOf inbox layout i ≡ content (f j)
+arrived layout f sized inbox outbox n i j e hj lj hi li same =
+    message-of-slot inbox layout i (f j) hi li (same ∙ ap (λ (o : List ℕ). slotOf o layout j) e ∙ slot-of-slots layout f sized n j hj lj)

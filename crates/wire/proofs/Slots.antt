@@ -14,14 +14,15 @@ use lib.ListN.{length, getD, set, take, drop, replicate, length-append, length-d
 use lib.Seq.{length-take-le, take-all, take-append-le, drop-append-le, take-at, drop-at, drop-drop, getD-take, getD-drop}
 use Rattle.lists.proofs.Tests.{either, and-left, and-right, and-both, and-no-left, and-no-right, cond-yes, cond-no, lt-or-le}
 use Rattle.lists.specs.Join.{part}
-use Rattle.lists.proofs.Parts.{all-take, all-drop, all-append, all-zeros, next-offset}
-use Rattle.lists.proofs.Joins.{part-take}
+use Rattle.lists.proofs.Parts.{all-take, all-drop, all-zeros, next-offset, drop-take}
+use Rattle.lists.proofs.Joins.{joined-none, joined-more, joined-ext, length-joined, part-joined, all-joined, joined-zeros}
+use Rattle.wire.specs.declared.slot.Layout.{Layout}
 use Rattle.wire.specs.Slot.{header, width, slotOf, holds, isPresent, messageOf, offsetOf, Sent, silence, bytes, written, slots, toAll, putSlot, relayed, copied}
 
 -- ---- the layout
-pub width-pos : (len : ℕ) → 0 < width len
+pub width-pos : (layout : Layout) → 0 < width layout
 unfolding width
-width-pos len = omega arith
+width-pos layout = omega arith
 
 -- slot j ends where the next begins
 pub slot-end : (j w : ℕ) → 1 ≤ j → (j - 1) * w + w ≡ j * w
@@ -30,312 +31,300 @@ slot-end j w h =
     sym (next-offset (j - 1) w) ∙ ap (λ (i : ℕ). i * w) e
 
 -- ---- what a box holds
-pub holds-yes : (box : List ℕ) (len j : ℕ) → 1 ≤ j → j * width len ≤ length box → holds box len j ≡ true
+pub holds-yes : (box : List ℕ) (layout : Layout) (j : ℕ) → 1 ≤ j → j * width layout ≤ length box → holds box layout j ≡ true
 unfolding holds
-holds-yes box len j h l = and-both (not (eqb j 0)) (leb (j * width len) (length box)) (ap not (ne-eqb j 0 (λ e. omega arith))) (le-leb (j * width len) (length box) l)
+holds-yes box layout j h l = and-both (not (eqb j 0)) (leb (j * width layout) (length box)) (ap not (ne-eqb j 0 (λ e. omega arith))) (le-leb (j * width layout) (length box) l)
 
-pub holds-zero : (box : List ℕ) (len j : ℕ) → j ≡ 0 → holds box len j ≡ false
+pub holds-zero : (box : List ℕ) (layout : Layout) (j : ℕ) → j ≡ 0 → holds box layout j ≡ false
 unfolding holds
-holds-zero box len j e = and-no-left (not (eqb j 0)) (leb (j * width len) (length box)) (ap not (eq-eqb j 0 e))
+holds-zero box layout j e = and-no-left (not (eqb j 0)) (leb (j * width layout) (length box)) (ap not (eq-eqb j 0 e))
 
-pub holds-past : (box : List ℕ) (len j : ℕ) → length box < j * width len → holds box len j ≡ false
+pub holds-past : (box : List ℕ) (layout : Layout) (j : ℕ) → length box < j * width layout → holds box layout j ≡ false
 unfolding holds
-holds-past box len j l = and-no-right (not (eqb j 0)) (leb (j * width len) (length box)) (lt-leb (j * width len) (length box) l)
+holds-past box layout j l = and-no-right (not (eqb j 0)) (leb (j * width layout) (length box)) (lt-leb (j * width layout) (length box) l)
 
-pub holds-fits : (box : List ℕ) (len j : ℕ) → holds box len j ≡ true → (1 ≤ j) × (j * width len ≤ length box)
+pub holds-fits : (box : List ℕ) (layout : Layout) (j : ℕ) → holds box layout j ≡ true → (1 ≤ j) × (j * width layout ≤ length box)
 unfolding holds
-holds-fits box len j e =
-    let z : j ≡ 0 → ⊥ = eqb-false j 0 (borrow.Author.Tests.not-true (eqb j 0) (and-left (not (eqb j 0)) (leb (j * width len) (length box)) e)) in
-    (omega arith, leb-true (j * width len) (length box) (and-right (not (eqb j 0)) (leb (j * width len) (length box)) e))
+holds-fits box layout j e =
+    let z : j ≡ 0 → ⊥ = eqb-false j 0 (borrow.Author.Tests.not-true (eqb j 0) (and-left (not (eqb j 0)) (leb (j * width layout) (length box)) e)) in
+    (omega arith, leb-true (j * width layout) (length box) (and-right (not (eqb j 0)) (leb (j * width layout) (length box)) e))
 
 -- ---- the message of a slot
-module _ (box : List ℕ) (len j : ℕ) where
-  pub message-none : holds box len j ≡ false → messageOf box len j ≡ []
+module _ (box : List ℕ) (layout : Layout) (j : ℕ) where
+  pub message-none : holds box layout j ≡ false → messageOf box layout j ≡ []
   unfolding messageOf
-  message-none e = cond-no (holds box len j && isPresent (slotOf box len j)) (drop header (slotOf box len j)) [] (and-no-left (holds box len j) (isPresent (slotOf box len j)) e)
+  message-none e = cond-no (holds box layout j && isPresent (slotOf box layout j)) (drop header (slotOf box layout j)) [] (and-no-left (holds box layout j) (isPresent (slotOf box layout j)) e)
 
-  pub message-absent : isPresent (slotOf box len j) ≡ false → messageOf box len j ≡ []
+  pub message-absent : isPresent (slotOf box layout j) ≡ false → messageOf box layout j ≡ []
   unfolding messageOf
-  message-absent e = cond-no (holds box len j && isPresent (slotOf box len j)) (drop header (slotOf box len j)) [] (and-no-right (holds box len j) (isPresent (slotOf box len j)) e)
+  message-absent e = cond-no (holds box layout j && isPresent (slotOf box layout j)) (drop header (slotOf box layout j)) [] (and-no-right (holds box layout j) (isPresent (slotOf box layout j)) e)
 
-  pub message-held : holds box len j ≡ true → isPresent (slotOf box len j) ≡ true → messageOf box len j ≡ drop header (slotOf box len j)
+  pub message-held : holds box layout j ≡ true → isPresent (slotOf box layout j) ≡ true → messageOf box layout j ≡ drop header (slotOf box layout j)
   unfolding messageOf
-  message-held h e = cond-yes (holds box len j && isPresent (slotOf box len j)) (drop header (slotOf box len j)) [] (and-both (holds box len j) (isPresent (slotOf box len j)) h e)
+  message-held h e = cond-yes (holds box layout j && isPresent (slotOf box layout j)) (drop header (slotOf box layout j)) [] (and-both (holds box layout j) (isPresent (slotOf box layout j)) h e)
 
   -- a slot that is held is as wide as a slot
-  pub length-slot : holds box len j ≡ true → length (slotOf box len j) ≡ width len
-  unfolding slotOf
+  pub length-slot : holds box layout j ≡ true → length (slotOf box layout j) ≡ width layout
+  unfolding slotOf part
   length-slot h =
-      let f = holds-fits box len j h in
-      length-take-le (width len) (drop ((j - 1) * width len) box)
-      (subst (λ (m : ℕ). width len ≤ m) (sym (length-drop ((j - 1) * width len) box)) (omega (arith, slot-end j (width len) (f .0), f .1)))
+      let f = holds-fits box layout j h in
+      length-take-le (width layout) (drop ((j - 1) * width layout) box)
+      (subst (λ (m : ℕ). width layout ≤ m) (sym (length-drop ((j - 1) * width layout) box)) (omega (arith, slot-end j (width layout) (f .0), f .1)))
 
-  first-byte : getD (slotOf box len j) 0 0 ≡ getD box ((j - 1) * width len) 0
-  unfolding slotOf
+  first-byte : getD (slotOf box layout j) 0 0 ≡ getD box ((j - 1) * width layout) 0
+  unfolding slotOf part
   first-byte =
-      getD-take (width len) (drop ((j - 1) * width len) box) 0 0 (width-pos len)
-      ∙ getD-drop ((j - 1) * width len) box 0 0 ∙ ap (λ (x : ℕ). getD box x 0) (add-zero ((j - 1) * width len))
+      getD-take (width layout) (drop ((j - 1) * width layout) box) 0 0 (width-pos layout)
+      ∙ getD-drop ((j - 1) * width layout) box 0 0 ∙ ap (λ (x : ℕ). getD box x 0) (add-zero ((j - 1) * width layout))
 
-  pub present-yes : getD box ((j - 1) * width len) 0 ≡ 1 → isPresent (slotOf box len j) ≡ true
+  pub present-yes : getD box ((j - 1) * width layout) 0 ≡ 1 → isPresent (slotOf box layout j) ≡ true
   unfolding isPresent
-  present-yes e = eq-eqb (getD (slotOf box len j) 0 0) 1 (first-byte ∙ e)
+  present-yes e = eq-eqb (getD (slotOf box layout j) 0 0) 1 (first-byte ∙ e)
 
-  pub present-no : (getD box ((j - 1) * width len) 0 ≡ 1 → ⊥) → isPresent (slotOf box len j) ≡ false
+  pub present-no : (getD box ((j - 1) * width layout) 0 ≡ 1 → ⊥) → isPresent (slotOf box layout j) ≡ false
   unfolding isPresent
-  present-no n = ne-eqb (getD (slotOf box len j) 0 0) 1 (λ e. n (sym first-byte ∙ e))
-
-drop-take : (h n : ℕ) (l : List ℕ) → drop h (take (h + n) l) ≡ take n (drop h l)
-drop-take zero n l = ap (λ (m : ℕ). take m l) (native.Mathlib.Nat.zero-add n)
-drop-take (suc h) n [] = rw (native.Mathlib.Nat.suc-add h n) (sym (lib.Seq.take-nil n))
-drop-take (suc h) n (x ∷ l) = rw (native.Mathlib.Nat.suc-add h n) (drop-take h n l)
+  present-no n = ne-eqb (getD (slotOf box layout j) 0 0) 1 (λ e. n (sym first-byte ∙ e))
 
 -- ---- where a message starts
-module _ (box : List ℕ) (len j : ℕ) where
-  pub offset-none : holds box len j ≡ false → offsetOf box len j ≡ 0
+module _ (box : List ℕ) (layout : Layout) (j : ℕ) where
+  pub offset-none : holds box layout j ≡ false → offsetOf box layout j ≡ 0
   unfolding offsetOf
-  offset-none e = cond-no (holds box len j && isPresent (slotOf box len j)) ((j - 1) * width len + header) 0 (and-no-left (holds box len j) (isPresent (slotOf box len j)) e)
+  offset-none e = cond-no (holds box layout j && isPresent (slotOf box layout j)) ((j - 1) * width layout + header) 0 (and-no-left (holds box layout j) (isPresent (slotOf box layout j)) e)
 
-  pub offset-absent : isPresent (slotOf box len j) ≡ false → offsetOf box len j ≡ 0
+  pub offset-absent : isPresent (slotOf box layout j) ≡ false → offsetOf box layout j ≡ 0
   unfolding offsetOf
-  offset-absent e = cond-no (holds box len j && isPresent (slotOf box len j)) ((j - 1) * width len + header) 0 (and-no-right (holds box len j) (isPresent (slotOf box len j)) e)
+  offset-absent e = cond-no (holds box layout j && isPresent (slotOf box layout j)) ((j - 1) * width layout + header) 0 (and-no-right (holds box layout j) (isPresent (slotOf box layout j)) e)
 
-  pub offset-held : holds box len j ≡ true → isPresent (slotOf box len j) ≡ true → offsetOf box len j ≡ (j - 1) * width len + header
+  pub offset-held : holds box layout j ≡ true → isPresent (slotOf box layout j) ≡ true → offsetOf box layout j ≡ (j - 1) * width layout + header
   unfolding offsetOf
-  offset-held h e = cond-yes (holds box len j && isPresent (slotOf box len j)) ((j - 1) * width len + header) 0 (and-both (holds box len j) (isPresent (slotOf box len j)) h e)
+  offset-held h e = cond-yes (holds box layout j && isPresent (slotOf box layout j)) ((j - 1) * width layout + header) 0 (and-both (holds box layout j) (isPresent (slotOf box layout j)) h e)
 
 -- a message starts at 0 only where there is none
-pub record Placed (box : List ℕ) (len j : ℕ) : Type 0 where
-  pub some : 1 ≤ offsetOf box len j
-  pub within : offsetOf box len j + len ≤ length box
-  pub here : messageOf box len j ≡ take len (drop (offsetOf box len j) box)
+pub record Placed (box : List ℕ) (layout : Layout) (j : ℕ) : Type 0 where
+  pub some : 1 ≤ offsetOf box layout j
+  pub within : offsetOf box layout j + layout .length ≤ length box
+  pub here : messageOf box layout j ≡ take (layout .length) (drop (offsetOf box layout j) box)
 
-pub placed-or-none : (box : List ℕ) (len j : ℕ) → Placed box len j ⊎ ((offsetOf box len j ≡ 0) × (messageOf box len j ≡ []))
-unfolding slotOf width
-placed-or-none box len j =
+pub placed-or-none : (box : List ℕ) (layout : Layout) (j : ℕ) → Placed box layout j ⊎ ((offsetOf box layout j ≡ 0) × (messageOf box layout j ≡ []))
+unfolding slotOf part width
+placed-or-none box layout j =
     ⊎-elim
-    (λ (h : holds box len j ≡ true).
+    (λ (h : holds box layout j ≡ true).
     ⊎-elim
-    (λ (p : isPresent (slotOf box len j) ≡ true).
-    let f = holds-fits box len j h in
-    let e : offsetOf box len j ≡ (j - 1) * width len + header = offset-held box len j h p in
+    (λ (p : isPresent (slotOf box layout j) ≡ true).
+    let f = holds-fits box layout j h in
+    let e : offsetOf box layout j ≡ (j - 1) * width layout + header = offset-held box layout j h p in
+    let inner : width layout - header ≡ layout .length = omega arith in
     inl
     (record {
       some = omega (arith, e);
-      within = omega (arith, e, slot-end j (width len) (f .0), f .1);
+      within = omega (arith, e, slot-end j (width layout) (f .0), f .1);
       here =
-          message-held box len j h p
-          ∙ drop-take header len (drop ((j - 1) * width len) box)
-          ∙ ap (take len) (drop-drop header ((j - 1) * width len) box ∙ ap (λ (i : ℕ). drop i box) (sym e));
+          message-held box layout j h p
+          ∙ drop-take header (width layout) (drop ((j - 1) * width layout) box)
+          ∙ ap (λ (x : ℕ). take x (drop header (drop ((j - 1) * width layout) box))) inner
+          ∙ ap (take (layout .length)) (drop-drop header ((j - 1) * width layout) box ∙ ap (λ (i : ℕ). drop i box) (sym e));
     }))
-    (λ (p : isPresent (slotOf box len j) ≡ false). inr (offset-absent box len j p, message-absent box len j p))
-    (either (isPresent (slotOf box len j))))
-    (λ (h : holds box len j ≡ false). inr (offset-none box len j h, message-none box len j h))
-    (either (holds box len j))
+    (λ (p : isPresent (slotOf box layout j) ≡ false). inr (offset-absent box layout j p, message-absent box layout j p))
+    (either (isPresent (slotOf box layout j))))
+    (λ (h : holds box layout j ≡ false). inr (offset-none box layout j h, message-none box layout j h))
+    (either (holds box layout j))
 
 -- with no offset there is no message
-pub no-message : (box : List ℕ) (len j : ℕ) → offsetOf box len j ≡ 0 → messageOf box len j ≡ []
-no-message box len j e =
-    ⊎-elim (λ (p : Placed box len j). absurd (omega (arith, p .some))) (λ (n : (offsetOf box len j ≡ 0) × (messageOf box len j ≡ [])). n .1)
-    (placed-or-none box len j)
+pub no-message : (box : List ℕ) (layout : Layout) (j : ℕ) → offsetOf box layout j ≡ 0 → messageOf box layout j ≡ []
+no-message box layout j e =
+    ⊎-elim (λ (p : Placed box layout j). absurd (omega (arith, p .some))) (λ (n : (offsetOf box layout j ≡ 0) × (messageOf box layout j ≡ [])). n .1)
+    (placed-or-none box layout j)
 
-pub placed : (box : List ℕ) (len j : ℕ) → (offsetOf box len j ≡ 0 → ⊥) → Placed box len j
-placed box len j n =
-    ⊎-elim (λ (p : Placed box len j). p) (λ (e : (offsetOf box len j ≡ 0) × (messageOf box len j ≡ [])). absurd (n (e .0)))
-    (placed-or-none box len j)
+pub placed : (box : List ℕ) (layout : Layout) (j : ℕ) → (offsetOf box layout j ≡ 0 → ⊥) → Placed box layout j
+placed box layout j n =
+    ⊎-elim (λ (p : Placed box layout j). p) (λ (e : (offsetOf box layout j ≡ 0) × (messageOf box layout j ≡ [])). absurd (n (e .0)))
+    (placed-or-none box layout j)
 
 -- the part of the box that starts there, as long as the message, is the message
-pub message-at : (box : List ℕ) (len j : ℕ) → take (length (messageOf box len j)) (drop (offsetOf box len j) box) ≡ messageOf box len j
-message-at box len j =
+pub message-at : (box : List ℕ) (layout : Layout) (j : ℕ) → take (length (messageOf box layout j)) (drop (offsetOf box layout j) box) ≡ messageOf box layout j
+message-at box layout j =
     ⊎-elim
-    (λ (p : Placed box len j).
-    let l : length (messageOf box len j) ≡ len
-    = ap length (p .here) ∙ length-take-le len (drop (offsetOf box len j) box) (omega (arith, p .within, length-drop (offsetOf box len j) box)) in
-    ap (λ (i : ℕ). take i (drop (offsetOf box len j) box)) l ∙ sym (p .here))
-    (λ (e : (offsetOf box len j ≡ 0) × (messageOf box len j ≡ [])).
-    ap (λ (m : List ℕ). take (length m) (drop (offsetOf box len j) box)) (e .1) ∙ sym (e .1))
-    (placed-or-none box len j)
+    (λ (p : Placed box layout j).
+    let l : length (messageOf box layout j) ≡ layout .length
+    = ap length (p .here) ∙ length-take-le (layout .length) (drop (offsetOf box layout j) box) (omega (arith, p .within, length-drop (offsetOf box layout j) box)) in
+    ap (λ (i : ℕ). take i (drop (offsetOf box layout j) box)) l ∙ sym (p .here))
+    (λ (e : (offsetOf box layout j ≡ 0) × (messageOf box layout j ≡ [])).
+    ap (λ (m : List ℕ). take (length m) (drop (offsetOf box layout j) box)) (e .1) ∙ sym (e .1))
+    (placed-or-none box layout j)
 
 -- a message that is there has the round's length
-pub length-message : (box : List ℕ) (len j : ℕ) → (length (messageOf box len j) ≡ 0 → ⊥) → length (messageOf box len j) ≡ len
+pub length-message : (box : List ℕ) (layout : Layout) (j : ℕ) → (length (messageOf box layout j) ≡ 0 → ⊥) → length (messageOf box layout j) ≡ layout .length
 unfolding width
-length-message box len j n =
+length-message box layout j n =
     ⊎-elim
-    (λ (h : holds box len j ≡ true).
+    (λ (h : holds box layout j ≡ true).
     ⊎-elim
-    (λ (p : isPresent (slotOf box len j) ≡ true).
-    ap length (message-held box len j h p) ∙ length-drop header (slotOf box len j) ∙ omega (arith, length-slot box len j h))
-    (λ (p : isPresent (slotOf box len j) ≡ false). absurd (n (ap length (message-absent box len j p))))
-    (either (isPresent (slotOf box len j))))
-    (λ (h : holds box len j ≡ false). absurd (n (ap length (message-none box len j h))))
-    (either (holds box len j))
+    (λ (p : isPresent (slotOf box layout j) ≡ true).
+    ap length (message-held box layout j h p) ∙ length-drop header (slotOf box layout j) ∙ omega (arith, length-slot box layout j h))
+    (λ (p : isPresent (slotOf box layout j) ≡ false). absurd (n (ap length (message-absent box layout j p))))
+    (either (isPresent (slotOf box layout j))))
+    (λ (h : holds box layout j ≡ false). absurd (n (ap length (message-none box layout j h))))
+    (either (holds box layout j))
 
 -- what holds of 0 and of each byte of the box holds of each byte of a message
-pub message-all : (P : ℕ → Type 0) → P 0 → (box : List ℕ) (len j : ℕ) → ((i : ℕ) → P (getD box i 0)) → (i : ℕ) → P (getD (messageOf box len j) i 0)
-unfolding messageOf slotOf
-message-all P z box len j h i = go (holds box len j && isPresent (slotOf box len j))
+pub message-all : (P : ℕ → Type 0) → P 0 → (box : List ℕ) (layout : Layout) (j : ℕ) → ((i : ℕ) → P (getD box i 0)) → (i : ℕ) → P (getD (messageOf box layout j) i 0)
+unfolding messageOf slotOf part
+message-all P z box layout j h i = go (holds box layout j && isPresent (slotOf box layout j))
   where
-    go : (b : Bool) → P (getD (cond b (drop header (slotOf box len j)) []) i 0)
-    go true = all-drop P z header (slotOf box len j) (all-take P z (width len) (drop ((j - 1) * width len) box) (all-drop P z ((j - 1) * width len) box h)) i
+    go : (b : Bool) → P (getD (cond b (drop header (slotOf box layout j)) []) i 0)
+    go true = all-drop P z header (slotOf box layout j) (all-take P z (width layout) (drop ((j - 1) * width layout) box) (all-drop P z ((j - 1) * width layout) box h)) i
     go false = z
 
 -- ---- slots written in full
-abbrev pub Sized : ℕ → Sent → Type 0
-Sized len s = length (written len s) ≡ width len
+abbrev pub Sized : Layout → Sent → Type 0
+Sized layout s = length (written layout s) ≡ width layout
 
-pub sized-silence : (len : ℕ) → Sized len silence
+pub sized-silence : (layout : Layout) → Sized layout silence
 unfolding written
-sized-silence len = length-replicate (width len) 0
+sized-silence layout = length-replicate (width layout) 0
 
-pub sized-bytes : (len : ℕ) (m : List ℕ) → length m ≡ len → Sized len (bytes m)
+pub sized-bytes : (layout : Layout) (m : List ℕ) → length m ≡ layout .length → Sized layout (bytes m)
 unfolding written width
-sized-bytes len m e = omega arith
+sized-bytes layout m e = omega arith
 
-pub length-slots : (len : ℕ) (f : ℕ → Sent) → ((j : ℕ) → Sized len (f j)) → (n : ℕ) → length (slots len f n) ≡ n * width len
+-- the slots are their parts joined: what lists' laws say of joined lists
+pub length-slots : (layout : Layout) (f : ℕ → Sent) → ((j : ℕ) → Sized layout (f j)) → (n : ℕ) → length (slots layout f n) ≡ n * width layout
 unfolding slots
-length-slots len f h zero = sym (zero-mul (width len))
-length-slots len f h (suc j) =
-    length-append (slots len f j) (written len (f (suc j))) ∙ omega (arith, length-slots len f h j, h (suc j), suc-mul j (width len))
+length-slots layout f h n = length-joined (width layout) (λ i. written layout (f (i + 1))) n (λ i l. h (i + 1))
 
-pub slots-none : (len : ℕ) (f : ℕ → Sent) → slots len f 0 ≡ []
+pub slots-none : (layout : Layout) (f : ℕ → Sent) → slots layout f 0 ≡ []
 unfolding slots
-slots-none len f = refl
+slots-none layout f = joined-none (λ i. written layout (f (i + 1)))
 
-pub slots-next : (len : ℕ) (f : ℕ → Sent) (j : ℕ) → slots len f (j + 1) ≡ slots len f j ++ written len (f (j + 1))
+pub slots-next : (layout : Layout) (f : ℕ → Sent) (j : ℕ) → slots layout f (j + 1) ≡ slots layout f j ++ written layout (f (j + 1))
 unfolding slots
-slots-next len f j = rw add-one
+slots-next layout f j = joined-more (λ i. written layout (f (i + 1))) j
 
-pub slots-ext : (len : ℕ) (f g : ℕ → Sent) (n : ℕ) → ((j : ℕ) → 1 ≤ j → j ≤ n → f j ≡ g j) → slots len f n ≡ slots len g n
+pub slots-ext : (layout : Layout) (f g : ℕ → Sent) (n : ℕ) → ((j : ℕ) → 1 ≤ j → j ≤ n → f j ≡ g j) → slots layout f n ≡ slots layout g n
 unfolding slots
-slots-ext len f g zero h = refl
-slots-ext len f g (suc n) h = ap₂ (λ (a : List ℕ) (s : Sent). a ++ written len s) (slots-ext len f g n (λ j l m. h j l (omega arith))) (h (suc n) (omega arith) (omega arith))
+slots-ext layout f g n h =
+    joined-ext (λ i. written layout (f (i + 1))) (λ i. written layout (g (i + 1))) n
+    (λ i l. ap (written layout) (h (i + 1) (omega arith) (omega arith)))
 
 -- silence is an outbox of zeros
-pub silent-slots : (len n : ℕ) → replicate (n * width len) 0 ≡ slots len (λ _. silence) n
+pub silent-slots : (layout : Layout) (n : ℕ) → replicate (n * width layout) 0 ≡ slots layout (λ _. silence) n
 unfolding slots written
-silent-slots len zero = ap (λ (m : ℕ). replicate m 0) (zero-mul (width len))
-silent-slots len (suc n) =
-    ap (λ (m : ℕ). replicate m 0) (suc-mul n (width len)) ∙ sym (replicate-append-replicate (n * width len) (width len) 0)
-    ∙ ap (λ (l : List ℕ). l ++ replicate (width len) 0) (silent-slots len n)
+silent-slots layout n = joined-zeros (width layout) n
 
 -- slot j of an outbox written slot by slot
-pub slot-of-slots : (len : ℕ) (f : ℕ → Sent) → ((j : ℕ) → Sized len (f j)) → (n j : ℕ) → 1 ≤ j → j ≤ n → slotOf (slots len f n) len j ≡ written len (f j)
+pub slot-of-slots : (layout : Layout) (f : ℕ → Sent) → ((j : ℕ) → Sized layout (f j)) → (n j : ℕ) → 1 ≤ j → j ≤ n → slotOf (slots layout f n) layout j ≡ written layout (f j)
 unfolding slotOf slots
-slot-of-slots len f sized zero j least most = absurd (omega arith)
-slot-of-slots len f sized (suc n) j least most =
-    let w = width len in
-    let whole : length (slots len f n) ≡ n * w = length-slots len f sized n in
-    ⊎-elim
-    (λ (past : n < j).
-    let is : suc n ≡ j = omega arith in
-    let start : n ≡ j - 1 = omega arith in
-    ap (take w) (drop-at (slots len f n) (written len (f (suc n))) ((j - 1) * w) (whole ∙ ap (λ (x : ℕ). x * w) start))
-    ∙ take-all w (written len (f (suc n))) (le-of-eq (sized (suc n))) ∙ ap (λ (x : ℕ). written len (f x)) is)
-    (λ (within : j ≤ n).
-    let fits : (j - 1) * w + w ≤ length (slots len f n) = omega (arith, whole, slot-end j w least, mul-le-mul-right w within) in
-    let low : (j - 1) * w ≤ length (slots len f n) = omega arith in
-    let long : w ≤ length (drop ((j - 1) * w) (slots len f n)) = simp length-drop (omega arith) in
-    ap (take w) (drop-append-le ((j - 1) * w) (slots len f n) (written len (f (suc n))) low)
-    ∙ take-append-le w (drop ((j - 1) * w) (slots len f n)) (written len (f (suc n))) long
-    ∙ slot-of-slots len f sized n j least within)
-    (lt-or-le n j)
+slot-of-slots layout f sized n j least most =
+    let back : j - 1 + 1 ≡ j = omega arith in
+    part-joined (width layout) (λ i. written layout (f (i + 1))) n (λ i l. sized (i + 1)) (j - 1) (omega arith)
+    ∙ ap (λ (x : ℕ). written layout (f x)) back
 
 -- what a receiver reads of what was sent
 abbrev pub content : Sent → List ℕ
 content silence = []
 content (bytes m) = m
 
-pub message-of-slot : (box : List ℕ) (len j : ℕ) (s : Sent) → 1 ≤ j → j * width len ≤ length box → slotOf box len j ≡ written len s → messageOf box len j ≡ content s
+pub message-of-slot : (box : List ℕ) (layout : Layout) (j : ℕ) (s : Sent) → 1 ≤ j → j * width layout ≤ length box → slotOf box layout j ≡ written layout s → messageOf box layout j ≡ content s
 unfolding written isPresent
-message-of-slot box len j silence least fits e =
-    message-absent box len j (ap isPresent e ∙ ne-eqb (getD (replicate (width len) 0) 0 0) 1 (λ z. omega (arith, getD-replicate {A = ℕ} (width len) 0 0 0 (width-pos len))))
-message-of-slot box len j (bytes m) least fits e =
-    message-held box len j (holds-yes box len j least fits) (ap isPresent e) ∙ ap (drop header) e
+message-of-slot box layout j silence least fits e =
+    message-absent box layout j (ap isPresent e ∙ ne-eqb (getD (replicate (width layout) 0) 0 0) 1 (λ z. omega (arith, getD-replicate {A = ℕ} (width layout) 0 0 0 (width-pos layout))))
+message-of-slot box layout j (bytes m) least fits e =
+    message-held box layout j (holds-yes box layout j least fits) (ap isPresent e) ∙ ap (drop header) e
 
 -- what holds of 0, of 1 and of each byte of what is sent holds of each byte of what is written
 module _ (P : ℕ → Type 0) (none : P 0) (mark : P 1) where
-  pub written-each : (len : ℕ) (s : Sent) → ((x : ℕ) → P (getD (content s) x 0)) → (x : ℕ) → P (getD (written len s) x 0)
+  pub written-each : (layout : Layout) (s : Sent) → ((x : ℕ) → P (getD (content s) x 0)) → (x : ℕ) → P (getD (written layout s) x 0)
   unfolding written
-  written-each len silence h x = all-zeros P none (width len) x
-  written-each len (bytes m) h zero = mark
-  written-each len (bytes m) h (suc x) = h x
+  written-each layout silence h x = all-zeros P none (width layout) x
+  written-each layout (bytes m) h zero = mark
+  written-each layout (bytes m) h (suc x) = h x
 
-  pub slots-each : (len : ℕ) (f : ℕ → Sent) → ((j x : ℕ) → P (getD (content (f j)) x 0)) → (n x : ℕ) → P (getD (slots len f n) x 0)
+  pub slots-each : (layout : Layout) (f : ℕ → Sent) → ((j x : ℕ) → P (getD (content (f j)) x 0)) → (n x : ℕ) → P (getD (slots layout f n) x 0)
   unfolding slots
-  slots-each len f h zero x = none
-  slots-each len f h (suc n) x =
-      all-append P none (slots len f n) (written len (f (suc n))) (slots-each len f h n) (written-each len (f (suc n)) (h (suc n))) x
+  slots-each layout f h n x = all-joined P (λ i. written layout (f (i + 1))) n none (λ i l. written-each layout (f (i + 1)) (h (i + 1))) x
 
 -- ---- writing one slot
-pub put-none : (box : List ℕ) (len j : ℕ) (m : List ℕ) → holds box len j ≡ false → putSlot box len j m ≡ box
+pub put-none : (box : List ℕ) (layout : Layout) (j : ℕ) (m : List ℕ) → holds box layout j ≡ false → putSlot box layout j m ≡ box
 unfolding putSlot
-put-none box len j m e = cond-no (holds box len j && eqb (length m) len) _ box (and-no-left (holds box len j) (eqb (length m) len) e)
+put-none box layout j m e = cond-no (holds box layout j && eqb (length m) (layout .length)) _ box (and-no-left (holds box layout j) (eqb (length m) (layout .length)) e)
 
-pub put-other : (box : List ℕ) (len j : ℕ) (m : List ℕ) → (length m ≡ len → ⊥) → putSlot box len j m ≡ box
+pub put-other : (box : List ℕ) (layout : Layout) (j : ℕ) (m : List ℕ) → (length m ≡ layout .length → ⊥) → putSlot box layout j m ≡ box
 unfolding putSlot
-put-other box len j m n = cond-no (holds box len j && eqb (length m) len) _ box (and-no-right (holds box len j) (eqb (length m) len) (ne-eqb (length m) len n))
+put-other box layout j m n = cond-no (holds box layout j && eqb (length m) (layout .length)) _ box (and-no-right (holds box layout j) (eqb (length m) (layout .length)) (ne-eqb (length m) (layout .length) n))
 
-pub put-held : (box : List ℕ) (len j : ℕ) (m : List ℕ) → 1 ≤ j → j * width len ≤ length box → length m ≡ len
-    → putSlot box len j m ≡ take ((j - 1) * width len) box ++ (written len (bytes m) ++ drop (j * width len) box)
+pub put-held : (box : List ℕ) (layout : Layout) (j : ℕ) (m : List ℕ) → 1 ≤ j → j * width layout ≤ length box → length m ≡ layout .length
+    → putSlot box layout j m ≡ take ((j - 1) * width layout) box ++ (written layout (bytes m) ++ drop (j * width layout) box)
 unfolding putSlot
-put-held box len j m h l e =
-    cond-yes (holds box len j && eqb (length m) len) _ box
-    (and-both (holds box len j) (eqb (length m) len) (holds-yes box len j h l) (eq-eqb (length m) len e))
+put-held box layout j m h l e =
+    cond-yes (holds box layout j && eqb (length m) (layout .length)) _ box
+    (and-both (holds box layout j) (eqb (length m) (layout .length)) (holds-yes box layout j h l) (eq-eqb (length m) (layout .length) e))
 
 -- ---- a slot passed on
-module _ (box : List ℕ) (len j : ℕ) (src : List ℕ) (i : ℕ) where
-  pub relay-no-target : holds box len j ≡ false → relayed box len j src i ≡ box
+module _ (box : List ℕ) (layout : Layout) (j : ℕ) (src : List ℕ) (i : ℕ) where
+  pub relay-no-target : holds box layout j ≡ false → relayed box layout j src i ≡ box
   unfolding relayed
-  relay-no-target n = cond-no (holds box len j && holds src len i) _ box (and-no-left (holds box len j) (holds src len i) n)
+  relay-no-target n = cond-no (holds box layout j && holds src layout i) _ box (and-no-left (holds box layout j) (holds src layout i) n)
 
-  pub relay-no-source : holds src len i ≡ false → relayed box len j src i ≡ box
+  pub relay-no-source : holds src layout i ≡ false → relayed box layout j src i ≡ box
   unfolding relayed
-  relay-no-source n = cond-no (holds box len j && holds src len i) _ box (and-no-right (holds box len j) (holds src len i) n)
+  relay-no-source n = cond-no (holds box layout j && holds src layout i) _ box (and-no-right (holds box layout j) (holds src layout i) n)
 
-  pub relay-held : 1 ≤ j → j * width len ≤ length box → 1 ≤ i → i * width len ≤ length src
-      → relayed box len j src i ≡ take ((j - 1) * width len) box ++ (slotOf src len i ++ drop (j * width len) box)
+  pub relay-held : 1 ≤ j → j * width layout ≤ length box → 1 ≤ i → i * width layout ≤ length src
+      → relayed box layout j src i ≡ take ((j - 1) * width layout) box ++ (slotOf src layout i ++ drop (j * width layout) box)
   unfolding relayed
   relay-held a b c d =
-      cond-yes (holds box len j && holds src len i) _ box
-      (and-both (holds box len j) (holds src len i) (holds-yes box len j a b) (holds-yes src len i c d))
+      cond-yes (holds box layout j && holds src layout i) _ box
+      (and-both (holds box layout j) (holds src layout i) (holds-yes box layout j a b) (holds-yes src layout i c d))
 
 -- one message to all, in an outbox that is as long as its slots
-pub to-all : (n : ℕ) (m o : List ℕ) → length o ≡ n * width (length m) → toAll n m o ≡ slots (length m) (λ _. bytes m) n
-to-all n m o e = cond-yes (eqb (length o) (n * width (length m))) (slots (length m) (λ _. bytes m) n) o (eq-eqb (length o) (n * width (length m)) e)
+pub to-all : (layout : Layout) (n : ℕ) (m o : List ℕ) → length m ≡ layout .length → length o ≡ n * width layout
+    → toAll layout n m o ≡ slots layout (λ _. bytes m) n
+to-all layout n m o d e =
+    cond-yes (eqb (length m) (layout .length) && eqb (length o) (n * width layout)) (slots layout (λ _. bytes m) n) o
+    (and-both (eqb (length m) (layout .length)) (eqb (length o) (n * width layout)) (eq-eqb (length m) (layout .length) d) (eq-eqb (length o) (n * width layout) e))
+
+pub to-all-no : (layout : Layout) (n : ℕ) (m o : List ℕ) → (eqb (length m) (layout .length) && eqb (length o) (n * width layout)) ≡ false
+    → toAll layout n m o ≡ o
+to-all-no layout n m o e =
+    cond-no (eqb (length m) (layout .length) && eqb (length o) (n * width layout)) (slots layout (λ _. bytes m) n) o e
 
 -- a turn of a loop that writes an outbox slot by slot
-pub put-next-slot : (len : ℕ) (f : ℕ → Sent) → ((i : ℕ) → Sized len (f i)) → (o box m : List ℕ) (j : ℕ) → (j + 1) * width len ≤ length o
-    → box ≡ slots len f j ++ drop (j * width len) o → f (j + 1) ≡ bytes m → length m ≡ len
-    → putSlot box len (j + 1) m ≡ slots len f (j + 1) ++ drop ((j + 1) * width len) o
-put-next-slot len f sized o box m j room is-box is-m is-len =
-    let w = width len in
-    let size : length (slots len f j) ≡ j * w = length-slots len f sized j in
+pub put-next-slot : (layout : Layout) (f : ℕ → Sent) → ((i : ℕ) → Sized layout (f i)) → (o box m : List ℕ) (j : ℕ) → (j + 1) * width layout ≤ length o
+    → box ≡ slots layout f j ++ drop (j * width layout) o → f (j + 1) ≡ bytes m → length m ≡ layout .length
+    → putSlot box layout (j + 1) m ≡ slots layout f (j + 1) ++ drop ((j + 1) * width layout) o
+put-next-slot layout f sized o box m j room is-box is-m is-layout =
+    let w = width layout in
+    let size : length (slots layout f j) ≡ j * w = length-slots layout f sized j in
     let back : j + 1 - 1 ≡ j = omega arith in
     let long : length box ≡ length o =
-    ap length is-box ∙ length-append (slots len f j) (drop (j * w) o) ∙ omega (arith, length-drop (j * w) o, next-offset j w) in
-    put-held box len (j + 1) m (omega arith) (omega arith) is-len
-    ∙ ap (λ (x : List ℕ). take ((j + 1 - 1) * w) x ++ (written len (bytes m) ++ drop ((j + 1) * w) x)) is-box
-    ∙ ap (λ (x : ℕ). take (x * w) (slots len f j ++ drop (j * w) o) ++ (written len (bytes m) ++ drop ((j + 1) * w) (slots len f j ++ drop (j * w) o))) back
-    ∙ ap₂ (λ (x y : List ℕ). x ++ (written len (bytes m) ++ y)) (take-at (slots len f j) (drop (j * w) o) (j * w) size) (rest size)
-    ∙ sym (mathlib.Core.List.append-assoc (slots len f j) (written len (bytes m)) (drop ((j + 1) * w) o))
-    ∙ ap (λ (x : List ℕ). x ++ drop ((j + 1) * w) o) (ap (λ (s : Sent). slots len f j ++ written len s) (sym is-m) ∙ sym (slots-next len f j))
+    ap length is-box ∙ length-append (slots layout f j) (drop (j * w) o) ∙ omega (arith, length-drop (j * w) o, next-offset j w) in
+    put-held box layout (j + 1) m (omega arith) (omega arith) is-layout
+    ∙ ap (λ (x : List ℕ). take ((j + 1 - 1) * w) x ++ (written layout (bytes m) ++ drop ((j + 1) * w) x)) is-box
+    ∙ ap (λ (x : ℕ). take (x * w) (slots layout f j ++ drop (j * w) o) ++ (written layout (bytes m) ++ drop ((j + 1) * w) (slots layout f j ++ drop (j * w) o))) back
+    ∙ ap₂ (λ (x y : List ℕ). x ++ (written layout (bytes m) ++ y)) (take-at (slots layout f j) (drop (j * w) o) (j * w) size) (rest size)
+    ∙ sym (mathlib.Core.List.append-assoc (slots layout f j) (written layout (bytes m)) (drop ((j + 1) * w) o))
+    ∙ ap (λ (x : List ℕ). x ++ drop ((j + 1) * w) o) (ap (λ (s : Sent). slots layout f j ++ written layout s) (sym is-m) ∙ sym (slots-next layout f j))
   where
-    rest : length (slots len f j) ≡ j * width len → drop ((j + 1) * width len) (slots len f j ++ drop (j * width len) o) ≡ drop ((j + 1) * width len) o
+    rest : length (slots layout f j) ≡ j * width layout → drop ((j + 1) * width layout) (slots layout f j ++ drop (j * width layout) o) ≡ drop ((j + 1) * width layout) o
     rest size =
-        ap (λ (x : ℕ). drop x (slots len f j ++ drop (j * width len) o)) (next-offset j (width len))
-        ∙ sym (drop-drop (width len) (j * width len) (slots len f j ++ drop (j * width len) o))
-        ∙ ap (drop (width len)) (drop-at (slots len f j) (drop (j * width len) o) (j * width len) size)
-        ∙ drop-drop (width len) (j * width len) o
-        ∙ ap (λ (x : ℕ). drop x o) (sym (next-offset j (width len)))
+        ap (λ (x : ℕ). drop x (slots layout f j ++ drop (j * width layout) o)) (next-offset j (width layout))
+        ∙ sym (drop-drop (width layout) (j * width layout) (slots layout f j ++ drop (j * width layout) o))
+        ∙ ap (drop (width layout)) (drop-at (slots layout f j) (drop (j * width layout) o) (j * width layout) size)
+        ∙ drop-drop (width layout) (j * width layout) o
+        ∙ ap (λ (x : ℕ). drop x o) (sym (next-offset j (width layout)))
 
 -- after the last turn the outbox is the slots
-pub slots-all : (len : ℕ) (f : ℕ → Sent) (o box : List ℕ) (n : ℕ) → box ≡ slots len f n ++ drop (n * width len) o → length o ≡ n * width len → box ≡ slots len f n
-slots-all len f o box n is-box is-o =
-    is-box ∙ ap (λ (x : List ℕ). slots len f n ++ x) (drop-of-length-le o (le-of-eq is-o)) ∙ append-nil (slots len f n)
+pub slots-all : (layout : Layout) (f : ℕ → Sent) (o box : List ℕ) (n : ℕ) → box ≡ slots layout f n ++ drop (n * width layout) o → length o ≡ n * width layout → box ≡ slots layout f n
+slots-all layout f o box n is-box is-o =
+    is-box ∙ ap (λ (x : List ℕ). slots layout f n ++ x) (drop-of-length-le o (le-of-eq is-o)) ∙ append-nil (slots layout f n)
 
 -- before the first turn it is the outbox as lent
-pub slots-start : (len : ℕ) (f : ℕ → Sent) (o : List ℕ) (j : ℕ) → j ≡ 0 → o ≡ slots len f j ++ drop (j * width len) o
-unfolding slots
-slots-start len f o j e = sym (ap (λ (x : ℕ). slots len f x ++ drop (x * width len) o) e ∙ ap (λ (x : ℕ). drop x o) (zero-mul (width len)))
+pub slots-start : (layout : Layout) (f : ℕ → Sent) (o : List ℕ) (j : ℕ) → j ≡ 0 → o ≡ slots layout f j ++ drop (j * width layout) o
+slots-start layout f o j e =
+    sym
+    (ap (λ (x : ℕ). slots layout f x ++ drop (x * width layout) o) e
+    ∙ ap₂ (λ (l : List ℕ) (x : ℕ). l ++ drop x o) (slots-none layout f) (zero-mul (width layout)))
 
 -- ---- copies
 pub copied-all : (s d : List ℕ) → length s ≡ length d → copied s d ≡ s
@@ -364,69 +353,70 @@ length-copied s d =
     length-append (take (length d) s) (drop (length s) d) ∙ omega (arith, length-take (length d) s, length-drop (length s) d)
 
 -- ---- the tests that the code makes
-module _ (box : List ℕ) (len j : ℕ) where
-  pub number-zero : j ≡ 0 → 0 ≡ offsetOf box len j
-  number-zero e = sym (offset-none box len j (holds-zero box len j e))
+module _ (box : List ℕ) (layout : Layout) (j : ℕ) where
+  pub number-zero : j ≡ 0 → 0 ≡ offsetOf box layout j
+  number-zero e = sym (offset-none box layout j (holds-zero box layout j e))
 
   module _ (some : 1 ≤ j) where
-    pub too-short : length box < width len → 0 ≡ offsetOf box len j
-    too-short l = sym (offset-none box len j (holds-past box len j (omega (arith, slot-end j (width len) some))))
+    pub too-short : length box < width layout → 0 ≡ offsetOf box layout j
+    too-short l = sym (offset-none box layout j (holds-past box layout j (omega (arith, slot-end j (width layout) some))))
 
-    pub past-end : length box / width len < j → holds box len j ≡ false
-    past-end l = holds-past box len j (div-lt-iff-lt-mul (width-pos len) .0 l)
+    pub past-end : length box / width layout < j → holds box layout j ≡ false
+    past-end l = holds-past box layout j (div-lt-iff-lt-mul (width-pos layout) .0 l)
 
-    module _ (held : j ≤ length box / width len) where
-      within : j * width len ≤ length box
-      within = le-div-iff-mul-le (width-pos len) .0 held
+    module _ (held : j ≤ length box / width layout) where
+      within : j * width layout ≤ length box
+      within = le-div-iff-mul-le (width-pos layout) .0 held
 
-      pub slot-fits : (j - 1) * width len + width len ≤ length box
-      slot-fits = omega (arith, within, slot-end j (width len) some)
+      pub slot-fits : (j - 1) * width layout + width layout ≤ length box
+      slot-fits = omega (arith, within, slot-end j (width layout) some)
 
-      pub absent-slot : (getD box ((j - 1) * width len) 0 ≡ 1 → ⊥) → 0 ≡ offsetOf box len j
-      absent-slot n = sym (offset-absent box len j (present-no box len j n))
+      pub absent-slot : (getD box ((j - 1) * width layout) 0 ≡ 1 → ⊥) → 0 ≡ offsetOf box layout j
+      absent-slot n = sym (offset-absent box layout j (present-no box layout j n))
 
-      pub present-slot : getD box ((j - 1) * width len) 0 ≡ 1 → (j - 1) * width len + header ≡ offsetOf box len j
-      present-slot e = sym (offset-held box len j (holds-yes box len j some within) (present-yes box len j e))
+      pub present-slot : getD box ((j - 1) * width layout) 0 ≡ 1 → (j - 1) * width layout + header ≡ offsetOf box layout j
+      present-slot e = sym (offset-held box layout j (holds-yes box layout j some within) (present-yes box layout j e))
 
       -- slot j written with a message that was lent to it
-      pub put-part : (m v : List ℕ) → length m ≡ len → v ≡ written len (bytes m)
-          → take ((j - 1) * width len) box ++ (v ++ drop ((j - 1) * width len + width len - (j - 1) * width len) (drop ((j - 1) * width len) box)) ≡ putSlot box len j m
+      pub put-part : (m v : List ℕ) → length m ≡ layout .length → v ≡ written layout (bytes m)
+          → take ((j - 1) * width layout) box ++ (v ++ drop ((j - 1) * width layout + width layout - (j - 1) * width layout) (drop ((j - 1) * width layout) box)) ≡ putSlot box layout j m
       put-part m v e is-v =
-          let u : (j - 1) * width len + ((j - 1) * width len + width len - (j - 1) * width len) ≡ j * width len = omega (arith, slot-end j (width len) some) in
-          ap₂ (λ (x y : List ℕ). take ((j - 1) * width len) box ++ (x ++ y)) is-v
-          (drop-drop ((j - 1) * width len + width len - (j - 1) * width len) ((j - 1) * width len) box ∙ ap (λ (i : ℕ). drop i box) u)
-          ∙ sym (put-held box len j m some within e)
+          let u : (j - 1) * width layout + ((j - 1) * width layout + width layout - (j - 1) * width layout) ≡ j * width layout = omega (arith, slot-end j (width layout) some) in
+          ap₂ (λ (x y : List ℕ). take ((j - 1) * width layout) box ++ (x ++ y)) is-v
+          (drop-drop ((j - 1) * width layout + width layout - (j - 1) * width layout) ((j - 1) * width layout) box ∙ ap (λ (i : ℕ). drop i box) u)
+          ∙ sym (put-held box layout j m some within e)
 
 -- a slot of one box copied to a slot of another, both of which were lent as parts
-pub relay-part : (box src v : List ℕ) (len j i : ℕ) → 1 ≤ j → j ≤ length box / width len → 1 ≤ i → i ≤ length src / width len
-    → v ≡ copied (take ((i - 1) * width len + width len - (i - 1) * width len) (drop ((i - 1) * width len) src))
-    (take ((j - 1) * width len + width len - (j - 1) * width len) (drop ((j - 1) * width len) box))
-    → take ((j - 1) * width len) box ++ (v ++ drop ((j - 1) * width len + width len - (j - 1) * width len) (drop ((j - 1) * width len) box))
-    ≡ relayed box len j src i
-unfolding slotOf
-relay-part box src v len j i some-j held-j some-i held-i is-v =
-    let w = width len in
+pub relay-part : (box src v : List ℕ) (layout : Layout) (j i : ℕ) → 1 ≤ j → j ≤ length box / width layout → 1 ≤ i → i ≤ length src / width layout
+    → v ≡ copied (take ((i - 1) * width layout + width layout - (i - 1) * width layout) (drop ((i - 1) * width layout) src))
+    (take ((j - 1) * width layout + width layout - (j - 1) * width layout) (drop ((j - 1) * width layout) box))
+    → take ((j - 1) * width layout) box ++ (v ++ drop ((j - 1) * width layout + width layout - (j - 1) * width layout) (drop ((j - 1) * width layout) box))
+    ≡ relayed box layout j src i
+unfolding slotOf part
+relay-part box src v layout j i some-j held-j some-i held-i is-v =
+    let w = width layout in
     let a = (j - 1) * w in
     let b = (i - 1) * w in
     let to : a + w - a ≡ w = omega arith in
     let from : b + w - b ≡ w = omega arith in
-    let room : a + w ≤ length box = slot-fits box len j some-j held-j in
-    let held : b + w ≤ length src = slot-fits src len i some-i held-i in
+    let room : a + w ≤ length box = slot-fits box layout j some-j held-j in
+    let held : b + w ≤ length src = slot-fits src layout i some-i held-i in
     let u : a + (a + w - a) ≡ j * w = omega (arith, slot-end j w some-j) in
     let l : length (take w (drop b src)) ≡ length (take w (drop a box)) =
     length-take-le w (drop b src) (omega (arith, length-drop b src)) ∙ sym (length-take-le w (drop a box) (omega (arith, length-drop a box))) in
     let e : v ≡ take w (drop b src) =
     is-v ∙ ap₂ (λ (x y : ℕ). copied (take x (drop b src)) (take y (drop a box))) from to ∙ copied-all (take w (drop b src)) (take w (drop a box)) l in
     ap₂ (λ (x y : List ℕ). take a box ++ (x ++ y)) e (drop-drop (a + w - a) a box ∙ ap (λ (x : ℕ). drop x box) u)
-    ∙ sym (relay-held box len j src i some-j (omega (arith, room, slot-end j w some-j)) some-i (omega (arith, held, slot-end i w some-i)))
+    ∙ sym (relay-held box layout j src i some-j (omega (arith, room, slot-end j w some-j)) some-i (omega (arith, held, slot-end i w some-i)))
 
 -- a slot whose first byte is 01 and whose rest was lent and came back with the message copied to it
-pub put-head : (d m : List ℕ) → length d ≡ width (length m)
-    → take header (set d 0 1) ++ (copied m (take (length (set d 0 1) - header) (drop header (set d 0 1))) ++ drop (length (set d 0 1) - header) (drop header (set d 0 1)))
-    ≡ written (length m) (bytes m)
+pub put-head : (layout : Layout) (d m : List ℕ) → length d ≡ width layout → length m ≡ layout .length
+    → take header (set d 0 1)
+    ++ (copied m (take (length (set d 0 1) - header) (drop header (set d 0 1))) ++ drop (length (set d 0 1) - header) (drop header (set d 0 1)))
+    ≡ written layout (bytes m)
 unfolding width written
-put-head [] m h = absurd (omega arith)
-put-head (x ∷ d) m h =
+put-head layout [] m h f = absurd (omega arith)
+put-head layout (x ∷ d) m h f =
     let e : length m ≡ length d = omega arith in
     let l : length (1 ∷ d) - header ≡ length d = omega arith in
     ap (λ (y : List ℕ). 1 ∷ y)
@@ -435,45 +425,45 @@ put-head (x ∷ d) m h =
     ∙ append-nil m)
 
 -- while an outbox is written, its length stays
-pub length-rest : (len : ℕ) (f : ℕ → Sent) → ((i : ℕ) → Sized len (f i)) → (o box : List ℕ) (j : ℕ) → j * width len ≤ length o
-    → box ≡ slots len f j ++ drop (j * width len) o → length box ≡ length o
-length-rest len f sized o box j h e =
-    ap length e ∙ length-append (slots len f j) (drop (j * width len) o)
-    ∙ omega (arith, length-slots len f sized j, length-drop (j * width len) o)
+pub length-rest : (layout : Layout) (f : ℕ → Sent) → ((i : ℕ) → Sized layout (f i)) → (o box : List ℕ) (j : ℕ) → j * width layout ≤ length o
+    → box ≡ slots layout f j ++ drop (j * width layout) o → length box ≡ length o
+length-rest layout f sized o box j h e =
+    ap length e ∙ length-append (slots layout f j) (drop (j * width layout) o)
+    ∙ omega (arith, length-slots layout f sized j, length-drop (j * width layout) o)
 
 -- ---- a box as parts of one width
 -- how large boxes are, for those who hold them
-pub width-most : (len : ℕ) → width len ≤ len + 1
+pub width-most : (layout : Layout) → width layout ≤ layout .length + 1
 unfolding width
-width-most len = omega arith
+width-most layout = omega arith
 
-pub slot-part : (box : List ℕ) (len j : ℕ) → slotOf box len j ≡ part (width len) box (j - 1)
+pub slot-part : (box : List ℕ) (layout : Layout) (j : ℕ) → slotOf box layout j ≡ part (width layout) box (j - 1)
 unfolding slotOf
-slot-part box len j = sym (part-take (width len) box (j - 1))
+slot-part box layout j = refl
 
-pub slot-length : (box : List ℕ) (len j : ℕ) → 1 ≤ j → j * width len ≤ length box → length (slotOf box len j) ≡ width len
-slot-length box len j some room = length-slot box len j (holds-yes box len j some room)
+pub slot-length : (box : List ℕ) (layout : Layout) (j : ℕ) → 1 ≤ j → j * width layout ≤ length box → length (slotOf box layout j) ≡ width layout
+slot-length box layout j some room = length-slot box layout j (holds-yes box layout j some room)
 
-pub silent-slot : (len : ℕ) → written len silence ≡ replicate (width len) 0
+pub silent-slot : (layout : Layout) → written layout silence ≡ replicate (width layout) 0
 unfolding written
-silent-slot len = refl
+silent-slot layout = refl
 
 -- a box whose first j slots are written, and a slot put or passed on behind them
-module _ (len : ℕ) (p r : List ℕ) (j : ℕ) (front : length p ≡ j * width len) (room : width len ≤ length r) where
-  within-box : (j + 1) * width len ≤ length (p ++ r)
-  within-box = omega (arith, length-append p r, next-offset j (width len))
+module _ (layout : Layout) (p r : List ℕ) (j : ℕ) (front : length p ≡ j * width layout) (room : width layout ≤ length r) where
+  within-box : (j + 1) * width layout ≤ length (p ++ r)
+  within-box = omega (arith, length-append p r, next-offset j (width layout))
 
-  behind : (v : List ℕ) → take ((j + 1 - 1) * width len) (p ++ r) ++ (v ++ drop ((j + 1) * width len) (p ++ r)) ≡ p ++ (v ++ drop (width len) r)
+  behind : (v : List ℕ) → take ((j + 1 - 1) * width layout) (p ++ r) ++ (v ++ drop ((j + 1) * width layout) (p ++ r)) ≡ p ++ (v ++ drop (width layout) r)
   behind v =
-      let w = width len in
+      let w = width layout in
       let back : j + 1 - 1 ≡ j = omega arith in
       ap₂ (λ (x : ℕ) (y : ℕ). take (x * w) (p ++ r) ++ (v ++ drop y (p ++ r))) back (next-offset j w)
       ∙ ap₂ (λ (x y : List ℕ). x ++ (v ++ y)) (take-at p r (j * w) front)
       (sym (drop-drop w (j * w) (p ++ r)) ∙ ap (drop w) (drop-at p r (j * w) front))
 
-  pub put-into : (m : List ℕ) → length m ≡ len → putSlot (p ++ r) len (j + 1) m ≡ p ++ (written len (bytes m) ++ drop (width len) r)
-  put-into m e = put-held (p ++ r) len (j + 1) m (omega arith) within-box e ∙ behind (written len (bytes m))
+  pub put-into : (m : List ℕ) → length m ≡ layout .length → putSlot (p ++ r) layout (j + 1) m ≡ p ++ (written layout (bytes m) ++ drop (width layout) r)
+  put-into m e = put-held (p ++ r) layout (j + 1) m (omega arith) within-box e ∙ behind (written layout (bytes m))
 
-  pub relay-into : (src : List ℕ) (i : ℕ) → 1 ≤ i → i * width len ≤ length src
-      → relayed (p ++ r) len (j + 1) src i ≡ p ++ (slotOf src len i ++ drop (width len) r)
-  relay-into src i some held = relay-held (p ++ r) len (j + 1) src i (omega arith) within-box some held ∙ behind (slotOf src len i)
+  pub relay-into : (src : List ℕ) (i : ℕ) → 1 ≤ i → i * width layout ≤ length src
+      → relayed (p ++ r) layout (j + 1) src i ≡ p ++ (slotOf src layout i ++ drop (width layout) r)
+  relay-into src i some held = relay-held (p ++ r) layout (j + 1) src i (omega arith) within-box some held ∙ behind (slotOf src layout i)

@@ -1,71 +1,78 @@
 -- Slots: an inbox or outbox has n slots in number order, each a header and then the round's message (document 01, 'The house').
---   header, width len        the bytes before a message, and of a whole slot with a message of len bytes
---   slotOf box len j         the bytes of slot j, counted from 1
---   holds box len j          the box holds slot j whole
---   isPresent slot           its first byte is 01
---   messageOf box len j      the message in slot j; empty where the slot is absent, j is 0, or the box does not hold it whole
---   offsetOf box len j       where in the box that message starts; 0 where there is none
---   Sent                     what one controller sends to another in a round: silence, or a message
---   written len s            a slot written in full: 01 and the message, or all 00
---   slots len f n            the n slots of an outbox whose slot j is f j
---   toAll n m outbox         the outbox with the message m in its n slots; as it is where it is not exactly as long
---   putSlot box len j m      the box with slot j written with the message m; the box as it is where it does not hold the slot whole or
---                            m is not len bytes long
---   relayed box len j src i  the box with slot j replaced by slot i of the box src, byte for byte; the box as it is where either does not hold
---                            its slot whole
---   copied s d               d with its first bytes replaced by those of s, as far as both reach
+--   layoutWith len              what a slot is: the layout with messages of len bytes
+--   header, width layout        the bytes before a message, and of a whole slot
+--   slotOf box layout j         the bytes of slot j, counted from 1
+--   holds box layout j          the box holds slot j whole
+--   isPresent slot              its first byte is 01
+--   messageOf box layout j      the message in slot j; empty where the slot is absent, j is 0, or the box does not hold it whole
+--   offsetOf box layout j       where in the box that message starts; 0 where there is none
+--   Sent                        what one controller sends to another in a round: silence, or a message
+--   written layout s            a slot written in full: 01 and the message, or all 00
+--   slots layout f n            the n slots of an outbox whose slot j is f j
+--   toAll layout n m outbox     the outbox with the message m in its n slots; as it is where it is not exactly as long, or m is not of the
+--                               layout's length
+--   putSlot box layout j m      the box with slot j written with the message m; the box as it is where it does not hold the slot whole or m is
+--                               not of the layout's length
+--   relayed box layout j src i  the box with slot j replaced by slot i of the box src, byte for byte; the box as it is where either does not
+--                               hold its slot whole
+--   copied s d                  d with its first bytes replaced by those of s, as far as both reach
 use mathlib.Core.Bool.{Bool, cond, not, _&&_}
 use mathlib.Core.List.{List, [], _∷_, _++_}
-use Prim.Native.Nat.{ℕ, zero, suc, _+_, _-_, _*_}
+use Prim.Native.Nat.{ℕ, _+_, _-_, _*_}
 use lib.Dec.{leb, eqb}
 use lib.ListN.{length, getD, take, drop, replicate}
+use Rattle.lists.specs.Join.{joined, part}
+use Rattle.wire.specs.declared.slot.Layout.{Layout}
+
+abbrev pub layoutWith : ℕ → Layout
+layoutWith len = record { length = len }
 
 abbrev pub header : ℕ
 header = 1
 
-unfoldable pub width : ℕ → ℕ
-width len = header + len
+unfoldable pub width : Layout → ℕ
+width layout = header + layout .length
 
-unfoldable pub slotOf : List ℕ → ℕ → ℕ → List ℕ
-slotOf box len j = take (width len) (drop ((j - 1) * width len) box)
+unfoldable pub slotOf : List ℕ → Layout → ℕ → List ℕ
+slotOf box layout j = part (width layout) box (j - 1)
 
-unfoldable pub holds : List ℕ → ℕ → ℕ → Bool
-holds box len j = not (eqb j 0) && leb (j * width len) (length box)
+unfoldable pub holds : List ℕ → Layout → ℕ → Bool
+holds box layout j = not (eqb j 0) && leb (j * width layout) (length box)
 
 unfoldable pub isPresent : List ℕ → Bool
 isPresent slot = eqb (getD slot 0 0) 1
 
-unfoldable pub messageOf : List ℕ → ℕ → ℕ → List ℕ
-messageOf box len j = cond (holds box len j && isPresent (slotOf box len j)) (drop header (slotOf box len j)) []
+unfoldable pub messageOf : List ℕ → Layout → ℕ → List ℕ
+messageOf box layout j = cond (holds box layout j && isPresent (slotOf box layout j)) (drop header (slotOf box layout j)) []
 
-unfoldable pub offsetOf : List ℕ → ℕ → ℕ → ℕ
-offsetOf box len j = cond (holds box len j && isPresent (slotOf box len j)) ((j - 1) * width len + header) 0
+unfoldable pub offsetOf : List ℕ → Layout → ℕ → ℕ
+offsetOf box layout j = cond (holds box layout j && isPresent (slotOf box layout j)) ((j - 1) * width layout + header) 0
 
 pub data Sent : Type 0 where
   silence : Sent
   bytes : List ℕ → Sent
 
-unfoldable pub written : ℕ → Sent → List ℕ
-written len silence = replicate (width len) 0
-written len (bytes m) = 1 ∷ m
+unfoldable pub written : Layout → Sent → List ℕ
+written layout silence = replicate (width layout) 0
+written layout (bytes m) = 1 ∷ m
 
-unfoldable pub slots : ℕ → (ℕ → Sent) → ℕ → List ℕ
-slots len f zero = []
-slots len f (suc j) = slots len f j ++ written len (f (suc j))
+unfoldable pub slots : Layout → (ℕ → Sent) → ℕ → List ℕ
+slots layout f n = joined (λ i. written layout (f (i + 1))) n
 
-abbrev pub toAll : ℕ → List ℕ → List ℕ → List ℕ
-toAll n m outbox = cond (eqb (length outbox) (n * width (length m))) (slots (length m) (λ _. bytes m) n) outbox
+abbrev pub toAll : Layout → ℕ → List ℕ → List ℕ → List ℕ
+toAll layout n m outbox =
+    cond (eqb (length m) (layout .length) && eqb (length outbox) (n * width layout)) (slots layout (λ _. bytes m) n) outbox
 
-unfoldable pub putSlot : List ℕ → ℕ → ℕ → List ℕ → List ℕ
-putSlot box len j m =
-    cond (holds box len j && eqb (length m) len)
-    (take ((j - 1) * width len) box ++ (written len (bytes m) ++ drop (j * width len) box))
+unfoldable pub putSlot : List ℕ → Layout → ℕ → List ℕ → List ℕ
+putSlot box layout j m =
+    cond (holds box layout j && eqb (length m) (layout .length))
+    (take ((j - 1) * width layout) box ++ (written layout (bytes m) ++ drop (j * width layout) box))
     box
 
-unfoldable pub relayed : List ℕ → (len j : ℕ) → List ℕ → ℕ → List ℕ
-relayed box len j src i =
-    cond (holds box len j && holds src len i)
-    (take ((j - 1) * width len) box ++ (slotOf src len i ++ drop (j * width len) box))
+unfoldable pub relayed : List ℕ → Layout → ℕ → List ℕ → ℕ → List ℕ
+relayed box layout j src i =
+    cond (holds box layout j && holds src layout i)
+    (take ((j - 1) * width layout) box ++ (slotOf src layout i ++ drop (j * width layout) box))
     box
 
 unfoldable pub copied : List ℕ → List ℕ → List ℕ

@@ -1,19 +1,7 @@
 // Prints rounds, calls and lengths for t 1 to 5 and for settings that are refused, and what slots read and write.
 // `stdout` was made by the reference: cargo run --release --bin wire_vectors (in bench/).
-use libc::STDOUT_FILENO;
 use wire::Call;
 use wire::Round;
-ghost use Prim.Native.Nat.{_<_};
-
-// A space and a number.
-fn number(x: usize) {
-    io::write_all(STDOUT_FILENO, b" ");
-    io::print_decimal(STDOUT_FILENO, x as u64);
-}
-
-fn newline() {
-    io::write_all(STDOUT_FILENO, b"\n");
-}
 
 // The place of a kind of round in document 01's table, from 1; 0 for none.
 fn round_number(r: Round) -> usize {
@@ -49,27 +37,40 @@ fn call_number(c: Call) -> usize {
 
 // One number c: kinds, phase, message length, inbox and outbox of call c.
 fn line(n: usize, t: usize, k: usize, c: usize) {
-    io::write_all(STDOUT_FILENO, b"c");
-    number(c);
-    number(round_number(wire::round_kind(t, c)));
-    number(call_number(wire::call_kind(t, c)));
-    number(wire::phase(c));
-    number(wire::message_length(n, t, k, c));
-    number(wire::inbox_length(n, t, k, c));
-    number(wire::outbox_length(n, t, k, c));
-    newline();
+    cases::numbers(
+        b"c",
+        &[
+            c,
+            round_number(wire::round_kind(t, c)),
+            call_number(wire::call_kind(t, c)),
+            wire::phase(c),
+            wire::message_length(n, t, k, c),
+            wire::inbox_length(n, t, k, c),
+            wire::outbox_length(n, t, k, c),
+        ],
+    );
+    cases::newline();
+}
+
+// Settings, and how many rounds, calls and bytes of a block they have.
+fn settings(n: usize, t: usize, k: usize) {
+    cases::numbers(
+        b"settings",
+        &[
+            n,
+            t,
+            k,
+            wire::rounds(t),
+            wire::calls(t),
+            wire::block_length(n, t, k),
+        ],
+    );
+    cases::newline();
 }
 
 // Settings, and each number from 0 to `last`.
 fn table(n: usize, t: usize, k: usize, last: usize) {
-    io::write_all(STDOUT_FILENO, b"settings");
-    number(n);
-    number(t);
-    number(k);
-    number(wire::rounds(t));
-    number(wire::calls(t));
-    number(wire::block_length(n, t, k));
-    newline();
+    settings(n, t, k);
     let mut c: usize = 0;
     while c < last {
         line(n, t, k, c);
@@ -77,26 +78,22 @@ fn table(n: usize, t: usize, k: usize, last: usize) {
     }
 }
 
-// A byte in decimal.
-fn byte(x: u8) {
-    number(x as usize);
-}
-
-// The bytes of a slice.
-fn bytes(name: &[u8], s: &[u8]) {
-    io::write_all(STDOUT_FILENO, name);
-    let mut i: usize = 0;
-    while i < s.len() {
-        byte(s[i]);
-        i += 1;
-    }
-    newline();
+// What a message reads as.
+fn read(name: &[u8], inbox: &[u8], length: usize, number: usize) {
+    cases::byte_line(
+        name,
+        wire::message(inbox, wire::layout_with(length), number),
+    );
 }
 
 // Slot j of an inbox of four slots.
 fn slot(name: &[u8], j: usize) {
-    let inbox = b"\x01\x05\x06\x02\x07\x08\x01\x09\x0a\x00\x0b\x0c";
-    bytes(name, wire::message(inbox, 2, j));
+    read(
+        name,
+        b"\x01\x05\x06\x02\x07\x08\x01\x09\x0a\x00\x0b\x0c",
+        2,
+        j,
+    );
 }
 
 // Reads of slots.
@@ -107,41 +104,38 @@ fn reads() {
     slot(b"slot 4", 4);
     slot(b"slot 0", 0);
     slot(b"slot 5", 5);
-    bytes(b"not whole", wire::message(b"\x01\x05\x06\x01\x07", 2, 2));
-    bytes(
-        b"longer",
-        wire::message(b"\x01\x05\x06\x01\x07\x08\x01", 2, 2),
-    );
-    bytes(b"no bytes", wire::message(b"", 2, 1));
-    bytes(
-        b"largest length",
-        wire::message(b"\x01\x05\x06", 18446744073709551615, 1),
-    );
-    bytes(
-        b"largest number",
-        wire::message(b"\x01\x05\x06", 2, 18446744073709551615),
-    );
+    read(b"not whole", b"\x01\x05\x06\x01\x07", 2, 2);
+    read(b"longer", b"\x01\x05\x06\x01\x07\x08\x01", 2, 2);
+    read(b"no bytes", b"", 2, 1);
+    read(b"largest length", b"\x01\x05\x06", 18446744073709551615, 1);
+    read(b"largest number", b"\x01\x05\x06", 2, 18446744073709551615);
+}
+
+// Slot j, of messages of two bytes, written with m.
+fn send(name: &[u8], outbox: &mut [u8], j: usize, m: &[u8]) {
+    wire::send_one(outbox, wire::layout_with(2), j, m);
+    cases::byte_line(name, outbox);
+}
+
+// A message written to n slots.
+fn send_all(name: &[u8], outbox: &mut [u8], n: usize) {
+    wire::send_all(outbox, wire::layout_with(2), n, b"\x08\x09");
+    cases::byte_line(name, outbox);
 }
 
 // Writes of slots.
 fn writes() {
     let mut outbox = [7u8; 12];
-    wire::send_one(&mut outbox, 2, 2, b"\x05\x06");
-    bytes(b"one", &outbox);
-    wire::send_one(&mut outbox, 2, 5, b"\x08\x09");
-    bytes(b"past", &outbox);
-    wire::send_one(&mut outbox, 2, 0, b"\x08\x09");
-    bytes(b"zero", &outbox);
-    wire::send_one(&mut outbox, 2, 1, b"\x08\x09\x0a");
-    bytes(b"too long", &outbox);
-    wire::send_all(&mut outbox, 3, b"\x08\x09");
-    bytes(b"not three", &outbox);
-    wire::send_all(&mut outbox, 4, b"\x08\x09");
-    bytes(b"all", &outbox);
+    send(b"one", &mut outbox, 2, b"\x05\x06");
+    send(b"past", &mut outbox, 5, b"\x08\x09");
+    send(b"zero", &mut outbox, 0, b"\x08\x09");
+    send(b"too long", &mut outbox, 1, b"\x08\x09\x0a");
+    send_all(b"not three", &mut outbox, 3);
+    send_all(b"all", &mut outbox, 4);
     wire::silence(&mut outbox);
-    bytes(b"silence", &outbox);
+    cases::byte_line(b"silence", &outbox);
     wire::copy(&mut outbox, b"\x01\x02\x03");
-    bytes(b"copy", &outbox);
+    cases::byte_line(b"copy", &outbox);
 }
 
 fn main() {

@@ -1,39 +1,44 @@
 -- The system of document 01, 'The house program': four controllers, t 1, k 1, block 0a14, and a faulty sender, 1, that sends the lines of
 -- the example and nothing else. `faulty-sender-supposed`: what demand 3 supposes holds; `faulty-sender-agreed`: 2, 3 and 4 end with agreed
--- and 0a14, as document 01 prints. Both are computed.
+-- and 0a14, as document 01 prints. Both are computed: of the second the core and the counts of decoding's rule for 0a14, from which `agreement`
+-- gives the rest.
 --   stepsOf piece block pieces other   the steps of the controller with that piece of 0a14, to which 1 sends the slot `block` in round 1 and
 --                                      `pieces` in round 2; other is its piece of 0b14, which 4 received
-use mathlib.Core.Path.{refl}
-use mathlib.Core.Bool.{cond, not}
+use mathlib.Core.Path.{_≡_, refl}
+use mathlib.Core.Bool.{true, false, cond, not}
 use mathlib.Core.List.{List, [], _∷_, _++_}
 use Prim.Native.Nat.{ℕ}
+use native.Mathlib.Omega.{arith}
+use borrow.Author.Tests.{eqb-false}
 use lib.Dec.{T, eqb}
+use Rattle.lists.specs.Join.{joined, part}
 use Rattle.lists.specs.Fill.{tabulate, filled}
 use Rattle.lists.specs.Sum.{sum, count}
 use Rattle.lists.specs.Same.{same}
-use Rattle.gf256.specs.Field.{gadd, gmul, ginv, gpow, polyMul, reduce}
+use Rattle.gf256.specs.Field.{gadd, gmul, gpow, polyMul, reduce}
 use Rattle.bitset.specs.Set.{member, setOf, sizeOf, restricted, first}
 use Rattle.bitset.specs.Row.{wordAt, rowOf, rowByte, rowsOf}
-use Rattle.settings.specs.Refusal.{outside, tooMany, broken, refusalOf}
-use Rattle.wire.specs.Length.{blockLength, rowLength, inSettings, messageLength, boxLength, inboxLength, outboxLength}
+use Rattle.settings.specs.Refusal.{outside, tooMany, broken, refusalOf, stateRefusal, encodingRefusal, decodingRefusal, lengthsRefusal, starRefusal}
+use Rattle.wire.specs.Length.{blockLength, rowLength, inSettings, kindLength, boxLength, inboxLength, outboxLength}
 use Rattle.wire.specs.Round.{roundKind, callKind, phaseOf}
 use Rattle.wire.specs.Slot.{width, slotOf, holds, isPresent, messageOf, written, slots, copied}
-use Rattle.polynomial.specs.Polynomial.{Bytes, gsum, evaluate, horner, plus, scale, timesRoot}
-use Rattle.interpolation.specs.Interpolation.{wrongBy, combine, withRoot, start, advance, next, run, smaller, reduced, series, candidate}
+use Rattle.polynomial.specs.Polynomial.{Bytes, gsum, evaluate}
 use Rattle.reed_solomon.specs.Encode.{stripe, pieceOf, isReady}
-use Rattle.lists.specs.Join.{joined}
-use Rattle.reed_solomon.specs.Decode.{received, agreement as agreementOf, points, column, stripeOf, isFound, decodeRefusal, rebuiltOf, decodeOf}
-use Rattle.dispersal.specs.Dispersal.{sentBlock, receivedBlock, traded, sentPieces, isMarked, marksOf, marksMessage, sentMarks}
+use Rattle.reed_solomon.specs.Decode.{received, agreeing}
+use Rattle.reed_solomon.specs.First.{meets}
+use Rattle.reed_solomon.proofs.Laws.{meets-decodes}
+use Rattle.dispersal.specs.Dispersal.{sentBlock, receivedBlock, twoPieces, sentPieces, isMarked, marksOf, marksMessage, sentMarks}
 use Rattle.phase_king.specs.Bit.{zeroSeen, oneSeen, held, support, weak, settled}
-use Rattle.phase_king.specs.Matrix.{matrixOf, said, kingSays, firstMatrix, zerosOf, onesOf, heldOf, weakOf, settledOf, seenMessage}
+use Rattle.phase_king.specs.Matrix.{matrixOf, said, kingSays, firstMatrix, zerosOf, onesOf, heldOf, weakOf, settledOf, seenMessage, sentByKing}
 use Rattle.graph.specs.Neighbour.{neighbour}
 use Rattle.matching.specs.Matching.{matched}
 use Rattle.matching.specs.First.{firstFound, ofSize, upTo, matchingOf}
 use Rattle.star.specs.Star.{struck, setC, lacks, setD, atLeast, setF, setE, setsFrom, noSets, isLarge, starFrom, refusalFor, starOf}
-use Rattle.reconstruction.specs.Reconstruction.{inCore, forwarded, votes, isChosen, chosenPiece, ownPiece, sentPiece, shared, finished}
+use Rattle.reconstruction.specs.Reconstruction.{inCore, forwarded, votes, isChosen, chosenPiece, ownPiece, sentPiece, shared}
 use Rattle.protocol.specs.Calls.{callOf}
 use Rattle.protocol.specs.Step.{startRefusal, startOf, lengthsFit, stepRefusal, stepOf}
-use Rattle.agreement.specs.Agreement.{System, Supposed, Holds}
+use Rattle.agreement.specs.Agreement.{System, Correct, Supposed, lastCore, lastInbox, Holds}
+use Rattle.agreement.proofs.Agreement.{agreement}
 use Rattle.witnesses.proofs.Test.{Meets, meets-supposed, Step, small, small-bytes, smalls, lents, present, absent, rows, box}
 
 stepsOf : ℕ → List ℕ → List ℕ → ℕ → List Step
@@ -73,10 +78,7 @@ zero-bytes = small-bytes (0x00 ∷ 0x00 ∷ []) tt
 
 pub faulty-sender : System
 faulty-sender = record {
-  n = 4;
-  t = 1;
-  k = 1;
-  sender = 1;
+  settings = record { n = 4; t = 1; k = 1; sender = 1 };
   correct = λ i. not (eqb i 1);
   block = λ _. 0x00 ∷ 0x00 ∷ [];
   block-bytes = λ _. zero-bytes;
@@ -88,10 +90,10 @@ faulty-sender = record {
 
 faulty-sender-meets : Meets faulty-sender
 unfolding faulty-sender stepsOf lents tabulate filled sum count same gadd gmul gpow polyMul reduce member setOf sizeOf restricted first
-    wordAt rowOf rowByte rowsOf outside tooMany broken refusalOf blockLength rowLength inSettings messageLength boxLength inboxLength
-    outboxLength roundKind callKind phaseOf width slotOf holds isPresent messageOf written slots copied gsum evaluate stripe pieceOf isReady
-    sentBlock receivedBlock traded sentPieces isMarked marksOf marksMessage sentMarks zeroSeen oneSeen held support weak settled matrixOf
-    said kingSays firstMatrix zerosOf onesOf heldOf weakOf settledOf seenMessage neighbour matched firstFound ofSize upTo matchingOf struck
+    wordAt rowOf rowByte rowsOf outside tooMany broken refusalOf stateRefusal lengthsRefusal starRefusal encodingRefusal blockLength rowLength inSettings kindLength boxLength inboxLength
+    outboxLength roundKind callKind phaseOf width slotOf part holds isPresent messageOf written slots joined copied gsum evaluate stripe pieceOf isReady
+    sentBlock receivedBlock twoPieces sentPieces isMarked marksOf marksMessage sentMarks zeroSeen oneSeen held support weak settled matrixOf
+    said kingSays firstMatrix zerosOf onesOf heldOf weakOf settledOf seenMessage sentByKing neighbour matched firstFound ofSize upTo matchingOf struck
     setC lacks setD atLeast setF setE setsFrom noSets isLarge starFrom refusalFor starOf inCore forwarded votes isChosen
     chosenPiece ownPiece sentPiece shared callOf startRefusal startOf lengthsFit stepRefusal stepOf
 faulty-sender-meets = record { tolerance = tt; few = tt; started = tt; finished = tt; arrives = tt }
@@ -99,16 +101,30 @@ faulty-sender-meets = record { tolerance = tt; few = tt; started = tt; finished 
 pub faulty-sender-supposed : Supposed faulty-sender
 faulty-sender-supposed = meets-supposed faulty-sender faulty-sender-meets
 
+-- the last call finds a core, and 0a14 meets decoding's rule: its code agrees with the pieces of 2, 3 and 4
+block-bytes : Bytes (0x0a ∷ 0x14 ∷ [])
+unfolding small
+block-bytes = small-bytes (0x0a ∷ 0x14 ∷ []) tt
+
+module _ (i : ℕ) (f : Correct faulty-sender i) (core : eqb (restricted (lastCore faulty-sender i) 4) 0 ≡ false)
+    (rule : meets 4 1 1 (lastInbox faulty-sender i) (0x0a ∷ 0x14 ∷ []) ≡ true) where
+  ends : Holds faulty-sender i (0x0a ∷ 0x14 ∷ [])
+  unfolding faulty-sender blockLength
+  ends =
+      agreement faulty-sender faulty-sender-supposed .set i f .agreed (eqb-false (restricted (lastCore faulty-sender i) 4) 0 core) (0x0a ∷ 0x14 ∷ [])
+      (meets-decodes 4 1 1 (lastInbox faulty-sender i) (0x0a ∷ 0x14 ∷ []) refl block-bytes rule)
+
 pub faulty-sender-agreed :
     Holds faulty-sender 2 (0x0a ∷ 0x14 ∷ [])
     × (Holds faulty-sender 3 (0x0a ∷ 0x14 ∷ []) × Holds faulty-sender 4 (0x0a ∷ 0x14 ∷ []))
 unfolding faulty-sender stepsOf lents tabulate filled sum count same gadd gmul gpow polyMul reduce member setOf sizeOf restricted first
-    wordAt rowOf rowByte rowsOf outside tooMany broken refusalOf blockLength rowLength inSettings messageLength boxLength inboxLength
-    outboxLength roundKind callKind phaseOf width slotOf holds isPresent messageOf written slots copied gsum evaluate stripe pieceOf isReady
-    sentBlock receivedBlock traded sentPieces isMarked marksOf marksMessage sentMarks zeroSeen oneSeen held support weak settled matrixOf
-    said kingSays firstMatrix zerosOf onesOf heldOf weakOf settledOf seenMessage neighbour matched firstFound ofSize upTo matchingOf struck
+    wordAt rowOf rowByte rowsOf outside tooMany broken refusalOf stateRefusal lengthsRefusal starRefusal encodingRefusal blockLength rowLength inSettings kindLength boxLength inboxLength
+    outboxLength roundKind callKind phaseOf width slotOf part holds isPresent messageOf written slots joined copied gsum evaluate stripe pieceOf isReady
+    sentBlock receivedBlock twoPieces sentPieces isMarked marksOf marksMessage sentMarks zeroSeen oneSeen held support weak settled matrixOf
+    said kingSays firstMatrix zerosOf onesOf heldOf weakOf settledOf seenMessage sentByKing neighbour matched firstFound ofSize upTo matchingOf struck
     setC lacks setD atLeast setF setE setsFrom noSets isLarge starFrom refusalFor starOf inCore forwarded votes isChosen
-    chosenPiece ownPiece sentPiece shared callOf startRefusal startOf lengthsFit stepRefusal stepOf ginv horner plus scale timesRoot wrongBy
-    combine withRoot start advance next run smaller reduced series candidate received agreementOf points column stripeOf isFound joined
-    decodeRefusal rebuiltOf decodeOf finished
-faulty-sender-agreed = ((refl, refl), ((refl, refl), (refl, refl)))
+    chosenPiece ownPiece sentPiece shared callOf startRefusal startOf lengthsFit stepRefusal stepOf decodingRefusal received agreeing meets
+faulty-sender-agreed = (
+  ends 2 (record { least = omega arith; most = omega arith; is = refl }) refl refl,
+  (ends 3 (record { least = omega arith; most = omega arith; is = refl }) refl refl, ends 4 (record { least = omega arith; most = omega arith; is = refl }) refl refl),
+)

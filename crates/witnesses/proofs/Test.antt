@@ -18,7 +18,7 @@ use Rattle.lists.proofs.Tests.{true≢false}
 use Rattle.lists.proofs.Sames.{same-eq}
 use Rattle.lists.proofs.Table.{both, both-left, both-right, below, below-at}
 use Rattle.polynomial.specs.Polynomial.{Bytes}
-use Rattle.wire.specs.Length.{messageLength}
+use Rattle.wire.specs.Length.{roundLayout}
 use Rattle.wire.specs.Slot.{slotOf}
 use Rattle.protocol.specs.Step.{startOf}
 use Rattle.agreement.specs.Run.{Lent, Held, Made, stepped, left}
@@ -46,7 +46,7 @@ passed true t = refl
 passed false t = absurd t
 
 abbrev pub starts : System → ℕ → Bool
-starts S i = eqb (startOf (S .n) (S .t) (S .k) i (S .sender) (length (S .block i)) .number) 0
+starts S i = eqb (startOf (S .settings) i (length (S .block i)) .number) 0
 
 abbrev pub finishes : System → ℕ → Bool
 finishes S i = eqb (length (callsOf S i)) (last S)
@@ -54,8 +54,8 @@ finishes S i = eqb (length (callsOf S i)) (last S)
 -- whether the message from i to j arrives in round c, given the calls of i and of j, which are so computed once for all rounds
 abbrev pub arrivedIn : System → (i j : ℕ) → List Made → List Made → ℕ → Bool
 arrivedIn S i j of-i of-j c =
-    same (slotOf (getD of-j (c + 1 - 1) noCall .lent .inbox) (messageLength (S .n) (S .t) (S .k) c) i)
-    (slotOf (getD of-i (c - 1) noCall .sends) (messageLength (S .n) (S .t) (S .k) c) j)
+    same (slotOf (getD of-j (c + 1 - 1) noCall .lent .inbox) (roundLayout (S .settings .n) (S .settings .t) (S .settings .k) c) i)
+    (slotOf (getD of-i (c - 1) noCall .sends) (roundLayout (S .settings .n) (S .settings .t) (S .settings .k) c) j)
 
 abbrev pub allIn : System → (i j : ℕ) → List Made → List Made → Bool
 allIn S i j of-i of-j = each (last S - 1) (arrivedIn S i j of-i of-j)
@@ -67,33 +67,33 @@ abbrev pub allArrived : System → (i j : ℕ) → Bool
 allArrived S i j = given (S .correct i) (given (S .correct j) (allIn S i j (callsOf S i) (callsOf S j)))
 
 pub record Meets (S : System) : Type 0 where
-  pub tolerance : T (leb (3 * S .t + 1) (S .n))
-  pub few : T (leb (count (S .n) (λ i. not (S .correct (i + 1)))) (S .t))
-  pub started : T (each (S .n) (λ i. given (S .correct i) (starts S i)))
-  pub finished : T (each (S .n) (λ i. given (S .correct i) (finishes S i)))
-  pub arrives : T (each (S .n) (λ i. each (S .n) (allArrived S i)))
+  pub tolerance : T (leb (3 * S .settings .t + 1) (S .settings .n))
+  pub few : T (leb (count (S .settings .n) (λ i. not (S .correct (i + 1)))) (S .settings .t))
+  pub started : T (each (S .settings .n) (λ i. given (S .correct i) (starts S i)))
+  pub finished : T (each (S .settings .n) (λ i. given (S .correct i) (finishes S i)))
+  pub arrives : T (each (S .settings .n) (λ i. each (S .settings .n) (allArrived S i)))
 
 pub meets-supposed : (S : System) → Meets S → Supposed S
 meets-supposed S M = record {
-  tolerance = leb→le (3 * S .t + 1) (S .n) (M .tolerance);
-  few = leb→le (count (S .n) (λ i. not (S .correct (i + 1)))) (S .t) (M .few);
+  tolerance = leb→le (3 * S .settings .t + 1) (S .settings .n) (M .tolerance);
+  few = leb→le (count (S .settings .n) (λ i. not (S .correct (i + 1)))) (S .settings .t) (M .few);
   started = λ i f.
-      eqb→eq (startOf (S .n) (S .t) (S .k) i (S .sender) (length (S .block i)) .number) 0
+      eqb→eq (startOf (S .settings) i (length (S .block i)) .number) 0
       (given-at (S .correct i) (starts S i)
-      (each-at (S .n) (λ i. given (S .correct i) (starts S i)) (M .started) i (f .least) (f .most)) (f .is));
+      (each-at (S .settings .n) (λ i. given (S .correct i) (starts S i)) (M .started) i (f .least) (f .most)) (f .is));
   finished = λ i f.
       eqb→eq (length (callsOf S i)) (last S)
       (given-at (S .correct i) (finishes S i)
-      (each-at (S .n) (λ i. given (S .correct i) (finishes S i)) (M .finished) i (f .least) (f .most)) (f .is));
+      (each-at (S .settings .n) (λ i. given (S .correct i) (finishes S i)) (M .finished) i (f .least) (f .most)) (f .is));
   arrives = λ i j c f g least most.
-      same-eq (slotOf (call S j (c + 1) .lent .inbox) (messageLength (S .n) (S .t) (S .k) c) i)
-      (slotOf (call S i c .sends) (messageLength (S .n) (S .t) (S .k) c) j)
+      same-eq (slotOf (call S j (c + 1) .lent .inbox) (roundLayout (S .settings .n) (S .settings .t) (S .settings .k) c) i)
+      (slotOf (call S i c .sends) (roundLayout (S .settings .n) (S .settings .t) (S .settings .k) c) j)
       (passed (arrived S i j c)
       (each-at (last S - 1) (arrived S i j)
       (given-at (S .correct j) (each (last S - 1) (arrived S i j))
       (given-at (S .correct i) (given (S .correct j) (each (last S - 1) (arrived S i j)))
-      (each-at (S .n) (allArrived S i)
-      (each-at (S .n) (λ i. each (S .n) (allArrived S i)) (M .arrives) i (f .least) (f .most)) j (g .least) (g .most))
+      (each-at (S .settings .n) (allArrived S i)
+      (each-at (S .settings .n) (λ i. each (S .settings .n) (allArrived S i)) (M .arrives) i (f .least) (f .most)) j (g .least) (g .most))
       (f .is)) (g .is)) c least (omega arith)));
 }
 

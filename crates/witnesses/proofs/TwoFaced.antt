@@ -9,21 +9,22 @@ use mathlib.Core.List.{List, [], _∷_, _++_}
 use Prim.Native.Nat.{ℕ, _-_}
 use lib.Dec.{T, eqb, lit≤}
 use lib.ListN.{getD}
+use Rattle.lists.specs.Join.{joined, part}
 use Rattle.lists.specs.Fill.{tabulate, filled}
 use Rattle.lists.specs.Sum.{sum, count}
 use Rattle.lists.specs.Same.{same}
 use Rattle.gf256.specs.Field.{gadd, gmul, gpow, polyMul, reduce}
 use Rattle.bitset.specs.Set.{member, setOf, sizeOf, restricted, first}
 use Rattle.bitset.specs.Row.{wordAt, rowOf, rowByte, rowsOf}
-use Rattle.settings.specs.Refusal.{outside, tooMany, broken, refusalOf}
-use Rattle.wire.specs.Length.{blockLength, rowLength, inSettings, messageLength, boxLength, inboxLength, outboxLength}
+use Rattle.settings.specs.Refusal.{outside, tooMany, broken, refusalOf, stateRefusal, encodingRefusal, decodingRefusal, lengthsRefusal, starRefusal}
+use Rattle.wire.specs.Length.{blockLength, rowLength, inSettings, kindLength, boxLength, inboxLength, outboxLength}
 use Rattle.wire.specs.Round.{roundKind, callKind, phaseOf}
 use Rattle.wire.specs.Slot.{width, slotOf, holds, isPresent, messageOf, written, slots, copied}
 use Rattle.polynomial.specs.Polynomial.{Bytes, gsum, evaluate}
 use Rattle.reed_solomon.specs.Encode.{stripe, pieceOf, isReady}
-use Rattle.dispersal.specs.Dispersal.{sentBlock, receivedBlock, traded, sentPieces, isMarked, marksOf, marksMessage, sentMarks}
+use Rattle.dispersal.specs.Dispersal.{sentBlock, receivedBlock, twoPieces, sentPieces, isMarked, marksOf, marksMessage, sentMarks}
 use Rattle.phase_king.specs.Bit.{zeroSeen, oneSeen, held, support, weak, settled}
-use Rattle.phase_king.specs.Matrix.{matrixOf, said, kingSays, firstMatrix, zerosOf, onesOf, heldOf, weakOf, settledOf, seenMessage}
+use Rattle.phase_king.specs.Matrix.{matrixOf, said, kingSays, firstMatrix, zerosOf, onesOf, heldOf, weakOf, settledOf, seenMessage, sentByKing}
 use Rattle.graph.specs.Neighbour.{neighbour}
 use Rattle.matching.specs.Matching.{matched}
 use Rattle.matching.specs.First.{firstFound, ofSize, upTo, matchingOf}
@@ -133,10 +134,7 @@ blocks-bytes false = small-bytes (0x00 ∷ 0x00 ∷ []) tt
 
 pub two-faced : System
 two-faced = record {
-  n = 4;
-  t = 1;
-  k = 1;
-  sender = 1;
+  settings = record { n = 4; t = 1; k = 1; sender = 1 };
   correct = λ i. not (eqb i 4);
   block = λ i. blockFor (eqb i 1);
   block-bytes = λ i. blocks-bytes (eqb i 1);
@@ -148,10 +146,10 @@ two-faced = record {
 
 two-faced-meets : Meets two-faced
 unfolding two-faced stepsOf from4-1 from4-2 from4-3 lents tabulate filled sum count same gadd gmul gpow polyMul reduce member setOf
-    sizeOf restricted first wordAt rowOf rowByte rowsOf outside tooMany broken refusalOf blockLength rowLength inSettings messageLength
-    boxLength inboxLength outboxLength roundKind callKind phaseOf width slotOf holds isPresent messageOf written slots copied gsum evaluate
-    stripe pieceOf isReady sentBlock receivedBlock traded sentPieces isMarked marksOf marksMessage sentMarks zeroSeen oneSeen held support
-    weak settled matrixOf said kingSays firstMatrix zerosOf onesOf heldOf weakOf settledOf seenMessage neighbour matched firstFound ofSize
+    sizeOf restricted first wordAt rowOf rowByte rowsOf outside tooMany broken refusalOf stateRefusal lengthsRefusal starRefusal encodingRefusal blockLength rowLength inSettings kindLength
+    boxLength inboxLength outboxLength roundKind callKind phaseOf width slotOf part holds isPresent messageOf written slots joined copied gsum evaluate
+    stripe pieceOf isReady sentBlock receivedBlock twoPieces sentPieces isMarked marksOf marksMessage sentMarks zeroSeen oneSeen held support
+    weak settled matrixOf said kingSays firstMatrix zerosOf onesOf heldOf weakOf settledOf seenMessage sentByKing neighbour matched firstFound ofSize
     upTo matchingOf struck setC lacks setD atLeast setF setE setsFrom noSets isLarge starFrom refusalFor starOf inCore
     forwarded votes isChosen chosenPiece ownPiece sentPiece shared callOf startRefusal startOf lengthsFit stepRefusal stepOf
 two-faced-meets = record { tolerance = tt; few = tt; started = tt; finished = tt; arrives = tt }
@@ -159,8 +157,8 @@ two-faced-meets = record { tolerance = tt; few = tt; started = tt; finished = tt
 -- what the steps of a correct controller return
 two-faced-answers :
     T (each 3 (λ i. same (answers (atStart two-faced i) (two-faced .steps i)) (6 ∷ 0 ∷ 0 ∷ 0 ∷ 0 ∷ 6 ∷ 0 ∷ 6 ∷ 0 ∷ 0 ∷ 0 ∷ 0 ∷ 0 ∷ 0 ∷ 0 ∷ 8 ∷ [])))
-unfolding two-faced stepsOf from4-1 from4-2 from4-3 lents answers same outside tooMany broken refusalOf blockLength rowLength inSettings
-    messageLength boxLength inboxLength outboxLength roundKind callKind width slotOf holds isPresent messageOf receivedBlock copied callOf
+unfolding two-faced stepsOf from4-1 from4-2 from4-3 lents answers same outside tooMany broken refusalOf stateRefusal lengthsRefusal starRefusal encodingRefusal blockLength rowLength inSettings
+    kindLength boxLength inboxLength outboxLength roundKind callKind width slotOf part holds isPresent messageOf receivedBlock copied callOf
     startRefusal startOf lengthsFit stepRefusal stepOf
 two-faced-answers = tt
 

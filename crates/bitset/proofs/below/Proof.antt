@@ -1,7 +1,7 @@
 -- `bitset::below` meets its contract: all digits below n are set.
 use lib.Pow.{pow-pos}
 use native.Mathlib.Omega.{arith}
-use Rattle.bitset.proofs.Laws.{set-all}
+use Rattle.bitset.proofs.Sets.{set-all}
 use Prim.Native.Nat.{min}
 use mathlib.Core.Path.{_≡_}
 use borrow.Author.Needs.{needs}

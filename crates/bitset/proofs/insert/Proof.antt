@@ -1,6 +1,6 @@
 -- `bitset::insert` meets its contract: nothing changes past 15 or at a member; else the bit is added.
 use native.Mathlib.Omega.{arith}
-use Rattle.bitset.proofs.Laws.{insert-over, insert-member, insert-add, insert-lt}
+use Rattle.bitset.proofs.Sets.{insert-over, insert-member, insert-add, insert-lt}
 use Prim.Native.Nat.{ℕ, _+_}
 use mathlib.Core.Path.{_≡_, sym, ap, _∙_}
 use Rattle.bitset.specs.Set.{inserted}

@@ -1,6 +1,6 @@
 -- `bitset::member` meets its contract: the digit by a shift and a remainder; no digit from 16 on.
 use native.Mathlib.Omega.{arith}
-use Rattle.bitset.proofs.Laws.{member-over}
+use Rattle.bitset.proofs.Sets.{member-over}
 use Rattle.bitset.specs.Set.{member}
 use mathlib.Core.Path.{sym, refl}
 use borrow.Author.Needs.{needs}

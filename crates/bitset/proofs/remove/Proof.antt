@@ -1,6 +1,6 @@
 -- `bitset::remove` meets its contract: nothing changes past 15 or where i is no member; else the bit is taken away.
 use native.Mathlib.Omega.{arith}
-use Rattle.bitset.proofs.Laws.{remove-other, remove-sub, member-over}
+use Rattle.bitset.proofs.Sets.{remove-other, remove-sub, member-over}
 use Rattle.bitset.specs.Set.{removed}
 use Prim.Native.Nat.{ℕ, _+_}
 use mathlib.Core.Path.{_≡_, sym, ap, _∙_}

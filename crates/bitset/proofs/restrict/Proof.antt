@@ -1,7 +1,7 @@
 -- `bitset::restrict` meets its contract: the members below n are the remainder by 2 to the n.
 use lib.Pow.{pow-pos, pow-mono}
 use native.Mathlib.Omega.{arith}
-use Rattle.bitset.proofs.Laws.{restrict-mod, restrict-below}
+use Rattle.bitset.proofs.Sets.{restrict-mod, restrict-below}
 use Prim.Native.Nat.{ℕ, _%_}
 use mathlib.Core.Path.{sym, ap, _∙_}
 use borrow.Author.Needs.{needs}

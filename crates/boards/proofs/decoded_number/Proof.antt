@@ -1,7 +1,5 @@
 -- `boards::decoded_number` meets its contract, answer by answer.
 use Rattle.boards.specs.Boards.{decodeNumber}
-use Rattle.reed_solomon.specs.Decode.{answerOf}
-use Rattle.reed_solomon.specs.declared.Decoded.{Decoded}
 use mathlib.Core.Path.{sym, ap}
 use borrow.Author.Needs.{needs}
 use Rattle.boards.proofs.decoded_number.Statement.{statement}
@@ -17,16 +15,13 @@ enum-known-r : tie.Need-enum-known-r
 enum-known-r c = search needs
 
 returns : tie.Need-returns
-returns c =
-    λ b. sym (ap (λ (x : Decoded). decodeNumber (answerOf x b)) (c .enum-told .given .1))
+returns c = sym (ap decodeNumber (c .enum-told .given .1))
 
 returns-2 : tie.Need-returns-2
-returns-2 c =
-    λ b. sym (ap (λ (x : Decoded). decodeNumber (answerOf x b)) (c .enum-told2 .given .1))
+returns-2 c = sym (ap decodeNumber (c .enum-told2 .given .1))
 
 returns-3 : tie.Need-returns-3
-returns-3 c =
-    λ b. sym (ap (λ (x : Decoded). decodeNumber (answerOf x b)) (c .before .r .given .1))
+returns-3 c = sym (ap decodeNumber (c .before .r .given .1))
 
 pub decoded-number-spec : {M : Type 1} → statement M
 decoded-number-spec =

@@ -1,6 +1,4 @@
 -- `boards::potekawhi_decode` meets its contract.
-use Rattle.boards.proofs.Answers.{decode-written}
-use denote.Ref.{now}
 use borrow.Author.Needs.{needs}
 use Rattle.boards.proofs.potekawhi_decode.Statement.{statement}
 use Rattle.boards.proofs.potekawhi_decode.Tie as tie
@@ -15,11 +13,7 @@ same-length : tie.Need-same-length
 same-length c = search needs
 
 returns : tie.Need-returns
-returns c =
-    let a = c .before .before .before .before .before .before .before .args in
-    let d = c .before .before .before .decode in
-    let b = d .last .1 .1 .1 .1 .0 in
-    decode-written (a .n) (a .t) (a .k) (now (a .slots)) (now (a .block)) (d .result) b (c .decoded-number .result) (d .ensures) (c .decoded-number .ensures b)
+returns c = let d = c .before .before .before .decode in (d .result, c .decoded-number .ensures, d .ensures)
 
 pub potekawhi-decode-spec : {M : Type 1} → statement M
 potekawhi-decode-spec =

@@ -1,5 +1,6 @@
 -- `boards::potekawhi_star` meets its contract.
 use Rattle.boards.proofs.Answers.{star-wrong-rows, star-wrong-sets, star-right}
+use Rattle.star.proofs.Laws.{star-of}
 use denote.Ref.{now}
 use mathlib.Core.Path.{_∙_}
 use borrow.Author.Needs.{needs}
@@ -36,7 +37,7 @@ returns-3 c =
     let I = G .before in
     let a = I .before .before .before .before .args in
     P .put-star .ensures
-    ∙ star-right (a .n) (a .t) (now (a .rows)) (now (a .sets)) (I .before .if1 .left) (I .if2 .left) (G .get-rows .result) (G .get-rows .ensures) (F .find .result) (F .find .ensures)
+    ∙ star-right (a .n) (a .t) (now (a .rows)) (now (a .sets)) (I .before .if1 .left) (I .if2 .left) (G .get-rows .result) (G .get-rows .ensures) (F .find .result) (star-of _ _ _ _ (F .find .ensures))
 
 pub potekawhi-star-spec : {M : Type 1} → statement M
 potekawhi-star-spec =

@@ -10,8 +10,8 @@ Inv-loop n t k last c₀ c = c ≤ last
 abbrev μ-loop : tie.MeasureT-loop
 μ-loop n t k last c₀ c = last - c
 
-calls-requires : tie.Need-calls-requires Inv-loop μ-loop
-calls-requires c κs = search needs
+call-count-requires : tie.Need-call-count-requires Inv-loop μ-loop
+call-count-requires c κs = search needs
 
 loop-holds : tie.Need-loop-holds Inv-loop μ-loop
 loop-holds c = search needs
@@ -37,7 +37,7 @@ lengths-spec =
     (tie.spec
     Inv-loop
     μ-loop
-    calls-requires
+    call-count-requires
     loop-holds
     add-c
     lengths-at-requires

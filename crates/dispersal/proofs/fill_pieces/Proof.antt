@@ -1,7 +1,7 @@
 -- `fill_pieces` meets its contract: m begins with the own piece, and the loop writes slot after slot.
-use Rattle.dispersal.proofs.Steps.{first-piece, paired, traded-sized}
-use Rattle.dispersal.proofs.Laws.{traded-is}
-use Rattle.dispersal.specs.Dispersal.{traded}
+use Rattle.dispersal.proofs.Steps.{first-piece, paired, two-pieces-sized}
+use Rattle.dispersal.proofs.Laws.{two-pieces-is}
+use Rattle.dispersal.specs.Dispersal.{twoPieces}
 use Rattle.reed_solomon.proofs.Laws.{piece-length}
 use Rattle.reed_solomon.specs.Encode.{pieceOf}
 use Rattle.wire.proofs.Laws.{slots-start, put-next-slot, slots-all, length-rest}
@@ -18,14 +18,14 @@ use Rattle.dispersal.proofs.fill_pieces.Statement.{statement}
 use Rattle.dispersal.proofs.fill_pieces.Tie as tie
 
 abbrev Inv-loop : tie.InvT-loop
-Inv-loop n t k own block m₀ outbox₀ j₀ m outbox j =
-    (j ≤ n) × (length m ≡ 2 * k) × (take k m ≡ pieceOf k t block own) × (outbox ≡ slots (2 * k) (traded k t own block) j ++ drop (j * width (2 * k)) outbox₀)
+Inv-loop layout n t k own block m₀ outbox₀ j₀ m outbox j =
+    (j ≤ n) × (length m ≡ layout .length) × (take k m ≡ pieceOf k t block own) × (outbox ≡ slots layout (twoPieces k t own block) j ++ drop (j * width layout) outbox₀)
 
 abbrev μ-loop : tie.MeasureT-loop
-μ-loop n t k own block m₀ outbox₀ j₀ m outbox j = n - j
+μ-loop layout n t k own block m₀ outbox₀ j₀ m outbox j = n - j
 
 write-piece-requires : tie.Need-write-piece-requires Inv-loop μ-loop
-write-piece-requires c κs = let S = c .before .before .before .before in (S .pre .0, omega (arith, S .pre .1))
+write-piece-requires c κs = let S = c .before .before .before .before in (S .pre .0, omega (arith, S .pre .1, S .pre .3))
 
 loop-holds : tie.Need-loop-holds Inv-loop μ-loop
 loop-holds c =
@@ -33,10 +33,10 @@ loop-holds c =
     let S = W .before .before .before .before .before in
     let a = S .args in (
       omega arith,
-      W .write-piece .kept .1 .1 .1 .1 .1 .0 ∙ S .pre .1,
+      W .write-piece .kept .1 .1 .1 .1 .1 .0 ∙ S .pre .2,
       first-piece (a .k) (pieceOf (a .k) (a .t) (a .block .now) (a .own)) (a .m .now) (W .write-piece .last .1 .1 .1 .1 .1 .0)
           (piece-length (a .k) (a .t) (a .block .now) (a .own)) (W .write-piece .ensures),
-      slots-start (2 * a .k) (traded (a .k) (a .t) (a .own) (a .block .now)) (a .outbox .now) _ refl,
+      slots-start (a .layout) (twoPieces (a .k) (a .t) (a .own) (a .block .now)) (a .outbox .now) _ refl,
     )
 
 add-j : tie.Need-add-j Inv-loop μ-loop
@@ -47,13 +47,8 @@ write-piece-requires-2 c κs =
     let L = c .before .before in
     let S = L .before .before .before .before .before .before .before .before in (
       record { coded = S .pre .0 .coded; number = record { least = omega arith; most = omega arith }; size = S .pre .0 .size },
-      omega (arith, L .loop .inv .1),
+      omega (arith, L .loop .inv .1, S .pre .1),
     )
-
-mul-send-one : tie.Need-mul-send-one Inv-loop μ-loop
-mul-send-one c =
-    let S = c .before .before .before .before .before .before .before .before .before .before .before .before .before .before in
-    omega (arith, S .pre .0 .coded .k-most)
 
 send-one-requires : tie.Need-send-one-requires Inv-loop μ-loop
 send-one-requires c κs = tt
@@ -71,22 +66,22 @@ loop-again c =
     let q = pieceOf (a .k) (a .t) (a .block .now) (L .loop .j + 1) in
     let W = c .before .before .before .before .before .before .before in
     let m' = W .write-piece2 .last .1 .1 .1 .1 .1 .0 in
-    let pair : m' ≡ p ++ q = paired (a .k) p q (L .loop .m) m' (L .loop .inv .2) (L .loop .inv .1) (W .write-piece2 .ensures) in
-    let long : length m' ≡ 2 * a .k = W .write-piece2 .kept .1 .1 .1 .1 .1 .0 ∙ L .loop .inv .1 in (
+    let pair : m' ≡ p ++ q = paired (a .k) p q (L .loop .m) m' (L .loop .inv .2) (L .loop .inv .1 ∙ S .pre .1) (W .write-piece2 .ensures) in
+    let long : length m' ≡ a .layout .length = W .write-piece2 .kept .1 .1 .1 .1 .1 .0 ∙ L .loop .inv .1 in (
       omega (arith, T .loop-test .taken),
       long,
       ap (take (a .k)) pair ∙ take-at p q (a .k) (piece-length (a .k) (a .t) (a .block .now) (a .own)),
       c .before .before .send-one .ensures
-          ∙ put-next-slot (2 * a .k) (traded (a .k) (a .t) (a .own) (a .block .now)) (traded-sized (a .k) (a .t) (a .own) (a .block .now)) (a .outbox .now) (L .loop .outbox) m' (L .loop .j)
-          (omega (arith, slot-within (a .n) (width (2 * a .k)) (L .loop .j) (omega (arith, T .loop-test .taken)), next-offset (L .loop .j) (width (2 * a .k)), S .pre .2)) (L .loop .inv .3)
-          (traded-is (a .k) (a .t) (a .own) (a .block .now) (L .loop .j + 1) ∙ ap Rattle.wire.specs.Slot.bytes (sym pair)) long,
+          ∙ put-next-slot (a .layout) (twoPieces (a .k) (a .t) (a .own) (a .block .now)) (two-pieces-sized (a .k) (a .t) (a .own) (a .block .now) (a .layout) (S .pre .1)) (a .outbox .now) (L .loop .outbox) m' (L .loop .j)
+          (omega (arith, slot-within (a .n) (width (a .layout)) (L .loop .j) (omega (arith, T .loop-test .taken)), next-offset (L .loop .j) (width (a .layout)), S .pre .3)) (L .loop .inv .3)
+          (two-pieces-is (a .k) (a .t) (a .own) (a .block .now) (L .loop .j + 1) ∙ ap Rattle.wire.specs.Slot.bytes (sym pair)) long,
     )
 
 same-length : tie.Need-same-length Inv-loop μ-loop
 same-length c =
     let L = c .before in
     let S = L .before .before .before .before .before .before .before .before in
-    L .loop .inv .1 ∙ sym (S .pre .1)
+    L .loop .inv .1 ∙ sym (S .pre .2)
 
 same-length-2 : tie.Need-same-length-2 Inv-loop μ-loop
 same-length-2 c =
@@ -94,18 +89,18 @@ same-length-2 c =
     let S = L .before .before .before .before .before .before .before .before in
     let a = S .args in
     let all : L .loop .j ≡ a .n = omega (arith, c .loop-test .left) in
-    length-rest (2 * a .k) (traded (a .k) (a .t) (a .own) (a .block .now)) (traded-sized (a .k) (a .t) (a .own) (a .block .now)) (a .outbox .now) (L .loop .outbox) (L .loop .j)
-    (le-of-eq (ap (λ (x : ℕ). x * width (2 * a .k)) all ∙ sym (S .pre .2))) (L .loop .inv .3)
+    length-rest (a .layout) (twoPieces (a .k) (a .t) (a .own) (a .block .now)) (two-pieces-sized (a .k) (a .t) (a .own) (a .block .now) (a .layout) (S .pre .1)) (a .outbox .now) (L .loop .outbox) (L .loop .j)
+    (le-of-eq (ap (λ (x : ℕ). x * width (a .layout)) all ∙ sym (S .pre .3))) (L .loop .inv .3)
 
 returns : tie.Need-returns Inv-loop μ-loop
 returns c =
     let L = c .before in
     let S = L .before .before .before .before .before .before .before .before in
     let a = S .args in
-    let f = traded (a .k) (a .t) (a .own) (a .block .now) in
+    let f = twoPieces (a .k) (a .t) (a .own) (a .block .now) in
     let all : L .loop .j ≡ a .n = omega (arith, c .loop-test .left) in
-    slots-all (2 * a .k) f (a .outbox .now) (L .loop .outbox) (a .n)
-    (subst (λ (x : ℕ). L .loop .outbox ≡ slots (2 * a .k) f x ++ drop (x * width (2 * a .k)) (a .outbox .now)) all (L .loop .inv .3)) (S .pre .2)
+    slots-all (a .layout) f (a .outbox .now) (L .loop .outbox) (a .n)
+    (subst (λ (x : ℕ). L .loop .outbox ≡ slots (a .layout) f x ++ drop (x * width (a .layout)) (a .outbox .now)) all (L .loop .inv .3)) (S .pre .3)
 
 pub fill-pieces-spec : {M : Type 1} → statement M
 fill-pieces-spec =
@@ -117,7 +112,6 @@ fill-pieces-spec =
     loop-holds
     add-j
     write-piece-requires-2
-    mul-send-one
     send-one-requires
     loop-less
     loop-again

@@ -17,7 +17,7 @@ returns : tie.Need-returns
 returns c =
     let S = c .before .before .before .before in
     let a = S .args in
-    (sym (marked-own (a .k) (a .t) (a .own) (a .inbox .now) (a .len) (a .block .now) (a .j) (c .if1 .taken)), S .pre .2)
+    (sym (marked-own (a .k) (a .t) (a .own) (a .inbox .now) (a .layout) (a .block .now) (a .j) (c .if1 .taken)), S .pre .2)
 
 message-requires : tie.Need-message-requires
 message-requires c κs = search needs
@@ -26,7 +26,7 @@ returns-2 : tie.Need-returns-2
 returns-2 c =
     let S = c .before .before .before .before .before .before in
     let a = S .args in (
-      sym (marked-absent (a .k) (a .t) (a .own) (a .inbox .now) (a .len) (a .block .now) (a .j) (c .before .before .if1 .left)
+      sym (marked-absent (a .k) (a .t) (a .own) (a .inbox .now) (a .layout) (a .block .now) (a .j) (c .before .before .if1 .left)
           (sym (ap length (c .before .message .ensures)) ∙ c .if2 .taken)),
       S .pre .2,
     )
@@ -52,7 +52,7 @@ returns-3 c =
     let pair : m' ≡ p ++ q = paired (a .k) p q (a .m .now) m' (S .pre .2) (S .pre .1) (W .write-piece .ensures) in (
       c .is-swapped .ensures
           ∙ ap (λ (x : List ℕ). same (take (a .k) x) (drop (a .k) m') && same (drop (a .k) x) (take (a .k) m')) (M .message .ensures)
-          ∙ marked-present (a .k) (a .t) (a .own) (a .inbox .now) (a .len) (a .block .now) (a .j) (M .before .if1 .left) m'
+          ∙ marked-present (a .k) (a .t) (a .own) (a .inbox .now) (a .layout) (a .block .now) (a .j) (M .before .if1 .left) m'
           (λ e. W .before .before .if2 .left (ap length (M .message .ensures) ∙ e)) pair,
       ap (take (a .k)) pair ∙ take-at p q (a .k) (piece-length (a .k) (a .t) (a .block .now) (a .own)),
     )

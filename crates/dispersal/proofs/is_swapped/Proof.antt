@@ -1,5 +1,6 @@
 -- `is_swapped` meets its contract.
-use Rattle.dispersal.proofs.Steps.{part-rest, short-message}
+use Rattle.dispersal.proofs.Steps.{short-message}
+use Rattle.lists.proofs.Parts.{part-rest}
 use Rattle.lists.proofs.Tests.{and-no-left, and-tail}
 use Rattle.lists.specs.Same.{same}
 use lib.Seq.{length-take-le}

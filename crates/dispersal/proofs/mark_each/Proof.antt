@@ -14,11 +14,11 @@ use Rattle.dispersal.proofs.mark_each.Statement.{statement}
 use Rattle.dispersal.proofs.mark_each.Tie as tie
 
 abbrev Inv-loop : tie.InvT-loop
-Inv-loop n t k own inbox len block m₀ set₀ i₀ m set i =
-    (i ≤ n) × (length m ≡ 2 * k) × (take k m ≡ pieceOf k t block own) × (set ≡ setOf i (λ j. isMarked k t own inbox len block (j + 1)))
+Inv-loop n t k own inbox layout block m₀ set₀ i₀ m set i =
+    (i ≤ n) × (length m ≡ 2 * k) × (take k m ≡ pieceOf k t block own) × (set ≡ setOf i (λ j. isMarked k t own inbox layout block (j + 1)))
 
 abbrev μ-loop : tie.MeasureT-loop
-μ-loop n t k own inbox len block m₀ set₀ i₀ m set i = n - i
+μ-loop n t k own inbox layout block m₀ set₀ i₀ m set i = n - i
 
 write-piece-requires : tie.Need-write-piece-requires Inv-loop μ-loop
 write-piece-requires c κs = let S = c .before .before .before .before in (S .pre .0, omega (arith, S .pre .1))
@@ -32,7 +32,7 @@ loop-holds c =
       W .write-piece .kept .1 .1 .1 .1 .1 .0 ∙ S .pre .1,
       first-piece (a .k) (pieceOf (a .k) (a .t) (a .block .now) (a .own)) (a .m .now) (W .write-piece .last .1 .1 .1 .1 .1 .0)
           (piece-length (a .k) (a .t) (a .block .now) (a .own)) (W .write-piece .ensures),
-      sym (set-none (λ j. isMarked (a .k) (a .t) (a .own) (a .inbox .now) (a .len) (a .block .now) (j + 1))),
+      sym (set-none (λ j. isMarked (a .k) (a .t) (a .own) (a .inbox .now) (a .layout) (a .block .now) (j + 1))),
     )
 
 add-i : tie.Need-add-i Inv-loop μ-loop
@@ -60,7 +60,7 @@ loop-again c =
     let S = L .before .before .before .before .before .before .before .before in
     let a = S .args in
     let i = L .loop .i in
-    let marked : ℕ → Bool = λ j. isMarked (a .k) (a .t) (a .own) (a .inbox .now) (a .len) (a .block .now) (j + 1) in (
+    let marked : ℕ → Bool = λ j. isMarked (a .k) (a .t) (a .own) (a .inbox .now) (a .layout) (a .block .now) (j + 1) in (
       omega (arith, K .before .before .loop-test .taken),
       K .is-marked .kept .1 .1 .1 .1 .1 .1 .1 .0 ∙ L .loop .inv .1,
       K .is-marked .ensures .1,
@@ -78,7 +78,7 @@ loop-again-2 c =
     let S = L .before .before .before .before .before .before .before .before in
     let a = S .args in
     let i = L .loop .i in
-    let marked : ℕ → Bool = λ j. isMarked (a .k) (a .t) (a .own) (a .inbox .now) (a .len) (a .block .now) (j + 1) in (
+    let marked : ℕ → Bool = λ j. isMarked (a .k) (a .t) (a .own) (a .inbox .now) (a .layout) (a .block .now) (j + 1) in (
       omega (arith, K .before .before .loop-test .taken),
       K .is-marked .kept .1 .1 .1 .1 .1 .1 .1 .0 ∙ L .loop .inv .1,
       K .is-marked .ensures .1,
@@ -97,7 +97,7 @@ returns c =
     let S = L .before .before .before .before .before .before .before .before in
     let a = S .args in
     let all : L .loop .i ≡ a .n = omega (arith, c .loop-test .left) in
-    L .loop .inv .3 ∙ ap (λ (x : ℕ). setOf x (λ j. isMarked (a .k) (a .t) (a .own) (a .inbox .now) (a .len) (a .block .now) (j + 1))) all
+    L .loop .inv .3 ∙ ap (λ (x : ℕ). setOf x (λ j. isMarked (a .k) (a .t) (a .own) (a .inbox .now) (a .layout) (a .block .now) (j + 1))) all
 
 pub mark-each-spec : {M : Type 1} → statement M
 mark-each-spec =

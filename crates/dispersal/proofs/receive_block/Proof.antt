@@ -26,7 +26,7 @@ unfolding receivedBlock
 returns c =
     let M = c .before .before .before .before .before in
     let a = M .before .before .before .args in
-    let m = messageOf (a .inbox .now) (a .len) (a .sender) in
+    let m = messageOf (a .inbox .now) (a .layout) (a .sender) in
     c .before .before .silence .ensures
     ∙ sym (cond-yes (eqb (length m) 0) (replicate (length (a .block .now)) 0) (copied m (a .block .now))
     (eq-eqb (length m) 0 (sym (ap length (M .message .ensures)) ∙ c .before .before .before .before .if1 .taken)))
@@ -42,7 +42,7 @@ unfolding receivedBlock
 returns-2 c =
     let M = c .before .before .before .before .before in
     let a = M .before .before .before .args in
-    let m = messageOf (a .inbox .now) (a .len) (a .sender) in
+    let m = messageOf (a .inbox .now) (a .layout) (a .sender) in
     c .before .before .copy .ensures ∙ ap (λ (x : List ℕ). copied x (a .block .now)) (M .message .ensures)
     ∙ sym (cond-no (eqb (length m) 0) (replicate (length (a .block .now)) 0) (copied m (a .block .now))
     (ne-eqb (length m) 0 (λ e. c .before .before .before .before .if1 .left (ap length (M .message .ensures) ∙ e))))

@@ -21,7 +21,7 @@ unfolding sentBlock
 returns c =
     let a = c .before .before .before .before .before .before .before .args in
     c .before .before .send-all .ensures
-    ∙ sym (cond-yes (eqb (a .own) (a .sender)) (toAll (a .n) (a .block .now) (a .outbox .now)) (replicate (length (a .outbox .now)) 0)
+    ∙ sym (cond-yes (eqb (a .own) (a .sender)) (toAll (a .layout) (a .n) (a .block .now) (a .outbox .now)) (replicate (length (a .outbox .now)) 0)
     (eq-eqb (a .own) (a .sender) (c .before .before .before .before .if1 .taken)))
 
 silence-requires : tie.Need-silence-requires
@@ -35,7 +35,7 @@ unfolding sentBlock
 returns-2 c =
     let a = c .before .before .before .before .before .before .before .args in
     c .before .before .silence .ensures
-    ∙ sym (cond-no (eqb (a .own) (a .sender)) (toAll (a .n) (a .block .now) (a .outbox .now)) (replicate (length (a .outbox .now)) 0)
+    ∙ sym (cond-no (eqb (a .own) (a .sender)) (toAll (a .layout) (a .n) (a .block .now) (a .outbox .now)) (replicate (length (a .outbox .now)) 0)
     (ne-eqb (a .own) (a .sender) (c .before .before .before .before .if1 .left)))
 
 pub send-block-spec : {M : Type 1} → statement M

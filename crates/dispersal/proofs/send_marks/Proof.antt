@@ -33,7 +33,7 @@ returns c =
     let R = H .before .before in
     let a = R .before .before .args in
     c .before .before .send-all .ensures
-    ∙ ap (λ (m : List ℕ). toAll (a .n) m (a .outbox .now))
+    ∙ ap (λ (m : List ℕ). toAll (a .layout) (a .n) m (a .outbox .now))
     (ap₂ (λ (x y : ℕ). x ∷ y ∷ []) (H .before .low .ensures ∙ ap (λ (x : ℕ). x % 256) (R .restrict .ensures))
     (H .high .ensures ∙ ap (λ (x : ℕ). x / 256) (R .restrict .ensures)))
 

@@ -1,8 +1,9 @@
 -- `solve` meets its contract.
 use Rattle.interpolation.specs.Steps.{stateOf}
 use Rattle.interpolation.proofs.Laws.{smaller-first, smaller-second, candidate-series}
+use Rattle.interpolation.proofs.Zeros.{length-kept}
 use Rattle.interpolation.specs.Interpolation.{pair, smaller, series}
-use lib.ListN.{length, length-replicate}
+use lib.ListN.{length}
 use native.Mathlib.Omega.{arith}
 use Prim.Native.Nat.{_+_}
 use mathlib.Core.Path.{_≡_, sym, ap, _∙_}
@@ -19,8 +20,8 @@ divide-requires c κs =
     let r = c .before .before .before .before .before .before .before .before .before .before .before .before .before .interpolate in
     let h = c .before .before .before .before .before .before .before .before .before .before .before .before .before .before .before .before .before .before .before .before .before .before .before .before .before .pre .0 in
     let w = length (a .xs .now) + a .t + 1 in
-    let q : length (r .last .1 .1 .1 .0) ≡ w = r .kept .1 .1 .1 .0 ∙ ap length (h .zero-qa) ∙ length-replicate w 0 in
-    let e : length (r .last .1 .1 .1 .1 .0) ≡ w = r .kept .1 .1 .1 .1 .0 ∙ ap length (h .zero-ea) ∙ length-replicate w 0 in
+    let q : length (r .last .1 .1 .1 .0) ≡ w = length-kept w (r .last .1 .1 .1 .0) (a .qa .now) (r .kept .1 .1 .1 .0) (h .zero-qa) in
+    let e : length (r .last .1 .1 .1 .1 .0) ≡ w = length-kept w (r .last .1 .1 .1 .1 .0) (a .ea .now) (r .kept .1 .1 .1 .1 .0) (h .zero-ea) in
     (q ∙ sym e, omega arith)
 
 divide-requires-2 : tie.Need-divide-requires-2
@@ -29,8 +30,8 @@ divide-requires-2 c κs =
     let r = c .before .before .before .before .before .before .before .before .before .before .before .before .before .interpolate in
     let h = c .before .before .before .before .before .before .before .before .before .before .before .before .before .before .before .before .before .before .before .before .before .before .before .before .before .pre .0 in
     let w = length (a .xs .now) + a .t + 1 in
-    let q : length (r .last .1 .1 .1 .1 .1 .0) ≡ w = r .kept .1 .1 .1 .1 .1 .0 ∙ ap length (h .zero-qb) ∙ length-replicate w 0 in
-    let e : length (r .last .1 .1 .1 .1 .1 .1 .0) ≡ w = r .kept .1 .1 .1 .1 .1 .1 .0 ∙ ap length (h .zero-eb) ∙ length-replicate w 0 in
+    let q : length (r .last .1 .1 .1 .1 .1 .0) ≡ w = length-kept w (r .last .1 .1 .1 .1 .1 .0) (a .qb .now) (r .kept .1 .1 .1 .1 .1 .0) (h .zero-qb) in
+    let e : length (r .last .1 .1 .1 .1 .1 .1 .0) ≡ w = length-kept w (r .last .1 .1 .1 .1 .1 .1 .0) (a .eb .now) (r .kept .1 .1 .1 .1 .1 .1 .0) (h .zero-eb) in
     (q ∙ sym e, omega arith)
 
 same-length : tie.Need-same-length

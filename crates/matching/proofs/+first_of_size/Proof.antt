@@ -1,18 +1,16 @@
 -- The proof of the cycle of calls {first_of_size}. The measure is the number of remaining controllers. The loop's invariant: no
--- partner of v below w leaves k - 1 pairs among the others.
-use Prim.Native.Nat.{ℕ, _-_, _<_}
-use mathlib.Core.Path.{sym, _∙_}
-use mathlib.Core.Logic.{⊎-elim}
+-- partner of v that is not left leaves k - 1 pairs among the others.
+use Prim.Native.Nat.{ℕ, _<_}
+use mathlib.Core.Path.{_≡_}
 use native.Mathlib.Omega.{arith}
 use Rattle.bitset.specs.Set.{sizeOf}
-use Rattle.matching.proofs.Steps.{Trying, searched-zero, searched-none, none-in-empty, lowest-in, try-start, try-skip, try-fail, try-found, try-drop, try-rest-less, try-less}
+use Rattle.matching.proofs.Steps.{Trying, searched-zero, searched-none, none-in-empty, lowest-in, try-start, try-fail, try-found, try-drop, try-rest-less, try-low, try-fewer, try-less}
 use borrow.Fn.Kinds.{In}
 use borrow.Fn.PlainCycle.{Measures, is, falls, and}
 use Rattle.matching.proofs.first_of_size.Reads as spec
 use Rattle.matching.proofs.first_of_size.Kinds as kinds
 use Rattle.matching.proofs.+first_of_size.Lts-first_of_size as lts
 use Rattle.bitset.proofs.lowest.Reads as lowest-reads
-use Rattle.bitset.proofs.member.Reads as member-reads
 use Rattle.bitset.proofs.remove.Reads as remove-reads
 use Rattle.bitset.proofs.intersection.Reads as intersection-reads
 use Rattle.matching.proofs.is_hopeless.Reads as is-hopeless-reads
@@ -48,8 +46,6 @@ claims t = (
   remove-reads.Learnt,
   intersection-reads.Asked,
   intersection-reads.Learnt,
-  member-reads.Asked,
-  member-reads.Learnt,
   below t,
   spec.Post,
   with-pair-reads.Asked,
@@ -57,10 +53,10 @@ claims t = (
 )
 
 abbrev Inv-loop : lts.InvT-loop
-Inv-loop graph s k v rest partners w₀ w = Trying graph s k v rest partners w
+Inv-loop graph s k v rest left₀ left = Trying graph s k v rest left
 
 abbrev μ-loop : lts.MeasureT-loop
-μ-loop graph s k v rest partners w₀ w = 16 - w
+μ-loop graph s k v rest left₀ left = sizeOf left
 
 -- the function's entry, seen from the loop's head
 abbrev start : (t : ℕ) (c : lts.At-loop (claims t) (at t) spec.Post Inv-loop μ-loop) → lts.Start (claims t) (at t) spec.Post Inv-loop μ-loop
@@ -111,9 +107,6 @@ element-copy-out-intersection t c = omega (arith, low t (c .before))
 intersection-requires : (t : ℕ) → lts.Need-intersection-requires (claims t) (at t) spec.Post Inv-loop μ-loop
 intersection-requires t c κs = tt
 
-add-w : (t : ℕ) → lts.Need-add-w (claims t) (at t) spec.Post Inv-loop μ-loop
-add-w t c = omega (arith, low t (c .before .before .before))
-
 loop-holds : (t : ℕ) → lts.Need-loop-holds (claims t) (at t) spec.Post Inv-loop μ-loop
 loop-holds t c =
     let R = c .before .before in
@@ -121,21 +114,24 @@ loop-holds t c =
     let S = E .before .before in
     try-start _ _ _ _ _ _ (S .fits .s .fits) (E .if2 .left) (E .before .if1 .left) (S .pre .1 .1) (R .before .lowest .ensures) (R .remove .ensures) (c .intersection .ensures)
 
-member-requires : (t : ℕ) → lts.Need-member-requires (claims t) (at t) spec.Post Inv-loop μ-loop
-member-requires t c κs = tt
+lowest-requires-2 : (t : ℕ) → lts.Need-lowest-requires-2 (claims t) (at t) spec.Post Inv-loop μ-loop
+lowest-requires-2 t c κs = tt
 
 remove-requires-2 : (t : ℕ) → lts.Need-remove-requires-2 (claims t) (at t) spec.Post Inv-loop μ-loop
 remove-requires-2 t c κs = tt
+
+remove-requires-3 : (t : ℕ) → lts.Need-remove-requires-3 (claims t) (at t) spec.Post Inv-loop μ-loop
+remove-requires-3 t c κs = tt
 
 sub-first-of-size : (t : ℕ) → lts.Need-sub-first-of-size (claims t) (at t) spec.Post Inv-loop μ-loop
 sub-first-of-size t c = c .before .before .before .before .loop .inv .some
 
 first-of-size-requires : (t : ℕ) → lts.Need-first-of-size-requires (claims t) (at t) spec.Post Inv-loop μ-loop
 first-of-size-requires t c κs =
-    let M = c .before .before in
-    let L = M .before .before in
+    let W = c .before .before in
+    let L = W .before .before in
     let S = start t L in (
-      omega (arith, try-less _ _ _ _ _ _ _ (S .fits .s .fits) (L .loop .inv) _ (M .before .loop-test .taken) (sym (M .member .ensures) ∙ c .before .if4 .taken) (c .remove2 .ensures), S .pre .0),
+      omega (arith, try-less _ _ _ _ _ _ (S .fits .s .fits) (L .loop .inv) _ (W .before .loop-test .taken) (W .lowest2 .ensures) _ (c .remove3 .ensures), S .pre .0),
       (S .pre .1 .0, omega (arith, L .loop .inv .few)),
     )
 
@@ -144,44 +140,46 @@ sub-with-pair t c = c .before .before .before .before .before .before .loop .inv
 
 with-pair-requires : (t : ℕ) → lts.Need-with-pair-requires (claims t) (at t) spec.Post Inv-loop μ-loop
 with-pair-requires t c κs =
-    let inv = c .before .before .before .before .before .before .loop .inv in
-    (omega (arith, inv .few, inv .some), omega (arith, inv .low), omega (arith, inv .most))
+    let W = c .before .before .before .before in
+    let L = W .before .before in
+    let inv = L .loop .inv in
+    (omega (arith, inv .few, inv .some), omega (arith, inv .low), omega (arith, try-low _ _ _ _ _ _ (start t L .fits .s .fits) inv _ (W .before .loop-test .taken) (W .lowest2 .ensures)))
 
 returns-4 : (t : ℕ) → lts.Need-returns-4 (claims t) (at t) spec.Post Inv-loop μ-loop
 returns-4 t c =
     let F = c .before .before in
     let R = F .before in
-    let M = R .before .before in
-    let L = M .before .before in
-    try-found _ _ _ _ _ _ _ (start t L .fits .s .fits) (L .loop .inv) _ _ _ _ (sym (M .member .ensures) ∙ R .before .if4 .taken) (R .remove2 .ensures) (F .first-of-size .ensures) (c .before .if5 .taken)
+    let W = R .before .before in
+    let L = W .before .before in
+    try-found _ _ _ _ _ _ (start t L .fits .s .fits) (L .loop .inv) _ (W .before .loop-test .taken) (W .lowest2 .ensures) _ (R .remove3 .ensures) _ _ _ (F .first-of-size .ensures) (c .before .if4 .taken)
     _ _ _ (c .with-pair .ensures)
 
-add-w-2 : (t : ℕ) → lts.Need-add-w-2 (claims t) (at t) spec.Post Inv-loop μ-loop
-add-w-2 t c = omega (arith, c .before .before .before .loop .inv .most)
-
 loop-less : (t : ℕ) → lts.Need-loop-less (claims t) (at t) spec.Post Inv-loop μ-loop
-loop-less t c = omega (arith, c .before .before .loop-test .taken)
+loop-less t c =
+    let R = c .before .before in
+    let W = R .before .before in
+    let L = W .before .before in
+    try-fewer _ _ _ _ _ _ (start t L .fits .s .fits) (L .loop .inv) _ (W .before .loop-test .taken) (W .lowest2 .ensures) _ (R .before .remove2 .ensures)
 
 loop-again : (t : ℕ) → lts.Need-loop-again (claims t) (at t) spec.Post Inv-loop μ-loop
 loop-again t c =
-    let L = c .before .before .before in
-    let l = c .before .before .loop-test .taken in
-    let e = sym (c .before .member .ensures) in
-    ⊎-elim
-    (λ w. try-fail _ _ _ _ _ _ _ (start t L .fits .s .fits) (L .loop .inv) _ _ _ _ l (w .1 .ensures) (w .2 .ensures) (w .3 .left))
-    (λ w. try-skip _ _ _ _ _ _ _ (start t L .fits .s .fits) (L .loop .inv) l (e ∙ w .left))
-    (c .if4 .came)
+    let F = c .before in
+    let R = F .before in
+    let W = R .before .before in
+    let L = W .before .before in
+    try-fail _ _ _ _ _ _ (start t L .fits .s .fits) (L .loop .inv) _ (W .before .loop-test .taken) (W .lowest2 .ensures) _ (R .remove3 .ensures) _ _ _ (F .first-of-size .ensures) _ (R .before .remove2 .ensures) (c .if4 .left)
 
 first-of-size-requires-2 : (t : ℕ) → lts.Need-first-of-size-requires-2 (claims t) (at t) spec.Post Inv-loop μ-loop
 first-of-size-requires-2 t c κs =
     let L = c .before in
     let S = start t L in
-    (omega (arith, try-rest-less _ _ _ _ _ _ _ (S .fits .s .fits) (L .loop .inv), S .pre .0), S .pre .1)
+    (omega (arith, try-rest-less _ _ _ _ _ _ (S .fits .s .fits) (L .loop .inv), S .pre .0), S .pre .1)
 
 returns-5 : (t : ℕ) → lts.Need-returns-5 (claims t) (at t) spec.Post Inv-loop μ-loop
 returns-5 t c =
     let L = c .before .before in
-    try-drop _ _ _ _ _ _ _ (start t L .fits .s .fits) (L .loop .inv) _ _ _ (c .before .loop-test .left) (c .first-of-size2 .ensures)
+    let e : L .loop .left ≡ 0 = omega (arith, c .before .loop-test .left) in
+    try-drop _ _ _ _ _ _ (start t L .fits .s .fits) (L .loop .inv) _ _ _ e (c .first-of-size2 .ensures)
 
 pub +first-of-size-spec : {M : Type 1} → statement M
 +first-of-size-spec = close μ λ t. lts.spec (claims t) (at t) spec.Post Inv-loop μ-loop
@@ -197,16 +195,15 @@ pub +first-of-size-spec : {M : Type 1} → statement M
     (mul-intersection t)
     (element-copy-out-intersection t)
     (intersection-requires t)
-    (add-w t)
     (loop-holds t)
-    (member-requires t)
+    (lowest-requires-2 t)
     (remove-requires-2 t)
+    (remove-requires-3 t)
     (sub-first-of-size t)
     (first-of-size-requires t)
     (sub-with-pair t)
     (with-pair-requires t)
     (returns-4 t)
-    (add-w-2 t)
     (loop-less t)
     (loop-again t)
     (first-of-size-requires-2 t)

@@ -1,6 +1,7 @@
 -- `matching::component` meets its contract: the reached set grows until nobody in it is unseen.
 use Rattle.matching.proofs.Steps.{Growing, lowest-in, grow-start, grow-more, grow-less, grow-done}
 use Rattle.bitset.specs.Set.{sizeOf}
+use Prim.Native.Nat.{_<_}
 use native.Mathlib.Omega.{arith}
 use Rattle.matching.proofs.component.Statement.{statement}
 use Rattle.matching.proofs.component.Tie as tie
@@ -23,15 +24,17 @@ lowest-requires c κs = tt
 remove-requires : tie.Need-remove-requires Inv-loop μ-loop
 remove-requires c κs = tt
 
+-- the least of the next is below 16
+low : (c : tie.After-lowest Inv-loop μ-loop) → c .lowest .result < 16
+low c =
+    let L = c .before .before in
+    omega (arith, c .lowest .ensures, lowest-in (L .loop .next) (L .loop .inv .next-small) (c .before .loop-test .taken) .0)
+
 mul-intersection : tie.Need-mul-intersection Inv-loop μ-loop
-mul-intersection c =
-    let L = c .before .before .before in
-    omega (arith, c .before .lowest .ensures, lowest-in (L .loop .next) (L .loop .inv .next-small) (c .before .before .loop-test .taken) .0)
+mul-intersection c = omega (arith, low (c .before))
 
 element-copy-out-intersection : tie.Need-element-copy-out-intersection Inv-loop μ-loop
-element-copy-out-intersection c =
-    let L = c .before .before .before in
-    omega (arith, c .before .lowest .ensures, lowest-in (L .loop .next) (L .loop .inv .next-small) (c .before .before .loop-test .taken) .0)
+element-copy-out-intersection c = omega (arith, low (c .before))
 
 intersection-requires : tie.Need-intersection-requires Inv-loop μ-loop
 intersection-requires c κs = tt

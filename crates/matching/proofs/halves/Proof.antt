@@ -37,21 +37,23 @@ add-sum c =
     let L = c .before .before .before .before .before in
     omega (arith, L .loop .inv .fits, c .size .ensures, size-le (c .before .before .component .result))
 
+-- the component has the least member that is left
+has : (c : tie.After-component Inv-loop μ-loop) → In (c .component .result) (lowestOf (c .before .before .before .loop .left))
+has c = subst (In (c .component .result)) (c .before .lowest .ensures) (c .component .ensures .0)
+
 loop-less : tie.Need-loop-less Inv-loop μ-loop
 loop-less c =
     let C = c .before .before in
     let T = C .before .before in
     let L = T .before in
-    let has : In (C .component .result) (lowestOf (L .loop .left)) = subst (In (C .component .result)) (C .before .lowest .ensures) (C .component .ensures .0) in
-    omega (arith, halve-less _ (L .before .pre) _ _ _ _ (L .loop .inv) (T .loop-test .taken) has (C .component .ensures .1) (omega arith), ap sizeOf (c .before .difference .ensures))
+    omega (arith, halve-less _ (L .before .pre) _ _ _ _ (L .loop .inv) (T .loop-test .taken) (has C) (C .component .ensures .1) (omega arith), ap sizeOf (c .before .difference .ensures))
 
 loop-again : tie.Need-loop-again Inv-loop μ-loop
 loop-again c =
     let C = c .before .before in
     let T = C .before .before in
     let L = T .before in
-    let has : In (C .component .result) (lowestOf (L .loop .left)) = subst (In (C .component .result)) (C .before .lowest .ensures) (C .component .ensures .0) in
-    halve-more _ (L .before .pre) _ _ _ _ (L .loop .inv) (T .loop-test .taken) has (C .component .ensures .1) (omega arith) _ _ (c .before .difference .ensures)
+    halve-more _ (L .before .pre) _ _ _ _ (L .loop .inv) (T .loop-test .taken) (has C) (C .component .ensures .1) (omega arith) _ _ (c .before .difference .ensures)
     (ap (λ (x : ℕ). L .loop .sum + x / 2) (c .size .ensures))
 
 returns : tie.Need-returns Inv-loop μ-loop

@@ -1,11 +1,10 @@
--- `matching::largest` meets its contract: the relation that the search meets has one answer.
-use Rattle.matching.proofs.Graph.{complement-sym, matching-is}
+-- `matching::largest` meets its contract: the edges that the search goes along are the missing pairs.
+use Rattle.matching.proofs.Graph.{complement-sym, answer-is}
 use Rattle.graph.specs.Bits.{adjacent}
 use Rattle.graph.proofs.Laws.{adjacent-sym}
 use Rattle.matching.specs.Steps.{Symmetric}
-use Rattle.matching.specs.First.{stored}
 use native.Mathlib.Omega.{arith}
-use mathlib.Core.Path.{sym, ap, subst, _∙_}
+use mathlib.Core.Path.{sym, subst}
 use Prim.Native.Nat.{min}
 use borrow.Author.Needs.{needs}
 use Rattle.matching.proofs.largest.Statement.{statement}
@@ -27,8 +26,7 @@ returns : tie.Need-returns
 returns c =
     let C = c .before .before .before in
     let A = C .before .args in
-    let r = c .first-largest .ensures in
-    r .2 ∙ ap stored (matching-is (min (A .n) 16) (adjacent (A .bits)) (omega arith) _ _ (r .0) (C .complement .ensures) (c .before .below .ensures) (r .1))
+    answer-is (min (A .n) 16) (adjacent (A .bits)) (omega arith) _ _ _ (C .complement .ensures) (c .before .below .ensures) (c .first-largest .ensures)
 
 pub largest-spec : {M : Type 1} → statement M
 largest-spec =

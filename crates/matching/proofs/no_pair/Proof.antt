@@ -1,5 +1,5 @@
 -- `matching::no_pair` meets its contract.
-use Rattle.matching.specs.First.{ends}
+use Rattle.matching.specs.Answer.{ends}
 use mathlib.Core.Path.{refl}
 use Rattle.matching.proofs.no_pair.Statement.{statement}
 use Rattle.matching.proofs.no_pair.Tie as tie

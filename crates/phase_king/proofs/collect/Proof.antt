@@ -14,7 +14,7 @@ said-rows-requires c κs = search needs
 returns : tie.Need-returns
 returns c =
     let a = c .before .before .before .args in
-    is-collected (now (a .inbox)) (c .said-rows .result) (a .len) (a .n) (c .before .limit .result) (c .before .limit .ensures) (c .said-rows .ensures)
+    is-collected (now (a .inbox)) (c .said-rows .result) (a .layout) (a .n) (c .before .limit .result) (c .before .limit .ensures) (c .said-rows .ensures)
 
 pub collect-spec : {M : Type 1} → statement M
 collect-spec = tie.close (tie.spec limit-requires said-rows-requires returns)

@@ -18,7 +18,7 @@ returns : tie.Need-returns
 returns c =
     let L = c .before .before in
     let a = L .before .before .args in
-    is-kept (now (a .inbox)) (c .before .rule-matrix .result) (c .rule-matrix2 .result) (a .len) (a .n) (L .limit .result) (a .t)
+    is-kept (now (a .inbox)) (c .before .rule-matrix .result) (c .rule-matrix2 .result) (a .layout) (a .n) (L .limit .result) (a .t)
     (L .limit .ensures) (c .before .rule-matrix .ensures) (c .rule-matrix2 .ensures)
 
 pub hold-spec : {M : Type 1} → statement M

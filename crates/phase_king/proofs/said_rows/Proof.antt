@@ -12,10 +12,10 @@ use Rattle.phase_king.proofs.said_rows.Statement.{statement}
 use Rattle.phase_king.proofs.said_rows.Tie as tie
 
 abbrev Inv-loop : tie.InvT-loop
-Inv-loop inbox len n r rows₀ i₀ rows i = (i ≤ n) × (rows ≡ filled (λ i. rowOf n (messageOf inbox len (i + 1)) r) i (replicate 16 0))
+Inv-loop inbox layout n r rows₀ i₀ rows i = (i ≤ n) × (rows ≡ filled (λ i. rowOf n (messageOf inbox layout (i + 1)) r) i (replicate 16 0))
 
 abbrev μ-loop : tie.MeasureT-loop
-μ-loop inbox len n r rows₀ i₀ rows i = n - i
+μ-loop inbox layout n r rows₀ i₀ rows i = n - i
 
 loop-holds : tie.Need-loop-holds Inv-loop μ-loop
 loop-holds c = (omega arith, sym (filled-none _ _))

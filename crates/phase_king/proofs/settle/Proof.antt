@@ -12,11 +12,11 @@ use Rattle.phase_king.proofs.settle.Statement.{statement}
 use Rattle.phase_king.proofs.settle.Tie as tie
 
 abbrev Inv-loop : tie.InvT-loop
-Inv-loop rows weak inbox len n king m settled₀ r₀ settled r =
-    (m ≡ min n 16) × (r ≤ m) × (settled ≡ filled (λ r. settledRow m (getD rows r 0) (getD weak r 0) (kingRow inbox len m king r)) r (replicate 16 0))
+Inv-loop rows weak inbox layout n king m settled₀ r₀ settled r =
+    (m ≡ min n 16) × (r ≤ m) × (settled ≡ filled (λ r. settledRow m (getD rows r 0) (getD weak r 0) (kingRow inbox layout m king r)) r (replicate 16 0))
 
 abbrev μ-loop : tie.MeasureT-loop
-μ-loop rows weak inbox len n king m settled₀ r₀ settled r = m - r
+μ-loop rows weak inbox layout n king m settled₀ r₀ settled r = m - r
 
 limit-requires : tie.Need-limit-requires Inv-loop μ-loop
 limit-requires c κs = tt
@@ -73,7 +73,7 @@ returns c =
     let a = L .before .before .before .args in
     let m = L .before .limit .result in
     let e : L .loop .r ≡ m = omega arith in
-    is-resolved (now (a .rows)) (now (a .weak)) (now (a .inbox)) (L .loop .settled) (a .len) (a .n) m (a .king) (L .loop .inv .0) (rw e at (L .loop .inv .2))
+    is-resolved (now (a .rows)) (now (a .weak)) (now (a .inbox)) (L .loop .settled) (a .layout) (a .n) m (a .king) (L .loop .inv .0) (rw e at (L .loop .inv .2))
 
 pub settle-spec : {M : Type 1} → statement M
 settle-spec =

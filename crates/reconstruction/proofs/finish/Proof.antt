@@ -1,6 +1,5 @@
 -- `finish` meets its contract.
-use Rattle.reconstruction.proofs.Calls.{finished-decoded}
-use Rattle.reconstruction.proofs.Laws.{finished-none}
+use Rattle.reconstruction.proofs.Laws.{finished-none, finished-answers}
 use Rattle.reconstruction.specs.Reconstruction.{finish}
 use Rattle.reconstruction.specs.declared.Outcome.the-variants.{None}
 use mathlib.Core.Path.{sym, ap, _∙_}
@@ -39,8 +38,9 @@ returns-2 c =
     let I = D .before .before in
     let a = I .before .before .before .before .args in
     let after = D .decode .last .1 .1 .1 .1 .0 in
-    finished-decoded (a .n) (a .t) (a .k) (a .core) (a .inbox .now) (a .block .now) after (D .decode .result) (c .outcome-of .result)
-    (λ z. I .if1 .left (I .before .restrict .ensures ∙ z)) (D .decode .ensures) (c .outcome-of .ensures after)
+    ap (λ w. finish w after) (c .outcome-of .ensures)
+    ∙ finished-answers (a .n) (a .t) (a .k) (a .core) (a .inbox .now) (a .block .now) (λ z. I .if1 .left (I .before .restrict .ensures ∙ z)) (D .decode .result) after
+    (D .decode .ensures)
 
 pub finish-spec : {M : Type 1} → statement M
 finish-spec =

@@ -10,10 +10,10 @@ use Rattle.reconstruction.proofs.first_chosen.Statement.{statement}
 use Rattle.reconstruction.proofs.first_chosen.Tie as tie
 
 abbrev Inv-loop : tie.InvT-loop
-Inv-loop n t core inbox len i₀ i = (i ≤ n) × ((j : ℕ) → j < i → isChosen n t core inbox len j ≡ false)
+Inv-loop n t core inbox layout i₀ i = (i ≤ n) × ((j : ℕ) → j < i → isChosen n t core inbox layout j ≡ false)
 
 abbrev μ-loop : tie.MeasureT-loop
-μ-loop n t core inbox len i₀ i = n - i
+μ-loop n t core inbox layout i₀ i = n - i
 
 loop-holds : tie.Need-loop-holds Inv-loop μ-loop
 loop-holds c = (omega arith, λ j l. absurd (omega arith))
@@ -25,7 +25,7 @@ returns : tie.Need-returns Inv-loop μ-loop
 returns c =
     let L = c .before .before .before in
     let a = L .before .before .args in
-    first-found (a .n) (isChosen (a .n) (a .t) (a .core) (a .inbox .now) (a .len)) (L .loop .i) (omega arith) (sym (c .before .is-chosen .ensures) ∙ c .if1 .taken) (L .loop .inv .1)
+    first-found (a .n) (isChosen (a .n) (a .t) (a .core) (a .inbox .now) (a .layout)) (L .loop .i) (omega arith) (sym (c .before .is-chosen .ensures) ∙ c .if1 .taken) (L .loop .inv .1)
 
 add-i : tie.Need-add-i Inv-loop μ-loop
 add-i c = omega arith
@@ -43,7 +43,7 @@ returns-2 : tie.Need-returns-2 Inv-loop μ-loop
 returns-2 c =
     let L = c .before in
     let a = L .before .before .args in
-    first-none (a .n) (isChosen (a .n) (a .t) (a .core) (a .inbox .now) (a .len)) (λ j l. L .loop .inv .1 j (omega arith))
+    first-none (a .n) (isChosen (a .n) (a .t) (a .core) (a .inbox .now) (a .layout)) (λ j l. L .loop .inv .1 j (omega arith))
 
 pub first-chosen-spec : {M : Type 1} → statement M
 first-chosen-spec =

@@ -16,7 +16,7 @@ member-requires c κs = search needs
 returns : tie.Need-returns
 returns c =
     let a = c .before .before .before .args in
-    sym (chosen-other (a .n) (a .t) (a .core) (a .inbox .now) (a .len) (a .i) (sym (c .before .member .ensures) ∙ not-true _ (c .if1 .taken)))
+    sym (chosen-other (a .n) (a .t) (a .core) (a .inbox .now) (a .layout) (a .i) (sym (c .before .member .ensures) ∙ not-true _ (c .if1 .taken)))
 
 add-message : tie.Need-add-message
 add-message c = search needs
@@ -28,7 +28,7 @@ returns-2 : tie.Need-returns-2
 returns-2 c =
     let M = c .before in
     let a = M .before .before .before .before .args in
-    sym (chosen-absent (a .n) (a .t) (a .core) (a .inbox .now) (a .len) (a .i) (sym (ap length (M .message .ensures)) ∙ c .if2 .taken)
+    sym (chosen-absent (a .n) (a .t) (a .core) (a .inbox .now) (a .layout) (a .i) (sym (ap length (M .message .ensures)) ∙ c .if2 .taken)
     (sym (M .before .before .member .ensures) ∙ not-false _ (M .before .if1 .left)))
 
 add-result : tie.Need-add-result
@@ -41,8 +41,8 @@ returns-3 : tie.Need-returns-3
 returns-3 c =
     let M = c .before .before in
     let a = M .before .before .before .before .args in
-    ap (leb (a .t + 1)) (c .votes .ensures ∙ ap (votes (a .n) (a .core) (a .inbox .now) (a .len)) (M .message .ensures))
-    ∙ sym (chosen-votes (a .n) (a .t) (a .core) (a .inbox .now) (a .len) (a .i) (λ z. c .before .if2 .left (ap length (M .message .ensures) ∙ z))
+    ap (leb (a .t + 1)) (c .votes .ensures ∙ ap (votes (a .n) (a .core) (a .inbox .now) (a .layout)) (M .message .ensures))
+    ∙ sym (chosen-votes (a .n) (a .t) (a .core) (a .inbox .now) (a .layout) (a .i) (λ z. c .before .if2 .left (ap length (M .message .ensures) ∙ z))
     (sym (M .before .before .member .ensures) ∙ not-false _ (M .before .if1 .left)))
 
 pub is-chosen-spec : {M : Type 1} → statement M

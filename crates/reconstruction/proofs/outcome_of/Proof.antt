@@ -1,7 +1,5 @@
 -- `outcome_of` meets its contract.
-use Rattle.reconstruction.specs.Reconstruction.{decodedOutcome}
-use Rattle.reed_solomon.specs.Decode.{answerOf}
-use Rattle.reed_solomon.specs.declared.Decoded.{Decoded}
+use Rattle.reconstruction.specs.Steps.{decodedOutcome}
 use mathlib.Core.Path.{sym, ap}
 use borrow.Author.Needs.{needs}
 use Rattle.reconstruction.proofs.outcome_of.Statement.{statement}
@@ -17,13 +15,13 @@ enum-told-3 : tie.Need-enum-told-3
 enum-told-3 c = search needs
 
 returns : tie.Need-returns
-returns c = λ b. sym (ap (λ (x : Decoded). decodedOutcome (answerOf x b .word)) (c .enum-told .given .1))
+returns c = sym (ap decodedOutcome (c .enum-told .given .1))
 
 returns-2 : tie.Need-returns-2
-returns-2 c = λ b. sym (ap (λ (x : Decoded). decodedOutcome (answerOf x b .word)) (c .enum-told2 .given .1))
+returns-2 c = sym (ap decodedOutcome (c .enum-told2 .given .1))
 
 returns-3 : tie.Need-returns-3
-returns-3 c = λ b. sym (ap (λ (x : Decoded). decodedOutcome (answerOf x b .word)) (c .enum-told3 .given .1))
+returns-3 c = sym (ap decodedOutcome (c .enum-told3 .given .1))
 
 pub outcome-of-spec : {M : Type 1} → statement M
 outcome-of-spec =

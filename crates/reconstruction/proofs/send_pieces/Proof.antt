@@ -15,16 +15,16 @@ use Rattle.reconstruction.proofs.send_pieces.Statement.{statement}
 use Rattle.reconstruction.proofs.send_pieces.Tie as tie
 
 abbrev Inv-loop : tie.InvT-loop
-Inv-loop n t k block piece₀ outbox₀ j₀ piece outbox j = (j ≤ n) × (length piece ≡ k) × (outbox ≡ slots k (pieces k t block) j ++ drop (j * width k) outbox₀)
+Inv-loop layout n t k block piece₀ outbox₀ j₀ piece outbox j = (j ≤ n) × (length piece ≡ k) × (outbox ≡ slots layout (pieces k t block) j ++ drop (j * width layout) outbox₀)
 
 abbrev μ-loop : tie.MeasureT-loop
-μ-loop n t k block piece₀ outbox₀ j₀ piece outbox j = n - j
+μ-loop layout n t k block piece₀ outbox₀ j₀ piece outbox j = n - j
 
 loop-holds : tie.Need-loop-holds Inv-loop μ-loop
 loop-holds c =
     let S = c .before .before .before in
     let a = S .args in
-    (omega arith, S .pre .2, slots-start (a .k) (pieces (a .k) (a .t) (a .block .now)) (a .outbox .now) 0 refl)
+    (omega arith, S .pre .3, slots-start (a .layout) (pieces (a .k) (a .t) (a .block .now)) (a .outbox .now) 0 refl)
 
 add-send-piece : tie.Need-add-send-piece Inv-loop μ-loop
 add-send-piece c = omega arith
@@ -51,16 +51,16 @@ loop-again c =
       omega arith,
       omega (arith, L .loop .inv .1, c .before .before .before .before .send-piece .kept),
       c .before .before .before .before .send-piece .ensures
-          ∙ put-next-slot (a .k) f (sized-pieces (a .k) (a .t) (a .block .now)) (a .outbox .now) (L .loop .outbox) (pieceOf (a .k) (a .t) (a .block .now) (j + 1)) j
-          (omega (arith, slot-within (a .n) (width (a .k)) j (omega arith), next-offset j (width (a .k)), S .pre .3)) (L .loop .inv .2) refl
-          (piece-length (a .k) (a .t) (a .block .now) (j + 1)),
+          ∙ put-next-slot (a .layout) f (sized-pieces (a .layout) (a .k) (a .t) (a .block .now) (S .pre .2)) (a .outbox .now) (L .loop .outbox) (pieceOf (a .k) (a .t) (a .block .now) (j + 1)) j
+          (omega (arith, slot-within (a .n) (width (a .layout)) j (omega arith), next-offset j (width (a .layout)), S .pre .4)) (L .loop .inv .2) refl
+          (piece-length (a .k) (a .t) (a .block .now) (j + 1) ∙ sym (S .pre .2)),
     )
 
 same-length : tie.Need-same-length Inv-loop μ-loop
 same-length c =
     let L = c .before in
     let S = L .before .before .before .before in
-    L .loop .inv .1 ∙ sym (S .pre .2)
+    L .loop .inv .1 ∙ sym (S .pre .3)
 
 same-length-2 : tie.Need-same-length-2 Inv-loop μ-loop
 same-length-2 c =
@@ -68,8 +68,8 @@ same-length-2 c =
     let S = L .before .before .before .before in
     let a = S .args in
     let all : L .loop .j ≡ a .n = omega arith in
-    length-rest (a .k) (pieces (a .k) (a .t) (a .block .now)) (sized-pieces (a .k) (a .t) (a .block .now)) (a .outbox .now) (L .loop .outbox) (L .loop .j)
-    (le-of-eq (ap (λ (x : ℕ). x * width (a .k)) all ∙ sym (S .pre .3))) (L .loop .inv .2)
+    length-rest (a .layout) (pieces (a .k) (a .t) (a .block .now)) (sized-pieces (a .layout) (a .k) (a .t) (a .block .now) (S .pre .2)) (a .outbox .now) (L .loop .outbox) (L .loop .j)
+    (le-of-eq (ap (λ (x : ℕ). x * width (a .layout)) all ∙ sym (S .pre .4))) (L .loop .inv .2)
 
 returns : tie.Need-returns Inv-loop μ-loop
 returns c =
@@ -78,8 +78,8 @@ returns c =
     let a = S .args in
     let f = pieces (a .k) (a .t) (a .block .now) in
     let all : L .loop .j ≡ a .n = omega arith in
-    slots-all (a .k) f (a .outbox .now) (L .loop .outbox) (a .n)
-    (subst (λ (x : ℕ). L .loop .outbox ≡ slots (a .k) f x ++ drop (x * width (a .k)) (a .outbox .now)) all (L .loop .inv .2)) (S .pre .3)
+    slots-all (a .layout) f (a .outbox .now) (L .loop .outbox) (a .n)
+    (subst (λ (x : ℕ). L .loop .outbox ≡ slots (a .layout) f x ++ drop (x * width (a .layout)) (a .outbox .now)) all (L .loop .inv .2)) (S .pre .4)
 
 pub send-pieces-spec : {M : Type 1} → statement M
 send-pieces-spec =

@@ -1,6 +1,7 @@
 -- `share_own` meets its contract.
-use Rattle.reconstruction.proofs.Pieces.{front}
-use mathlib.Core.Path.{sym}
+use Rattle.lists.proofs.Zeros.{length-front}
+use native.Mathlib.Omega.{arith}
+use mathlib.Core.Path.{sym, _∙_}
 use borrow.Author.Needs.{needs}
 use Rattle.reconstruction.proofs.share_own.Statement.{statement}
 use Rattle.reconstruction.proofs.share_own.Tie as tie
@@ -9,10 +10,10 @@ array-borrow-prefix-piece : tie.Need-array-borrow-prefix-piece
 array-borrow-prefix-piece c = search needs
 
 slice-aggregate-share-piece : tie.Need-slice-aggregate-share-piece
-slice-aggregate-share-piece c = let S = c .before .before .before in sym (front (S .args .k) (S .pre .0 .k-most))
+slice-aggregate-share-piece c = let S = c .before .before .before in sym (length-front 128 (S .args .out .length) (omega (arith, S .pre .3, S .pre .0 .k-most)))
 
 share-piece-requires : tie.Need-share-piece-requires
-share-piece-requires c κs = let S = c .before .before .before .before in (S .pre .0, S .pre .1, S .pre .2, front (S .args .k) (S .pre .0 .k-most))
+share-piece-requires c κs = let S = c .before .before .before .before in (S .pre .0, S .pre .1, S .pre .2, length-front 128 (S .args .out .length) (omega (arith, S .pre .3, S .pre .0 .k-most)) ∙ S .pre .3)
 
 same-length : tie.Need-same-length
 same-length c = search needs

@@ -10,10 +10,10 @@ use Rattle.reconstruction.proofs.votes.Statement.{statement}
 use Rattle.reconstruction.proofs.votes.Tie as tie
 
 abbrev Inv-loop : tie.InvT-loop
-Inv-loop n core inbox len m r₀ i₀ r i = (i ≤ n) × (r ≤ i) × (r ≡ count i (vote core inbox len m))
+Inv-loop n core inbox layout m r₀ i₀ r i = (i ≤ n) × (r ≤ i) × (r ≡ count i (vote core inbox layout m))
 
 abbrev μ-loop : tie.MeasureT-loop
-μ-loop n core inbox len m r₀ i₀ r i = n - i
+μ-loop n core inbox layout m r₀ i₀ r i = n - i
 
 loop-holds : tie.Need-loop-holds Inv-loop μ-loop
 loop-holds c = (omega arith, omega arith, sym (count-none-below _))
@@ -36,7 +36,7 @@ loop-again c =
     let a = L .before .before .before .args in (
       omega arith,
       omega arith,
-      counted-yes (L .loop .i) (vote (a .core) (a .inbox .now) (a .len) (a .m .now)) (L .loop .count) (sym (c .before .is-vote .ensures) ∙ c .if1 .taken) (L .loop .inv .2),
+      counted-yes (L .loop .i) (vote (a .core) (a .inbox .now) (a .layout) (a .m .now)) (L .loop .count) (sym (c .before .is-vote .ensures) ∙ c .if1 .taken) (L .loop .inv .2),
     )
 
 loop-less-2 : tie.Need-loop-less-2 Inv-loop μ-loop
@@ -48,7 +48,7 @@ loop-again-2 c =
     let a = L .before .before .before .args in (
       omega arith,
       omega arith,
-      counted-no (L .loop .i) (vote (a .core) (a .inbox .now) (a .len) (a .m .now)) (L .loop .count) (sym (c .before .is-vote .ensures) ∙ c .if1 .left) (L .loop .inv .2),
+      counted-no (L .loop .i) (vote (a .core) (a .inbox .now) (a .layout) (a .m .now)) (L .loop .count) (sym (c .before .is-vote .ensures) ∙ c .if1 .left) (L .loop .inv .2),
     )
 
 returns : tie.Need-returns Inv-loop μ-loop
@@ -57,7 +57,7 @@ returns c =
     let L = c .before in
     let a = L .before .before .before .args in
     let all : L .loop .i ≡ a .n = omega arith in
-    L .loop .inv .2 ∙ ap (λ (x : ℕ). count x (vote (a .core) (a .inbox .now) (a .len) (a .m .now))) all
+    L .loop .inv .2 ∙ ap (λ (x : ℕ). count x (vote (a .core) (a .inbox .now) (a .layout) (a .m .now))) all
 
 pub votes-spec : {M : Type 1} → statement M
 votes-spec =

@@ -1,6 +1,5 @@
 -- `decode_points` meets its contract.
-use Rattle.reed_solomon.specs.Steps.{Rebuilt}
-use Rattle.reed_solomon.specs.Decode.{points}
+use Rattle.reed_solomon.specs.Steps.{points, Found}
 use mathlib.Core.Path.{sym, ap, subst, _∙_}
 use Prim.Native.Nat.{_+_, _*_, _≤_}
 use borrow.Author.Needs.{needs}
@@ -32,7 +31,7 @@ same-length-2 c = search needs
 returns : tie.Need-returns
 returns c =
     let a = c .before .before .before .before .before .before .before .before .before .before .before .before .args in
-    subst (λ n. Rebuilt n (a .t) (a .k) (a .slots .now) (c .before .before .decode-stripes .result) (c .before .before .decode-stripes .last .1 .1 .1 .1 .0)) (c .before .before .before .before .before .before .before .number-points .kept .0) (c .before .before .decode-stripes .ensures)
+    subst (λ n. Found n (a .t) (a .k) (a .slots .now) (c .before .before .decode-stripes .result) (c .before .before .decode-stripes .last .1 .1 .1 .1 .0)) (c .before .before .before .before .before .before .before .number-points .kept .0) (c .before .before .decode-stripes .ensures)
 
 pub decode-points-spec : {M : Type 1} → statement M
 decode-points-spec =

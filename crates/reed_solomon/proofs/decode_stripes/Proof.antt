@@ -3,7 +3,7 @@ use Rattle.reed_solomon.proofs.Rule.{tried-found}
 use Rattle.reed_solomon.proofs.Stripes.{length-found, part-length}
 use Rattle.lists.specs.Join.{joined}
 use Rattle.lists.proofs.Joins.{joined-none, joined-more, length-joined}
-use Rattle.reed_solomon.specs.Decode.{stripeOf, isFound}
+use Rattle.reed_solomon.specs.Steps.{stripeOf, isFound}
 use Rattle.lists.proofs.Parts.{slot-within, next-offset, put-next}
 use Rattle.lists.proofs.Tests.{true≢false}
 use Rattle.lists.proofs.Sums.{count-none-below, counted-yes, count-full}

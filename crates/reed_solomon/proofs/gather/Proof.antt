@@ -1,5 +1,6 @@
 -- `gather` meets its contract. The invariant: the first i values are written.
-use Rattle.reed_solomon.specs.Decode.{received, column}
+use Rattle.reed_solomon.specs.Decode.{received}
+use Rattle.reed_solomon.specs.Steps.{column}
 use Rattle.lists.proofs.Fills.{filled-none, fill-more, fill-end}
 use Rattle.lists.specs.Fill.{tabulate, filled}
 use lib.ListN.{length, getD, length-set}

@@ -1,5 +1,5 @@
 -- `number_points` meets its contract. The invariant: the first i points are written.
-use Rattle.reed_solomon.specs.Decode.{points}
+use Rattle.reed_solomon.specs.Steps.{points}
 use Rattle.lists.proofs.Fills.{filled-none, fill-more, fill-end}
 use Rattle.lists.specs.Fill.{filled}
 use lib.ListN.{length, length-set}

@@ -2,10 +2,9 @@
 use Rattle.wire.specs.Length.{blockLength}
 use lib.Seq.{take-length, drop-length}
 use mathlib.Core.List.{_++_, append-nil}
-use Rattle.reed_solomon.proofs.Rule.{rebuilt-yes, rebuilt-no}
+use Rattle.reed_solomon.proofs.Rule.{decode-valid, found-block, found-none}
 use Rattle.lists.proofs.Zeros.{length-front}
-use Rattle.reed_solomon.specs.Steps.{Rebuilt}
-use Rattle.reed_solomon.specs.Decode.{answer, beyond}
+use Rattle.reed_solomon.specs.Steps.{Found}
 use Rattle.wire.proofs.Laws.{block-length}
 use lib.ListN.{length, replicate}
 use native.Mathlib.Omega.{arith}
@@ -19,20 +18,28 @@ use Rattle.reed_solomon.proofs.rebuild.Lts as lts
 use Rattle.reed_solomon.proofs.decode_points.Reads as decode-points-reads
 use Rattle.wire.proofs.silence.Reads as silence-reads
 
+-- what the settings say: n, t and k are within them, and the block has the stated length
 array-borrow-prefix-xs : tie.Need-array-borrow-prefix-xs
-array-borrow-prefix-xs c = omega (arith, c .before .before .pre .0 .quorum .n-most)
+array-borrow-prefix-xs c =
+    let I = c .before .before in
+    omega (arith, decode-valid (I .args .n) (I .args .t) (I .args .k) (I .args .slots .now) (I .args .block .now) (I .pre) .0 .quorum .n-most)
 
 slice-aggregate-decode-points : tie.Need-slice-aggregate-decode-points
-slice-aggregate-decode-points c = sym (length-front 16 (c .before .before .before .args .n) (c .before .before .before .pre .0 .quorum .n-most))
+slice-aggregate-decode-points c =
+    let I = c .before .before .before in
+    let a = I .args in
+    sym (length-front 16 (a .n) (decode-valid (a .n) (a .t) (a .k) (a .slots .now) (a .block .now) (I .pre) .0 .quorum .n-most))
 
 decode-points-requires : tie.Need-decode-points-requires
 decode-points-requires c κs =
-    let a = c .before .before .before .before .args in
-    let v = c .before .before .before .before .pre .0 in (
+    let I = c .before .before .before .before in
+    let a = I .args in
+    let w = decode-valid (a .n) (a .t) (a .k) (a .slots .now) (a .block .now) (I .pre) in
+    let v = w .0 in (
       subst (λ n. n ≤ 16) (sym (length-front 16 (a .n) (v .quorum .n-most))) (v .quorum .n-most),
       subst (λ n. 3 * a .t + 1 ≤ n) (sym (length-front 16 (a .n) (v .quorum .n-most))) (v .quorum .t-most),
       v .k-most,
-      c .before .before .before .before .pre .1 ∙ block-length (a .k) (a .t),
+      w .2 ∙ block-length (a .k) (a .t),
     )
 
 same-length : tie.Need-same-length
@@ -40,12 +47,15 @@ same-length c = search needs
 
 returns : tie.Need-returns
 returns c =
-    let a = c .before .before .before .before .before .before .before .before .before .args in
-    let d = c .before .before .before .before .decode-points in
-    sym
-    (rebuilt-yes (a .n) (a .t) (a .k) (a .slots .now) (d .last .1 .1 .1 .1 .0)
-    (subst (λ r. Rebuilt (a .n) (a .t) (a .k) (a .slots .now) r (d .last .1 .1 .1 .1 .0)) (c .if1 .taken)
-    (subst (λ n. Rebuilt n (a .t) (a .k) (a .slots .now) (d .result) (d .last .1 .1 .1 .1 .0)) (length-front 16 (a .n) (c .before .before .before .before .before .before .before .before .before .pre .0 .quorum .n-most)) (d .ensures))))
+    let I = c .before .before .before .before .before .before .before .before .before in
+    let a = I .args in
+    let v = decode-valid (a .n) (a .t) (a .k) (a .slots .now) (a .block .now) (I .pre) .0 in
+    let d = c .before .before .before .before .decode-points in (
+      I .pre,
+      found-block (a .n) (a .t) (a .k) (a .slots .now) v (d .last .1 .1 .1 .1 .0)
+          (subst (λ r. Found (a .n) (a .t) (a .k) (a .slots .now) r (d .last .1 .1 .1 .1 .0)) (c .if1 .taken)
+          (subst (λ n. Found n (a .t) (a .k) (a .slots .now) (d .result) (d .last .1 .1 .1 .1 .0)) (length-front 16 (a .n) (v .quorum .n-most)) (d .ensures))),
+    )
 
 slice-relend-prefix-silence : tie.Need-slice-relend-prefix-silence
 slice-relend-prefix-silence c = search needs
@@ -61,16 +71,18 @@ same-length-2 c = search needs
 
 returns-2 : tie.Need-returns-2
 returns-2 c =
-    let a = c .before .before .before .before .before .before .before .before .before .before .before .before .before .args in
+    let I = c .before .before .before .before .before .before .before .before .before .before .before .before .before in
+    let a = I .args in
+    let w = decode-valid (a .n) (a .t) (a .k) (a .slots .now) (a .block .now) (I .pre) in
     let d = c .before .before .before .before .before .before .before .before .decode-points in
-    let b = d .last .1 .1 .1 .1 .0 in
-    ap (answer beyond 0)
-    (ap₂ _++_ (c .before .before .silence .ensures ∙ ap (λ m. replicate m 0) (ap length (take-length b) ∙ d .kept .1 .1 .1 .1 .0 ∙ c .before .before .before .before .before .before .before .before .before .before .before .before .before .pre .1)) (drop-length b)
-    ∙ append-nil (replicate (blockLength (a .k) (a .t)) 0))
-    ∙ sym
-    (rebuilt-no (a .n) (a .t) (a .k) (a .slots .now) b
-    (subst (λ r. Rebuilt (a .n) (a .t) (a .k) (a .slots .now) r b) (c .before .before .before .before .if1 .left)
-    (subst (λ n. Rebuilt n (a .t) (a .k) (a .slots .now) (d .result) b) (length-front 16 (a .n) (c .before .before .before .before .before .before .before .before .before .before .before .before .before .pre .0 .quorum .n-most)) (d .ensures))))
+    let b = d .last .1 .1 .1 .1 .0 in (
+      I .pre,
+      found-none (a .n) (a .t) (a .k) (a .slots .now) (w .0) b
+          (subst (λ r. Found (a .n) (a .t) (a .k) (a .slots .now) r b) (c .before .before .before .before .if1 .left)
+          (subst (λ n. Found n (a .t) (a .k) (a .slots .now) (d .result) b) (length-front 16 (a .n) (w .0 .quorum .n-most)) (d .ensures))),
+      ap₂ _++_ (c .before .before .silence .ensures ∙ ap (λ m. replicate m 0) (ap length (take-length b) ∙ d .kept .1 .1 .1 .1 .0 ∙ w .2)) (drop-length b)
+          ∙ append-nil (replicate (blockLength (a .k) (a .t)) 0),
+    )
 
 pub rebuild-spec : {M : Type 1} → statement M
 rebuild-spec =

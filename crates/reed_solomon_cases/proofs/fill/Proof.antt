@@ -7,19 +7,16 @@ use Rattle.reed_solomon_cases.proofs.fill.Statement.{statement}
 use Rattle.reed_solomon_cases.proofs.fill.Tie as tie
 
 abbrev Inv-loop : tie.InvT-loop
-Inv-loop block₀ seed b₀ block b = (length block ≡ length block₀) × (b ≤ length block₀)
+Inv-loop block₀ seed t b₀ block b = (length block ≡ length block₀) × (b ≤ length block₀)
 
 abbrev μ-loop : tie.MeasureT-loop
-μ-loop block₀ seed b₀ block b = length block₀ - b
+μ-loop block₀ seed t b₀ block b = length block₀ - b
 
 loop-holds : tie.Need-loop-holds Inv-loop μ-loop
 loop-holds c = search needs
 
-draw-requires : tie.Need-draw-requires Inv-loop μ-loop
-draw-requires c κs = search needs
-
-byte-requires : tie.Need-byte-requires Inv-loop μ-loop
-byte-requires c κs = search needs
+block-byte-requires : tie.Need-block-byte-requires Inv-loop μ-loop
+block-byte-requires c κs = search needs
 
 slice-write-block : tie.Need-slice-write-block Inv-loop μ-loop
 slice-write-block c = search needs
@@ -46,8 +43,7 @@ fill-spec =
     Inv-loop
     μ-loop
     loop-holds
-    draw-requires
-    byte-requires
+    block-byte-requires
     slice-write-block
     add-b
     loop-less

@@ -7,10 +7,10 @@ use Rattle.reed_solomon_cases.proofs.gather.Statement.{statement}
 use Rattle.reed_solomon_cases.proofs.gather.Tie as tie
 
 abbrev Inv-loop : tie.InvT-loop
-Inv-loop slots₀ block other c n width a₀ i₀ slots a i = (length slots ≡ length slots₀) × (a ≤ 129 * i) × (width ≤ 129) × (i ≤ n) × (n ≤ 16)
+Inv-loop slots₀ m₀ block other c n width d₀ a₀ i₀ slots m d a i = (length slots ≡ length slots₀) × (length m ≡ length m₀) × (a ≤ 129 * i) × (width ≤ 129) × (i ≤ n) × (n ≤ 16)
 
 abbrev μ-loop : tie.MeasureT-loop
-μ-loop slots₀ block other c n width a₀ i₀ slots a i = n - i
+μ-loop slots₀ m₀ block other c n width d₀ a₀ i₀ slots m d a i = n - i
 
 add-width : tie.Need-add-width Inv-loop μ-loop
 add-width c = search needs
@@ -36,6 +36,9 @@ loop-again c = search needs
 same-length : tie.Need-same-length Inv-loop μ-loop
 same-length c = search needs
 
+same-length-2 : tie.Need-same-length-2 Inv-loop μ-loop
+same-length-2 c = search needs
+
 returns : tie.Need-returns Inv-loop μ-loop
 returns c = search needs
 
@@ -53,4 +56,5 @@ gather-spec =
     loop-less
     loop-again
     same-length
+    same-length-2
     returns)

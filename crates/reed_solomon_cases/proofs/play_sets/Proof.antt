@@ -7,10 +7,10 @@ use Rattle.reed_solomon_cases.proofs.play_sets.Statement.{statement}
 use Rattle.reed_solomon_cases.proofs.play_sets.Tie as tie
 
 abbrev Inv-loop : tie.InvT-loop
-Inv-loop slots₀ block other out₀ c end r₀ x₀ slots out r x = (length slots ≡ length slots₀) × (length out ≡ length out₀) × (x ≤ end)
+Inv-loop slots₀ m₀ block other out₀ c end r₀ x₀ slots m out r x = (length slots ≡ length slots₀) × (length m ≡ length m₀) × (length out ≡ length out₀) × (x ≤ end)
 
 abbrev μ-loop : tie.MeasureT-loop
-μ-loop slots₀ block other out₀ c end r₀ x₀ slots out r x = end - x
+μ-loop slots₀ m₀ block other out₀ c end r₀ x₀ slots m out r x = end - x
 
 set-count-requires : tie.Need-set-count-requires Inv-loop μ-loop
 set-count-requires c κs = search needs
@@ -36,6 +36,9 @@ same-length c = search needs
 same-length-2 : tie.Need-same-length-2 Inv-loop μ-loop
 same-length-2 c = search needs
 
+same-length-3 : tie.Need-same-length-3 Inv-loop μ-loop
+same-length-3 c = search needs
+
 returns : tie.Need-returns Inv-loop μ-loop
 returns c = search needs
 
@@ -53,4 +56,5 @@ play-sets-spec =
     loop-again
     same-length
     same-length-2
+    same-length-3
     returns)

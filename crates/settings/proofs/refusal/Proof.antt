@@ -13,15 +13,15 @@ use Rattle.settings.proofs.refusal.Statement.{statement}
 use Rattle.settings.proofs.refusal.Tie as tie
 
 -- the rows tried, filled up with zeros, give the refusal number
-whole : (e : Entry) (s : Settings) (fits : Bool) (l : List ℕ) → l ≡ six e → firstOf (broken s fits) l ≡ refusalOf e s fits
+whole : (e : Entry) (s : Settings) (i : ℕ) (fits : Bool) (l : List ℕ) → l ≡ six e → firstOf (broken s i fits) l ≡ refusalOf e s i fits
 unfolding refusalOf broken
-whole e s fits l q = ap (firstOf (broken s fits)) q ∙ padded (broken s fits) (tried e) (6 - length (tried e)) refl
+whole e s i fits l q = ap (firstOf (broken s i fits)) q ∙ padded (broken s i fits) (tried e) (6 - length (tried e)) refl
 
 abbrev Inv-loop : tie.InvT-loop
-Inv-loop s fits order i₀ i = (i ≤ 6) × (length order ≡ 6) × (firstOf (broken s fits) (drop i order) ≡ firstOf (broken s fits) order)
+Inv-loop s number fits order i₀ i = (i ≤ 6) × (length order ≡ 6) × (firstOf (broken s number fits) (drop i order) ≡ firstOf (broken s number fits) order)
 
 abbrev μ-loop : tie.MeasureT-loop
-μ-loop s fits order i₀ i = 6 - i
+μ-loop s number fits order i₀ i = 6 - i
 
 rows-requires : tie.Need-rows-requires Inv-loop μ-loop
 rows-requires c κs = tt
@@ -40,8 +40,8 @@ returns c =
     let L = c .before .before .before in
     let R = L .before .rows in
     let a = L .before .before .args in
-    sym (found-row (broken (a .s) (a .fits)) (R .result) (L .loop .i) (omega arith) (sym (c .before .breaks .ensures) ∙ c .if1 .taken))
-    ∙ L .loop .inv .2 ∙ whole (a .entry) (a .s) (a .fits) (R .result) (R .ensures)
+    sym (found-row (broken (a .s) (a .number) (a .fits)) (R .result) (L .loop .i) (omega arith) (sym (c .before .breaks .ensures) ∙ c .if1 .taken))
+    ∙ L .loop .inv .2 ∙ whole (a .entry) (a .s) (a .number) (a .fits) (R .result) (R .ensures)
 
 add-i : tie.Need-add-i Inv-loop μ-loop
 add-i c = omega arith
@@ -56,7 +56,7 @@ loop-again c =
     let a = L .before .before .args in (
       omega arith,
       L .loop .inv .1,
-      sym (next-row (broken (a .s) (a .fits)) (R .result) (L .loop .i) (omega arith) (sym (c .before .breaks .ensures) ∙ c .if1 .left)) ∙ L .loop .inv .2,
+      sym (next-row (broken (a .s) (a .number) (a .fits)) (R .result) (L .loop .i) (omega arith) (sym (c .before .breaks .ensures) ∙ c .if1 .left)) ∙ L .loop .inv .2,
     )
 
 returns-2 : tie.Need-returns-2 Inv-loop μ-loop
@@ -64,7 +64,7 @@ returns-2 c =
     let L = c .before in
     let R = L .before .rows in
     let a = L .before .before .args in
-    sym (no-row (broken (a .s) (a .fits)) (R .result) (L .loop .i) (omega arith)) ∙ L .loop .inv .2 ∙ whole (a .entry) (a .s) (a .fits) (R .result) (R .ensures)
+    sym (no-row (broken (a .s) (a .number) (a .fits)) (R .result) (L .loop .i) (omega arith)) ∙ L .loop .inv .2 ∙ whole (a .entry) (a .s) (a .number) (a .fits) (R .result) (R .ensures)
 
 pub refusal-spec : {M : Type 1} → statement M
 refusal-spec =

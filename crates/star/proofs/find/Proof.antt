@@ -1,9 +1,5 @@
 -- `star::find` meets its contract: the star of the bits of the rows is the star of the rows.
-use Rattle.star.proofs.Laws.{star-of-bits}
-use Rattle.star.specs.Star.{starOfBits}
-use mathlib.Core.List.{List}
-use mathlib.Core.Path.{ap, _∙_}
-use Prim.Native.Nat.{ℕ}
+use Rattle.star.proofs.Same.{bits-star}
 use borrow.Author.Needs.{needs}
 use Rattle.star.proofs.find.Statement.{statement}
 use Rattle.star.proofs.find.Tie as tie
@@ -17,7 +13,7 @@ of-bits-requires c κs = search needs
 returns : tie.Need-returns
 returns c =
     let A = c .before .before .args in
-    c .of-bits .ensures ∙ ap (λ (b : List ℕ). starOfBits b (A .n) (A .t)) (c .before .bits-of .ensures) ∙ star-of-bits (A .rows .now) (A .n) (A .t)
+    bits-star (A .rows .now) (A .n) (A .t) _ _ (c .before .bits-of .ensures) (c .of-bits .ensures)
 
 pub find-spec : {M : Type 1} → statement M
 find-spec = tie.close (tie.spec bits-of-requires of-bits-requires returns)

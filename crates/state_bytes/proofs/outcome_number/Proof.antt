@@ -1,5 +1,5 @@
 -- `state_bytes::outcome_number` meets its contract, outcome by outcome.
-use Rattle.state_bytes.specs.State.{outcomeNumber}
+use Rattle.reconstruction.specs.Outcomes.{outcomeNumber}
 use mathlib.Core.Path.{sym, ap}
 use borrow.Author.Needs.{needs}
 use Rattle.state_bytes.proofs.outcome_number.Statement.{statement}
@@ -18,19 +18,15 @@ enum-told-4 : tie.Need-enum-told-4
 enum-told-4 c = search needs
 
 returns : tie.Need-returns
-unfolding outcomeNumber
 returns c = sym (ap outcomeNumber (c .enum-told .given .1))
 
 returns-2 : tie.Need-returns-2
-unfolding outcomeNumber
 returns-2 c = sym (ap outcomeNumber (c .enum-told2 .given .1))
 
 returns-3 : tie.Need-returns-3
-unfolding outcomeNumber
 returns-3 c = sym (ap outcomeNumber (c .enum-told3 .given .1))
 
 returns-4 : tie.Need-returns-4
-unfolding outcomeNumber
 returns-4 c = sym (ap outcomeNumber (c .enum-told4 .given .1))
 
 pub outcome-number-spec : {M : Type 1} → statement M

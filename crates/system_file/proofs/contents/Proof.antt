@@ -14,12 +14,14 @@ use borrow.Author.Needs.{needs}
 use Rattle.system_file.proofs.contents.Statement.{statement}
 use Rattle.system_file.proofs.contents.Tie as tie
 
+abbrev start : tie.After-read-bytes → tie.Start
+start c = c .before .before .before .before
+
 block-is : (c : tie.After-read-bytes)
-    → c .read-bytes .last .1 .0
-    ≡ padded 192 (blockAt (c .before .before .before .before .args .input .now) (c .before .before .before .before .args .start) (c .before .before .before .before .args .end))
+    → c .read-bytes .last .1 .0 ≡ padded 192 (blockAt (start c .args .input .now) (start c .args .start) (start c .args .end))
 unfolding blockAt
 block-is c =
-    let S = c .before .before .before .before in
+    let S = start c in
     let a = S .args in
     c .read-bytes .ensures ∙ block-padded 192 (bytesOf (take (a .end - a .start) (drop (a .start) (a .input .now)))) (S .pre .fits)
 
@@ -58,15 +60,16 @@ returns c =
     let F = c .before in
     let M = F .before .before .before in
     let B = M .before .before .before in
-    let S = B .before .before .before .before in
+    let S = start B in
     let a = S .args in
     let input = a .input .now in
     let s = blockAt input (a .start) (a .end) in
-    let o = opened (a .n) (a .t) (a .k) (a .sender) s in
-    let r = readFrom (length input) input (bare (a .n) (a .t) (a .k) []) (a .at) 4 in
-    let places = M .read-messages .last .1 .1 .1 .1 .1 .0 in
-    ap (λ (x : List ℕ). file (a .n) (a .t) (a .k) (a .sender) x (F .faulty .given .0 .0) places) (block-is B)
-    ∙ file-right o r (F .faulty .given .0 .0) places (M .read-messages .result) (M .read-messages .ensures .0) (F .faulty .given .1) (M .read-messages .ensures .1)
+    let o = opened (a .s) s in
+    let r = readFrom (length input) input (bare (a .s) []) (a .at) 4 in
+    let places = M .read-messages .last .1 .1 .1 .0 in
+    ap (λ (x : List ℕ). file (a .s) x (F .faulty .given .0 .0) places) (block-is B)
+    ∙ file-right o r (F .faulty .given .0 .0) places (M .read-messages .result) (M .read-messages .ensures .0)
+    (F .faulty .given .1) (M .read-messages .ensures .1)
     ∙ ap fileOf (sym (read-bare (length input) input o (a .at) 4))
 
 returns-2 : tie.Need-returns-2
@@ -76,8 +79,8 @@ returns-2 c =
     let S = M .before .before .before .before .before .before .before in
     let a = S .args in
     let input = a .input .now in
-    let o = opened (a .n) (a .t) (a .k) (a .sender) (blockAt input (a .start) (a .end)) in
-    let r = readFrom (length input) input (bare (a .n) (a .t) (a .k) []) (a .at) 4 in
+    let o = opened (a .s) (blockAt input (a .start) (a .end)) in
+    let r = readFrom (length input) input (bare (a .s) []) (a .at) 4 in
     c .wrong .ensures ∙ file-wrong o r (F .line .given .0 .0) (M .read-messages .result) (M .read-messages .ensures .0) (F .line .given .1)
     ∙ ap fileOf (sym (read-bare (length input) input o (a .at) 4))
 

@@ -4,10 +4,10 @@ use mathlib.Core.Bool.{true, false, _&&_}
 use Prim.Native.Nat.{ℕ, _+_, _≤_}
 use native.Mathlib.Omega.{arith}
 use lib.ListN.{length}
-use Rattle.lists.proofs.Tests.{cond-yes}
-use Rattle.system_file.specs.Form.{limit, settingsNames, messageNames, lineAt, isEnded, nextAt, isNames, isSettings}
+use Rattle.text.specs.Lines.{lineAt, isEnded, nextAt, isNames}
+use Rattle.text.proofs.Laws.{Named, names-said, names-none}
+use Rattle.system_file.specs.Form.{limit, settingsNames, messageNames, isSettings}
 use Rattle.system_file.specs.Table.{fileOf}
-use Rattle.system_file.proofs.Fields.{ended-lt, next-is, names-zero, names-next, named-ended}
 use Rattle.system_file.proofs.Reading.{read-long, read-unnamed, read-unset, read-untold}
 use Rattle.system_file.proofs.Heads.{Headed, head-none, head-said, head-end, head-next, head-both, head-opened, read-contents}
 use borrow.Author.Needs.{needs}
@@ -21,47 +21,50 @@ s1 c = c .before .before .before .before .before
 short : (c : tie.Else2) → length (s1 c .args .input .now) ≤ limit
 short c = c .before .before .before .if1 .left
 
-named : (c : tie.Else2) → isNames settingsNames (s1 c .args .input .now) 0 ≡ true
-named c = names-next settingsNames (s1 c .args .input .now) 0 (λ z. c .if2 .left (c .before .after-names .ensures ∙ z))
-
-next-at : (c : tie.Else2) → c .before .after-names .result ≡ nextAt (s1 c .args .input .now) 0
-next-at c =
-    let input = s1 c .args .input .now in
-    c .before .after-names .ensures ∙ cond-yes (isNames settingsNames input 0) (nextAt input 0) 0 (named c)
+first : (c : tie.Else2) → Named settingsNames (s1 c .args .input .now) 0 (c .before .after-names .result)
+first c = names-said settingsNames (s1 c .args .input .now) 0 (c .before .after-names .result) (c .before .after-names .ensures) (c .if2 .left)
 
 -- ---- after the settings line
-abbrev e2 : tie.After-n → tie.Else2
+abbrev e2 : tie.After-settings → tie.Else2
 e2 c = c .before .before .before
 
-abbrev s2 : tie.After-n → tie.Start
+abbrev s2 : tie.After-settings → tie.Start
 s2 c = s1 (e2 c)
 
-abbrev a2 : tie.After-n → ℕ
+abbrev a2 : tie.After-settings → ℕ
 a2 c = e2 c .before .after-names .result
 
-abbrev e-of : tie.After-n → ℕ
-e-of c = c .n .given .0 .1 .1 .1 .1 .1 .0
+abbrev e-of : tie.After-settings → ℕ
+e-of c = c .settings .given .0 .1 .1 .0
 
-headed : (c : tie.After-n)
-    → Headed (s2 c .args .input .now) (a2 c) (c .n .given .0 .0) (c .n .given .0 .1 .0) (c .n .given .0 .1 .1 .0) (c .n .given .0 .1 .1 .1 .0) (c .n .given .0 .1 .1 .1 .1 .0) (e-of c)
+headed : (c : tie.After-settings) → Headed (s2 c .args .input .now) (a2 c) (c .settings .given .0 .0) (c .settings .given .0 .1 .0) (e-of c)
 headed c =
-    let v = c .n .given .0 in
-    head-said (s2 c .args .input .now) (a2 c) (v .0) (v .1 .0) (v .1 .1 .0) (v .1 .1 .1 .0) (v .1 .1 .1 .1 .0) (e-of c)
-    (sym (c .before .before .settings-at .ensures) ∙ c .n .given .1)
+    let v = c .settings .given .0 in
+    head-said (s2 c .args .input .now) (a2 c) (v .0) (v .1 .0) (e-of c) (sym (c .before .before .settings-at .ensures) ∙ c .settings .given .1)
 
-settled : (c : tie.After-n)
-    → (isEnded (s2 c .args .input .now) (nextAt (s2 c .args .input .now) 0) && isSettings (lineAt (s2 c .args .input .now) (nextAt (s2 c .args .input .now) 0))) ≡ true
+settled : (c : tie.After-settings)
+    → (isEnded (s2 c .args .input .now) (nextAt (s2 c .args .input .now) 0)
+    && isSettings (lineAt (s2 c .args .input .now) (nextAt (s2 c .args .input .now) 0))) ≡ true
 settled c =
     let input = s2 c .args .input .now in
-    let v = c .n .given .0 in
-    subst (λ (x : ℕ). (isEnded input x && isSettings (lineAt input x)) ≡ true) (next-at (e2 c))
-    (head-both input (a2 c) (v .0) (v .1 .0) (v .1 .1 .0) (v .1 .1 .1 .0) (v .1 .1 .1 .1 .0) (e-of c) (headed c))
+    let v = c .settings .given .0 in
+    subst (λ (x : ℕ). (isEnded input x && isSettings (lineAt input x)) ≡ true) (first (e2 c) .next)
+    (head-both input (a2 c) (v .0) (v .1 .0) (e-of c) (headed c))
 
-second : (c : tie.After-n) → e-of c + 1 ≡ nextAt (s2 c .args .input .now) (nextAt (s2 c .args .input .now) 0)
+second : (c : tie.After-settings) → e-of c + 1 ≡ nextAt (s2 c .args .input .now) (nextAt (s2 c .args .input .now) 0)
 second c =
     let input = s2 c .args .input .now in
-    let v = c .n .given .0 in
-    head-next input (a2 c) (v .0) (v .1 .0) (v .1 .1 .0) (v .1 .1 .1 .0) (v .1 .1 .1 .1 .0) (e-of c) (headed c) ∙ ap (nextAt input) (next-at (e2 c))
+    let v = c .settings .given .0 in
+    head-next input (a2 c) (v .0) (v .1 .0) (e-of c) (headed c) ∙ ap (nextAt input) (first (e2 c) .next)
+
+-- ---- after the second line of names
+abbrev f3 : tie.Else3 → tie.After-settings
+f3 c = c .before .before .before .before
+
+third : (c : tie.Else3) → Named messageNames (s2 (f3 c) .args .input .now) (e-of (f3 c) + 1) (c .before .after-names2 .result)
+third c =
+    let F = f3 c in
+    names-said messageNames (s2 F .args .input .now) (e-of F + 1) (c .before .after-names2 .result) (c .before .after-names2 .ensures) (c .if3 .left)
 
 wrong-requires : tie.Need-wrong-requires
 wrong-requires c κs = search needs
@@ -86,15 +89,14 @@ returns-2 c =
     let A = c .before .before in
     let I = A .before .before in
     let input = I .before .before .args .input .now in
-    c .wrong2 .ensures ∙ ap fileOf (sym (read-unnamed input (I .if1 .left) (names-zero settingsNames input 0 (sym (A .after-names .ensures) ∙ c .before .if2 .taken))))
+    let w = names-none settingsNames input 0 (A .after-names .result) (A .after-names .ensures) (c .before .if2 .taken) in
+    c .wrong2 .ensures ∙ ap fileOf (sym (read-unnamed input (I .if1 .left) w))
 
 settings-at-requires : tie.Need-settings-at-requires
-settings-at-requires c κs =
-    let input = s1 c .args .input .now in
-    omega (arith, next-at c, next-is input 0, ended-lt input 0 (named-ended settingsNames input 0 (named c)))
+settings-at-requires c κs = first c .most
 
-enum-known-n : tie.Need-enum-known-n
-enum-known-n c = search needs
+enum-known-settings : tie.Need-enum-known-settings
+enum-known-settings c = search needs
 
 enum-told : tie.Need-enum-told
 enum-told c = search needs
@@ -110,24 +112,20 @@ returns-3 c =
     let input = s1 E .args .input .now in
     let w = head-none input (E .before .after-names .result) (sym (A .settings-at .ensures) ∙ T .enum-told .given .1) in
     c .wrong3 .ensures
-    ∙ ap fileOf (sym (read-unset input (short E) (named E)
-    (subst (λ (x : ℕ). (isEnded input x && isSettings (lineAt input x)) ≡ false) (next-at E) w)))
+    ∙ ap fileOf (sym (read-unset input (short E) (first E .named)
+    (subst (λ (x : ℕ). (isEnded input x && isSettings (lineAt input x)) ≡ false) (first E .next) w)))
 
 add-after-names : tie.Need-add-after-names
 add-after-names c =
     let F = c .before in
-    let S = s2 F in
-    let v = F .n .given .0 in
-    omega (arith, head-end (S .args .input .now) (a2 F) (v .0) (v .1 .0) (v .1 .1 .0) (v .1 .1 .1 .0) (v .1 .1 .1 .1 .0) (v .1 .1 .1 .1 .1 .0) (headed F), short (e2 F))
+    let v = F .settings .given .0 in
+    omega (arith, head-end (s2 F .args .input .now) (a2 F) (v .0) (v .1 .0) (e-of F) (headed F), short (e2 F))
 
 slice-aggregate-after-names-2 : tie.Need-slice-aggregate-after-names-2
 slice-aggregate-after-names-2 c = search needs
 
 after-names-requires-2 : tie.Need-after-names-requires-2
-after-names-requires-2 c κs =
-    let F = c .before .before in
-    let v = F .n .given .0 in
-    omega (arith, head-end (s2 F .args .input .now) (a2 F) (v .0) (v .1 .0) (v .1 .1 .0) (v .1 .1 .1 .0) (v .1 .1 .1 .1 .0) (v .1 .1 .1 .1 .1 .0) (headed F))
+after-names-requires-2 c κs = search needs
 
 wrong-requires-4 : tie.Need-wrong-requires-4
 wrong-requires-4 c κs = search needs
@@ -137,33 +135,24 @@ returns-4 c =
     let N = c .before .before in
     let F = N .before .before .before in
     let input = s2 F .args .input .now in
-    let w = names-zero messageNames input (e-of F + 1) (sym (N .after-names2 .ensures) ∙ c .before .if3 .taken) in
+    let w = names-none messageNames input (e-of F + 1) (N .after-names2 .result) (N .after-names2 .ensures) (c .before .if3 .taken) in
     c .wrong4 .ensures
-    ∙ ap fileOf (sym (read-untold input (short (e2 F)) (named (e2 F)) (settled F) (ap (isNames messageNames input) (sym (second F)) ∙ w)))
+    ∙ ap fileOf (sym (read-untold input (short (e2 F)) (first (e2 F) .named) (settled F) (ap (isNames messageNames input) (sym (second F)) ∙ w)))
 
 contents-requires : tie.Need-contents-requires
 contents-requires c κs =
-    let N = c .before in
-    let F = N .before .before .before in
-    let S = s2 F in
-    let input = S .args .input .now in
-    let v = F .n .given .0 in
-    let y = names-next messageNames input (e-of F + 1) (λ z. c .if3 .left (N .after-names2 .ensures ∙ z)) in
-    let q = N .after-names2 .ensures ∙ cond-yes (isNames messageNames input (e-of F + 1)) (nextAt input (e-of F + 1)) 0 y in
-    head-opened input (a2 F) (v .0) (v .1 .0) (v .1 .1 .0) (v .1 .1 .1 .0) (v .1 .1 .1 .1 .0) (v .1 .1 .1 .1 .1 .0) (headed F) (short (e2 F)) (N .after-names2 .result)
-    (omega (arith, q, next-is input (e-of F + 1)))
-    (omega (arith, q, next-is input (e-of F + 1), ended-lt input (e-of F + 1) (named-ended messageNames input (e-of F + 1) y)))
+    let F = f3 c in
+    let v = F .settings .given .0 in
+    head-opened (s2 F .args .input .now) (a2 F) (v .0) (v .1 .0) (e-of F) (headed F) (short (e2 F))
+    (c .before .after-names2 .result) (third c .least) (third c .most)
 
 returns-5 : tie.Need-returns-5
 returns-5 c =
-    let N = c .before .before in
-    let F = N .before .before .before in
-    let input = s2 F .args .input .now in
-    let v = F .n .given .0 in
-    let y = names-next messageNames input (e-of F + 1) (λ z. c .before .if3 .left (N .after-names2 .ensures ∙ z)) in
-    read-contents input (a2 F) (v .0) (v .1 .0) (v .1 .1 .0) (v .1 .1 .1 .0) (v .1 .1 .1 .1 .0) (e-of F) (headed F) (short (e2 F)) (named (e2 F)) (next-at (e2 F)) y
-    (N .after-names2 .result) (N .after-names2 .ensures ∙ cond-yes (isNames messageNames input (e-of F + 1)) (nextAt input (e-of F + 1)) 0 y)
-    (c .contents .result) (c .contents .ensures)
+    let N = c .before in
+    let F = f3 N in
+    let v = F .settings .given .0 in
+    read-contents (s2 F .args .input .now) (a2 F) (v .0) (v .1 .0) (e-of F) (headed F) (short (e2 F)) (first (e2 F) .named) (first (e2 F) .next)
+    (third N .named) (N .before .after-names2 .result) (third N .next) (c .contents .result) (c .contents .ensures)
 
 pub read-spec : {M : Type 1} → statement M
 read-spec =
@@ -176,7 +165,7 @@ read-spec =
     wrong-requires-2
     returns-2
     settings-at-requires
-    enum-known-n
+    enum-known-settings
     enum-told
     wrong-requires-3
     returns-3

@@ -92,7 +92,7 @@ pub fn decode(tally: &mut Tally, random: &mut Random, counts: &mut Counts) -> Sa
     let answer = raw::decode(n, t, k, lent_slots.bytes(), lent_block.bytes_mut());
     let expected = match code::decode(n as u64, t as u64, k as u64, &slots, &mut block) {
         Decoded::Block => 0,
-        Decoded::Beyond => 9,
+        Decoded::Beyond => 255,
         Decoded::Refused(number) => number,
     };
     let mut compare = || {
@@ -103,7 +103,7 @@ pub fn decode(tally: &mut Tally, random: &mut Random, counts: &mut Counts) -> Sa
     compare().map_err(|text| format!("n {n}, t {t}, k {k}: {text}"))?;
     match answer {
         0 => counts.blocks += 1,
-        9 => counts.beyonds += 1,
+        255 => counts.beyonds += 1,
         _ => counts.decode_refused += 1,
     }
     Ok(())

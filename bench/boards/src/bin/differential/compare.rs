@@ -117,7 +117,7 @@ pub struct Start {
     pub sender: usize,
 }
 
-/// A start on both sides, with a state of `length` random bytes lent to the library.
+/// A start on both sides, with a state of `length` random bytes lent to the library; refused, they stay.
 pub fn start(
     tally: &mut Tally,
     random: &mut Random,
@@ -138,8 +138,10 @@ pub fn start(
     let bytes = lent_block.bytes();
     let number = raw::start(n, t, k, own, sender, bytes, lent_state.bytes_mut());
     let (expected, after, expected_bytes) = if length == state::LENGTH {
-        let (number, after) = controller::start(n, t, k, own, sender, block);
-        (number, after, state::to_bytes(&after))
+        match controller::start(n, t, k, own, sender, block) {
+            (0, after) => (0, after, state::to_bytes(&after)),
+            (refused, _) => (refused, state::from_bytes(&dirty), dirty),
+        }
     } else {
         (6, State::default(), dirty)
     };

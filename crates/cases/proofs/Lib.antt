@@ -1,0 +1,2 @@
+-- Laws of digests.
+pub mod Laws

@@ -1,0 +1,2 @@
+-- Random numbers and digests.
+pub mod Random

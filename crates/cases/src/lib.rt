@@ -1,0 +1,201 @@
+// What the programs that run cases and print them have in common: random numbers, digests, bytes and lengths of lent slices, and printing to
+// standard output. No contract can say what is printed.
+use libc::STDOUT_FILENO;
+ghost use mathlib.Core.Path.{_≡_};
+ghost use mathlib.Core.Bool.{cond, _&&_};
+ghost use Prim.Native.Nat.{_/_, _%_, _≤_};
+ghost use lib.Dec.{eqb, ltb};
+ghost use lib.ListN.{length, replicate};
+ghost use Rattle.lists.specs.Sum.{ind};
+ghost use Rattle.io.specs.Counts.{Counts};
+ghost use Rattle.cases.specs.Random.{next as Random·next, mixed, seeded, drawn, digested};
+
+// The generator: x times 1664525 plus 1013904223, modulo 2 to the 32.
+pub fn next(x: u64) -> u64
+    ensures { λ r. ⌜ r ≡ Random·next x ⌝ }
+{
+    (x % 4294967296 * 1664525 + 1013904223) % 4294967296
+}
+
+// The generator applied to the sum.
+pub fn mix(x: u64, y: u64) -> u64
+    ensures { λ r. ⌜ r ≡ mixed x y ⌝ }
+{
+    next(std::num::wrapping_add_u64(x, y))
+}
+
+// A seed from four numbers.
+pub fn seed(a: u64, b: usize, c: usize, d: usize) -> u64
+    ensures { λ r. ⌜ r ≡ seeded a b c d ⌝ }
+{
+    mix(mix(mix(a, b as u64), c as u64), d as u64)
+}
+
+// 16 bits for a seed, a purpose and two numbers.
+pub fn draw(a: u64, b: usize, c: usize, d: usize) -> usize
+    ensures { λ r. ⌜ r ≡ drawn a b c d ⌝ }
+{
+    (seed(a, b, c, d) / 65536) as usize
+}
+
+// The low eight bits.
+pub fn byte(x: usize) -> u8
+    ensures { λ r. ⌜ r ≡ x % 256 ⌝ }
+{
+    (x % 256) as u8
+}
+
+// The low 16 bits.
+pub fn word(x: usize) -> u16
+    ensures { λ r. ⌜ r ≡ x % 65536 ⌝ }
+{
+    (x % 65536) as u16
+}
+
+fn of_byte(x: u8) -> u64
+    ensures { λ r. ⌜ r ≡ x ⌝ }
+{
+    x as u64
+}
+
+fn of_word(x: u16) -> u64
+    ensures { λ r. ⌜ r ≡ x ⌝ }
+{
+    x as u64
+}
+
+// A digest of d and the bytes of a slice.
+pub fn digest(d: u64, s: &[u8]) -> u64
+    ensures { λ r. ⌜ r ≡ digested d (now (s .entry)) ⌝ }
+{
+    let mut r = d;
+    let mut i: usize = 0;
+    while i < s.len() {
+        r = mix(r, of_byte(s[i]));
+        i += 1;
+    }
+    r
+}
+
+// The same of words.
+pub fn digest_words(d: u64, s: &[u16]) -> u64
+    ensures { λ r. ⌜ r ≡ digested d (now (s .entry)) ⌝ }
+{
+    let mut r = d;
+    let mut i: usize = 0;
+    while i < s.len() {
+        r = mix(r, of_word(s[i]));
+        i += 1;
+    }
+    r
+}
+
+// 1 where both are the same, else 0: for a count of cases.
+pub fn is_same(a: u8, b: u8) -> u64
+    ensures { λ r. ⌜ (r ≡ ind (eqb a b)) × (r ≤ 1) ⌝ }
+{
+    if a == b {
+        return 1;
+    }
+    0
+}
+
+// Whether index i is one of t: every third, from index 1 on.
+pub fn is_third(t: usize, i: usize) -> bool
+    ensures { λ r. ⌜ r ≡ (eqb (i % 3) 1 && ltb (i / 3) t) ⌝ }
+{
+    if i % 3 == 1 {
+        return i / 3 < t;
+    }
+    false
+}
+
+// The length x for a part of s; 0 where s is shorter.
+pub fn fitting(x: usize, s: &[u8]) -> usize
+    ensures { λ r. ⌜ Counts r (now (s .entry)) ⌝ }
+    ensures { λ r. ⌜ r ≡ cond (ltb (length (now (s .entry))) x) 0 x ⌝ }
+{
+    if s.len() < x {
+        return 0;
+    }
+    x
+}
+
+// Each byte of s becomes v.
+pub fn fill(s: &mut [u8], v: u8)
+    ensures { λ _. ⌜ now (s .exit) ≡ replicate (length (now (s .entry))) v ⌝ }
+{
+    for i in 0..s.len() {
+        s[i] = v;
+    }
+}
+
+// Prints a text.
+pub fn text(s: &[u8]) {
+    io::write_all(STDOUT_FILENO, s);
+}
+
+pub fn newline() {
+    text(b"\n");
+}
+
+// A number in decimal.
+pub fn decimal(x: usize) {
+    io::print_decimal(STDOUT_FILENO, x as u64);
+}
+
+// A space and a number.
+fn number(x: usize) {
+    text(b" ");
+    decimal(x);
+}
+
+// A text, then a space and a number for each.
+pub fn numbers(name: &[u8], xs: &[usize]) {
+    text(name);
+    let mut i: usize = 0;
+    while i < xs.len() {
+        number(xs[i]);
+        i += 1;
+    }
+}
+
+// A line: the same for bytes.
+pub fn byte_line(name: &[u8], xs: &[u8]) {
+    text(name);
+    let mut i: usize = 0;
+    while i < xs.len() {
+        byte_number(xs[i]);
+        i += 1;
+    }
+    newline();
+}
+
+fn byte_number(x: u8) {
+    number(x as usize);
+}
+
+fn hex_byte(x: u8) {
+    io::print_hex(STDOUT_FILENO, x as u64, 2);
+}
+
+// A space, and two hexadecimal digits for each byte; a dash for no byte.
+pub fn hex(s: &[u8]) {
+    text(b" ");
+    if s.len() == 0 {
+        text(b"-");
+        return;
+    }
+    let mut i: usize = 0;
+    while i < s.len() {
+        hex_byte(s[i]);
+        i += 1;
+    }
+}
+
+// Ends a line: a space, and a digest in eight hexadecimal digits.
+pub fn end_digest(d: u64) {
+    text(b" ");
+    io::print_hex(STDOUT_FILENO, d, 8);
+    newline();
+}

@@ -1,0 +1,42 @@
+-- `star_cases::sizes` is safe and ends.
+use borrow.Author.Needs.{needs}
+use Prim.Native.Nat.{_-_, _≤_}
+use Rattle.star_cases.proofs.sizes.Statement.{statement}
+use Rattle.star_cases.proofs.sizes.Tie as tie
+
+abbrev Inv-loop : tie.InvT-loop
+Inv-loop x₀ x = x ≤ 65
+
+abbrev μ-loop : tie.MeasureT-loop
+μ-loop x₀ x = 65 - x
+
+loop-holds : tie.Need-loop-holds Inv-loop μ-loop
+loop-holds c = search needs
+
+play-at-requires : tie.Need-play-at-requires Inv-loop μ-loop
+play-at-requires c κs = search needs
+
+add-x : tie.Need-add-x Inv-loop μ-loop
+add-x c = search needs
+
+loop-less : tie.Need-loop-less Inv-loop μ-loop
+loop-less c = search needs
+
+loop-again : tie.Need-loop-again Inv-loop μ-loop
+loop-again c = search needs
+
+returns : tie.Need-returns Inv-loop μ-loop
+returns c = search needs
+
+pub sizes-spec : {M : Type 1} → statement M
+sizes-spec =
+    tie.close
+    (tie.spec
+    Inv-loop
+    μ-loop
+    loop-holds
+    play-at-requires
+    add-x
+    loop-less
+    loop-again
+    returns)

@@ -1,0 +1,113 @@
+-- `state_bytes::put_field` meets its contract, field by field.
+use Rattle.state_bytes.proofs.Fields.{number-field, outcome-field, matrix-field, weak-field, core-field, number-put, rows-put}
+use Rattle.state_bytes.specs.State.{littleEndian, widthOf}
+use lib.ListN.{length}
+use denote.Ref.{now}
+use native.Mathlib.Omega.{arith}
+use mathlib.Core.Path.{_≡_, sym, ap, _∙_}
+use borrow.Author.Needs.{needs}
+use Rattle.state_bytes.proofs.put_field.Statement.{statement}
+use Rattle.state_bytes.proofs.put_field.Tie as tie
+
+number-requires : tie.Need-number-requires
+number-requires c κs = search needs
+
+put-requires : tie.Need-put-requires
+put-requires c κs = search needs
+
+same-length : tie.Need-same-length
+same-length c = search needs
+
+returns : tie.Need-returns
+returns c =
+    let S = c .before .before .before .before .before .before .before in
+    let a = S .args in
+    let x = c .before .before .before .number in
+    number-put (a .s) (a .i) (c .before .before .put .last .0) (x .result) (length (now (a .bytes)))
+    (number-field (a .s) (a .i) (c .before .before .before .before .before .if1 .taken) ∙ ap (littleEndian (widthOf (a .i))) (sym (x .ensures))) (S .pre .1) (c .before .before .put .ensures)
+
+outcome-number-requires : tie.Need-outcome-number-requires
+outcome-number-requires c κs = search needs
+
+cast-put : tie.Need-cast-put
+cast-put c = search needs
+
+put-requires-2 : tie.Need-put-requires-2
+put-requires-2 c κs = search needs
+
+same-length-2 : tie.Need-same-length-2
+same-length-2 c = search needs
+
+returns-2 : tie.Need-returns-2
+returns-2 c =
+    let S = c .before .before .before .before .before .before .before .before in
+    let a = S .args in
+    let x = c .before .before .before .outcome-number in
+    number-put (a .s) (a .i) (c .before .before .put2 .last .0) (x .result) (length (now (a .bytes)))
+    (outcome-field (a .s) (a .i) (c .before .before .before .before .before .if2 .taken) ∙ ap (littleEndian (widthOf (a .i))) (sym (x .ensures))) (S .pre .1) (c .before .before .put2 .ensures)
+
+write-rows-requires : tie.Need-write-rows-requires
+write-rows-requires c κs = search needs
+
+same-length-3 : tie.Need-same-length-3
+same-length-3 c = search needs
+
+returns-3 : tie.Need-returns-3
+returns-3 c =
+    let S = c .before .before .before .before .before .before .before .before .before .before in
+    let a = S .args in
+    rows-put (a .s) (a .i) (c .before .before .write-rows .last .0) (a .s .matrix) (now (a .bytes)) (matrix-field (a .s) (a .i) (c .before .before .before .before .before .before .if3 .taken)) (S .pre .1)
+    (c .before .before .write-rows .ensures)
+
+write-rows-requires-2 : tie.Need-write-rows-requires-2
+write-rows-requires-2 c κs = search needs
+
+same-length-4 : tie.Need-same-length-4
+same-length-4 c = search needs
+
+returns-4 : tie.Need-returns-4
+returns-4 c =
+    let S = c .before .before .before .before .before .before .before .before .before .before .before in
+    let a = S .args in
+    rows-put (a .s) (a .i) (c .before .before .write-rows2 .last .0) (a .s .weak) (now (a .bytes)) (weak-field (a .s) (a .i) (c .before .before .before .before .before .before .if4 .taken)) (S .pre .1)
+    (c .before .before .write-rows2 .ensures)
+
+cast-put-2 : tie.Need-cast-put-2
+cast-put-2 c = search needs
+
+put-requires-3 : tie.Need-put-requires-3
+put-requires-3 c κs = search needs
+
+same-length-5 : tie.Need-same-length-5
+same-length-5 c = search needs
+
+returns-5 : tie.Need-returns-5
+returns-5 c =
+    let S = c .before .before .before .before .before .before .before .before .before .before in
+    let a = S .args in
+    let last : a .i ≡ 9 = omega arith in
+    number-put (a .s) (a .i) (c .before .before .put3 .last .0) (a .s .core) (length (now (a .bytes))) (core-field (a .s) (a .i) last) (S .pre .1) (c .before .before .put3 .ensures)
+
+pub put-field-spec : {M : Type 1} → statement M
+put-field-spec =
+    tie.close
+    (tie.spec
+    number-requires
+    put-requires
+    same-length
+    returns
+    outcome-number-requires
+    cast-put
+    put-requires-2
+    same-length-2
+    returns-2
+    write-rows-requires
+    same-length-3
+    returns-3
+    write-rows-requires-2
+    same-length-4
+    returns-4
+    cast-put-2
+    put-requires-3
+    same-length-5
+    returns-5)

@@ -1,0 +1,117 @@
+// The message lines, into the table of places.
+ghost use mathlib.Core.Path.{_≡_};
+ghost use mathlib.Core.List.{[]};
+ghost use Prim.Native.Nat.{_+_, _^_, _<_};
+ghost use lib.ListN.{length};
+ghost use Rattle.settings.specs.Valid.{Coded};
+ghost use Rattle.system_file.specs.Form.{readFrom};
+ghost use Rattle.system_file.specs.Table.{tableSize, tableOf};
+ghost use Rattle.system_file.specs.Steps.{lineIn, entryAt, tableAt, bare, linesOf, tableIn, Started};
+use crate::table;
+use settings::Settings;
+use text::lines;
+use text::lines::Field;
+
+// What a message line says, with the byte of the file where its message starts.
+enum Line {
+    Said {
+        round: usize,
+        from: usize,
+        to: usize,
+        place: usize,
+    },
+    Wrong,
+}
+
+// A message line that was entered in the table: its sender, and where the next line starts.
+enum Entry {
+    Made { from: usize, next: usize },
+    Wrong,
+}
+
+// All message lines: the faulty controllers, or the first wrong line.
+pub(crate) enum Lines {
+    Right(u16),
+    Wrong(usize),
+}
+
+// The message lines from `start` on, into the table.
+pub(crate) fn read_messages(input: &[u8], start: usize, s: Settings, places: &mut [u16]) -> Lines
+    requires { ⌜ Started (now input) s start ⌝ }
+    requires { ⌜ now places ≡ tableOf [] ⌝ }
+    ensures { λ r. ⌜ r ≡ linesOf (readFrom (length (now (input .entry))) (now (input .entry)) (bare s []) start 4) ⌝ }
+    ensures { λ _. ⌜ now (places .exit) ≡ tableIn (readFrom (length (now (input .entry))) (now (input .entry)) (bare s []) start 4) (now (places .exit)) ⌝ }
+{
+    let mut at = start;
+    let mut line: usize = 4;
+    let mut faulty: u16 = 0;
+    while at < input.len() {
+        match enter_line(input, at, s, places) {
+            Entry::Made { from, next } => {
+                faulty = bitset::insert(faulty, from - 1);
+                at = next;
+                line += 1;
+            }
+            Entry::Wrong => {
+                return Lines::Wrong(line);
+            }
+        }
+    }
+    Lines::Right(faulty)
+}
+
+// The message line at `at`, into the table.
+fn enter_line(input: &[u8], at: usize, s: Settings, places: &mut [u16]) -> Entry
+    requires { ⌜ Started (now input) s at × (length (now places) ≡ tableSize) ⌝ }
+    ensures { λ r. ⌜ r ≡ entryAt s (now (input .entry)) at (now (places .entry)) ⌝ }
+    ensures { λ _. ⌜ now (places .exit) ≡ tableAt s (now (input .entry)) at (now (places .entry)) ⌝ }
+{
+    let l = lines::line_at(input, at);
+    let end = at + l.len();
+    if input.len() <= end {
+        return Entry::Wrong;
+    }
+    let Line::Said {
+        round,
+        from,
+        to,
+        place,
+    } = message_line(l, at, s)
+    else {
+        return Entry::Wrong;
+    };
+    if table::enter(places, round, from, to, place) {
+        return Entry::Made {
+            from,
+            next: end + 1,
+        };
+    }
+    Entry::Wrong
+}
+
+// The message in a line that stands at `at`.
+fn message_line(l: &[u8], at: usize, s: Settings) -> Line
+    requires { ⌜ Coded (s .n) (s .t) (s .k) × (at + length (now l) < 2 ^ 64) ⌝ }
+    ensures { λ r. ⌜ r ≡ lineIn s (now (l .entry)) at ⌝ }
+{
+    let Field::Said(round, a1) = lines::number(l, 0, 1, 3 * s.t as u32 + 8) else {
+        return Line::Wrong;
+    };
+    let Field::Said(from, a2) = lines::number(l, a1, 1, s.n as u32) else {
+        return Line::Wrong;
+    };
+    let Field::Said(to, a3) = lines::number(l, a2, 0, s.n as u32) else {
+        return Line::Wrong;
+    };
+    let message = lines::tail(l, a3);
+    let len = wire::message_length(s.n, s.t, s.k, round as usize);
+    if !text::is_bytes(message, len) {
+        return Line::Wrong;
+    }
+    Line::Said {
+        round: round as usize,
+        from: from as usize,
+        to: to as usize,
+        place: at + (l.len() - message.len()),
+    }
+}
