@@ -7,7 +7,7 @@ use Rattle.agreement.specs.Agreement.{Correct, Agreement, OnePlan}
 use Rattle.agreement.proofs.System.{coded, later}
 use Rattle.agreement.proofs.Coding.{Code, code-laws}
 use Rattle.agreement.proofs.Graph.{Graph, graph-laws}
-use Rattle.agreement.proofs.Cores.{matrixOf}
+use Rattle.agreement.proofs.Cores.{lastMatrix}
 use Rattle.agreement.proofs.Ends.{set-by-last}
 use Rattle.agreement.proofs.Verdict.{verdict, sender-verdict}
 
@@ -15,7 +15,7 @@ module _ (code : (n t k : ℕ) → Coded n t k → Code n t k) (graph : (n t : �
   pub concluded : Agreement
   concluded S H =
       let C : (i : ℕ) (f : Correct S i) → Code (S .settings .n) (S .settings .t) (S .settings .k) = λ i f. code (S .settings .n) (S .settings .t) (S .settings .k) (coded S H i f) in
-      let G : (i : ℕ) (f : Correct S i) → Graph (matrixOf S i) (S .settings .n) (S .settings .t) = λ i f. graph (S .settings .n) (S .settings .t) (coded S H i f .quorum) (matrixOf S i) in
+      let G : (i : ℕ) (f : Correct S i) → Graph (lastMatrix S i) (S .settings .n) (S .settings .t) = λ i f. graph (S .settings .n) (S .settings .t) (coded S H i f .quorum) (lastMatrix S i) in
       record {
         set = λ i f. set-by-last S H i f;
         later = later S H;

@@ -19,37 +19,37 @@ use Rattle.wire.specs.declared.Round.{Round}
 use Rattle.wire.specs.declared.Round.the-variants.{Pieces}
 use Rattle.wire.specs.Length.{blockLength, kindLayout, roundLayout}
 use Rattle.wire.specs.Slot.{width, messageOf, bytes, slots}
-use Rattle.wire.proofs.Laws.{call-send, call-receive, call-compare, round-block, round-pieces, round-marks, length-block, length-pieces, length-marks, block-length, Sized, sized-bytes}
+use Rattle.wire.proofs.Laws.{call-send, call-receive, call-compare, round-block, round-pieces, round-marks, row-block, row-pieces, row-marks, block-length-is, Sized, sized-bytes}
 use Rattle.reed_solomon.specs.Encode.{pieceOf}
 use Rattle.dispersal.specs.Dispersal.{sentBlock, receivedBlock, twoPieces, sentPieces, isMarked, marksOf, marksMessage, sentMarks}
-use Rattle.dispersal.proofs.Laws.{sent-block, received-message, received-length, received-all, sent-pieces, two-pieces-is, marks-set, marked-true, true-marked, sent-marks}
+use Rattle.dispersal.proofs.Laws.{sent-block, received-message, length-received, received-all, sent-pieces, two-pieces-is, marks-set, marked-yes, yes-marked, sent-marks}
 use Rattle.protocol.specs.Calls.{Carried, sendCall, receiveCall, compareCall}
 use Rattle.protocol.proofs.Laws.{of-send, of-receive, of-compare}
-use Rattle.agreement.specs.Run.{Held}
+use Rattle.agreement.specs.Run.{Local}
 use Rattle.agreement.specs.Agreement.{System, Correct, Supposed, call, layoutOf}
-use Rattle.agreement.proofs.System.{coded, numbered, block-size, call-at, call-first, round-length, outbox-long, block-long, performs-kind, sends-by, block-from, delivered}
+use Rattle.agreement.proofs.System.{coded, numbered, length-block, call-at, call-first, length-round, outbox-long, block-long, performs-kind, sends-by, block-from, delivered}
 use Rattle.agreement.proofs.Coding.{IsBlock, Code}
 
 -- the block of i after call 2
-abbrev pub held : System → ℕ → List ℕ
-held S i = call S i 2 .after .block
+abbrev pub heldBlock : System → ℕ → List ℕ
+heldBlock S i = call S i 2 .after .block
 
 module _ (S : System) (H : Supposed S) where
   module _ (i : ℕ) (f : Correct S i) where
     pub len-1 : layoutOf S 1 .length ≡ blockLength (S .settings .k) (S .settings .t)
-    len-1 = round-length S H i f 1 (round-block (S .settings .t)) (length-block (S .settings .n) (S .settings .t) (S .settings .k))
+    len-1 = length-round S H i f 1 (round-block (S .settings .t)) (row-block (S .settings .n) (S .settings .t) (S .settings .k))
 
     pub len-2 : layoutOf S 2 .length ≡ 2 * S .settings .k
-    len-2 = round-length S H i f 2 (round-pieces (S .settings .t)) (length-pieces (S .settings .n) (S .settings .t) (S .settings .k))
+    len-2 = length-round S H i f 2 (round-pieces (S .settings .t)) (row-pieces (S .settings .n) (S .settings .t) (S .settings .k))
 
     layout-2 : layoutOf S 2 ≡ kindLayout Pieces (S .settings .n) (S .settings .t) (S .settings .k)
     layout-2 = ap (λ (x : Round). kindLayout x (S .settings .n) (S .settings .t) (S .settings .k)) (round-pieces (S .settings .t))
 
     pub len-3 : layoutOf S 3 .length ≡ 2
-    len-3 = round-length S H i f 3 (round-marks (S .settings .t)) (length-marks (S .settings .n) (S .settings .t) (S .settings .k))
+    len-3 = length-round S H i f 3 (round-marks (S .settings .t)) (row-marks (S .settings .n) (S .settings .t) (S .settings .k))
 
     -- ---- call 2
-    received : held S i ≡ receivedBlock (call S i 2 .lent .inbox) (layoutOf S 1) (S .settings .sender) (call S i 2 .before .block)
+    received : heldBlock S i ≡ receivedBlock (call S i 2 .lent .inbox) (layoutOf S 1) (S .settings .sender) (call S i 2 .before .block)
     received =
         let m = call S i 2 in
         let r = call-at S H i f 2 (omega arith) (omega arith) in
@@ -61,10 +61,10 @@ module _ (S : System) (H : Supposed S) where
     long-2 : length (call S i 2 .before .block) ≡ layoutOf S 1 .length
     long-2 = block-long S H i f 2 (omega arith) (omega arith) ∙ sym len-1
 
-    pub is-block : IsBlock (S .settings .k) (S .settings .t) (held S i)
+    pub is-block : IsBlock (S .settings .k) (S .settings .t) (heldBlock S i)
     is-block = record {
       size =
-          ap length received ∙ received-length (call S i 2 .lent .inbox) (layoutOf S 1) (S .settings .sender) (call S i 2 .before .block)
+          ap length received ∙ length-received (call S i 2 .lent .inbox) (layoutOf S 1) (S .settings .sender) (call S i 2 .before .block)
           ∙ block-long S H i f 2 (omega arith) (omega arith);
       bytes = λ p.
           subst (λ (l : List ℕ). lib.ListN.getD l p 0 < 256) (sym received)
@@ -72,20 +72,20 @@ module _ (S : System) (H : Supposed S) where
     }
 
     -- round 2: to j the own piece, then piece j
-    pub pieces-sent : call S i 2 .sends ≡ slots (layoutOf S 2) (twoPieces (S .settings .k) (S .settings .t) i (held S i)) (S .settings .n)
+    pub pieces-sent : call S i 2 .sends ≡ slots (layoutOf S 2) (twoPieces (S .settings .k) (S .settings .t) i (heldBlock S i)) (S .settings .n)
     pieces-sent =
         let m = call S i 2 in
         let o = m .lent .outbox in
         sends-by S H i f 2 (omega arith) (omega arith) Receive (call-receive (S .settings .t)) receiveCall of-receive
         (λ s own next. sentPieces (s .n) (s .t) (s .k) own (receivedBlock (m .lent .inbox) (roundLayout (s .n) (s .t) (s .k) (next - 1)) (s .sender) (m .before .block)) o) refl
         ∙ ap (λ (b : List ℕ). sentPieces (S .settings .n) (S .settings .t) (S .settings .k) i b o) (sym received)
-        ∙ sent-pieces (S .settings .n) (S .settings .t) (S .settings .k) i (held S i) (coded S H i f) (numbered S H i f) (is-block .size) o
+        ∙ sent-pieces (S .settings .n) (S .settings .t) (S .settings .k) i (heldBlock S i) (coded S H i f) (numbered S H i f) (is-block .size) o
         (outbox-long S H i f 2 (omega arith) (omega arith) ∙ ap (λ (x : Layout). S .settings .n * width x) layout-2)
-        ∙ ap (λ (x : Layout). slots x (twoPieces (S .settings .k) (S .settings .t) i (held S i)) (S .settings .n)) (sym layout-2)
+        ∙ ap (λ (x : Layout). slots x (twoPieces (S .settings .k) (S .settings .t) i (heldBlock S i)) (S .settings .n)) (sym layout-2)
 
     -- ---- call 3
     unfoldable pub marks : ℕ
-    marks = marksOf (S .settings .n) (S .settings .t) (S .settings .k) i (call S i 3 .lent .inbox) (layoutOf S 2) (held S i)
+    marks = marksOf (S .settings .n) (S .settings .t) (S .settings .k) i (call S i 3 .lent .inbox) (layoutOf S 2) (heldBlock S i)
 
     pub marks-sent : call S i 3 .sends ≡ slots (layoutOf S 3) (λ _. bytes (marksMessage (S .settings .n) marks)) (S .settings .n)
     unfolding marks
@@ -97,25 +97,25 @@ module _ (S : System) (H : Supposed S) where
         sends-by S H i f 3 (omega arith) (omega arith) Compare (call-compare (S .settings .t)) compareCall of-compare
         (λ s own next. F s own next (m .before .block)) refl
         ∙ ap (F (S .settings) i 3) (block-from S H i f 3 (omega arith) (omega arith))
-        ∙ sent-marks (layoutOf S 3) (S .settings .n) (marksOf (S .settings .n) (S .settings .t) (S .settings .k) i (m .lent .inbox) (layoutOf S 2) (held S i)) o
+        ∙ sent-marks (layoutOf S 3) (S .settings .n) (marksOf (S .settings .n) (S .settings .t) (S .settings .k) i (m .lent .inbox) (layoutOf S 2) (heldBlock S i)) o
         len-3 (outbox-long S H i f 3 (omega arith) (omega arith))
 
     -- the marks as a set
-    pub marks-member : (j : ℕ) → 1 ≤ j → j ≤ S .settings .n → member marks (j - 1) ≡ isMarked (S .settings .k) (S .settings .t) i (call S i 3 .lent .inbox) (layoutOf S 2) (held S i) j
+    pub marks-member : (j : ℕ) → 1 ≤ j → j ≤ S .settings .n → member marks (j - 1) ≡ isMarked (S .settings .k) (S .settings .t) i (call S i 3 .lent .inbox) (layoutOf S 2) (heldBlock S i) j
     unfolding marks
     marks-member j h l =
         let e : j - 1 + 1 ≡ j = omega arith in
         ap (λ (s : ℕ). member s (j - 1))
-        (marks-set (S .settings .n) (S .settings .t) (S .settings .k) i (held S i) (coded S H i f) (numbered S H i f) (is-block .size) (call S i 3 .lent .inbox) (layoutOf S 2))
-        ∙ member-set (S .settings .n) (λ x. isMarked (S .settings .k) (S .settings .t) i (call S i 3 .lent .inbox) (layoutOf S 2) (held S i) (x + 1)) (j - 1) (omega arith)
-        ∙ ap (isMarked (S .settings .k) (S .settings .t) i (call S i 3 .lent .inbox) (layoutOf S 2) (held S i)) e
+        (marks-set (S .settings .n) (S .settings .t) (S .settings .k) i (heldBlock S i) (coded S H i f) (numbered S H i f) (is-block .size) (call S i 3 .lent .inbox) (layoutOf S 2))
+        ∙ member-set (S .settings .n) (λ x. isMarked (S .settings .k) (S .settings .t) i (call S i 3 .lent .inbox) (layoutOf S 2) (heldBlock S i) (x + 1)) (j - 1) (omega arith)
+        ∙ ap (isMarked (S .settings .k) (S .settings .t) i (call S i 3 .lent .inbox) (layoutOf S 2) (heldBlock S i)) e
 
     pub marks-lt : marks < Prim.Native.Nat._^_ 2 (S .settings .n)
     unfolding marks
     marks-lt =
         subst (λ (s : ℕ). s < Prim.Native.Nat._^_ 2 (S .settings .n))
-        (sym (marks-set (S .settings .n) (S .settings .t) (S .settings .k) i (held S i) (coded S H i f) (numbered S H i f) (is-block .size) (call S i 3 .lent .inbox) (layoutOf S 2)))
-        (set-lt (S .settings .n) (λ x. isMarked (S .settings .k) (S .settings .t) i (call S i 3 .lent .inbox) (layoutOf S 2) (held S i) (x + 1)))
+        (sym (marks-set (S .settings .n) (S .settings .t) (S .settings .k) i (heldBlock S i) (coded S H i f) (numbered S H i f) (is-block .size) (call S i 3 .lent .inbox) (layoutOf S 2)))
+        (set-lt (S .settings .n) (λ x. isMarked (S .settings .k) (S .settings .t) i (call S i 3 .lent .inbox) (layoutOf S 2) (heldBlock S i) (x + 1)))
 
   -- ---- the sender is correct
   module _ (g : Correct S (S .settings .sender)) where
@@ -123,57 +123,57 @@ module _ (S : System) (H : Supposed S) where
     sent =
         let i = S .settings .sender in
         let m = call S i 1 in
-        let long : length (S .block i) ≡ layoutOf S 1 .length = block-size S H i g ∙ sym (len-1 i g) in
+        let long : length (S .block i) ≡ layoutOf S 1 .length = length-block S H i g ∙ sym (len-1 i g) in
         let F : Settings → ℕ → ℕ → List ℕ → List ℕ = λ s own next b.
         sentBlock (roundLayout (s .n) (s .t) (s .k) next) (s .n) own (s .sender) b (m .lent .outbox) in
         sends-by S H i g 1 (omega arith) (omega arith) Send (call-send (S .settings .t)) (λ s b _ o. sendCall s b o) of-send
         (λ s own next. F s own next (m .before .block)) refl
-        ∙ ap (F (S .settings) i 1) (ap (λ (h : Held). h .block) (call-first S H i g))
+        ∙ ap (F (S .settings) i 1) (ap (λ (h : Local). h .block) (call-first S H i g))
         ∙ sent-block (layoutOf S 1) (S .settings .n) i i (S .block i) (m .lent .outbox) refl long (outbox-long S H i g 1 (omega arith) (omega arith))
 
-    pub sender-block : (i : ℕ) → Correct S i → held S i ≡ S .block (S .settings .sender)
+    pub sender-block : (i : ℕ) → Correct S i → heldBlock S i ≡ S .block (S .settings .sender)
     sender-block i f =
-        let long : length (S .block (S .settings .sender)) ≡ layoutOf S 1 .length = block-size S H (S .settings .sender) g ∙ sym (len-1 (S .settings .sender) g) in
+        let long : length (S .block (S .settings .sender)) ≡ layoutOf S 1 .length = length-block S H (S .settings .sender) g ∙ sym (len-1 (S .settings .sender) g) in
         let came : messageOf (call S i 2 .lent .inbox) (layoutOf S 1) (S .settings .sender) ≡ S .block (S .settings .sender) =
         delivered S H (S .settings .sender) i 1 g f (omega arith) (omega arith) (λ _. bytes (S .block (S .settings .sender))) (λ m. sized-bytes (layoutOf S 1) (S .block (S .settings .sender)) long) sent in
         let some : 0 < S .settings .k * (S .settings .t + 1) = mul-pos (coded S H i f .k-least) (omega arith) in
         received i f
         ∙ received-message (call S i 2 .lent .inbox) (layoutOf S 1) (S .settings .sender) (call S i 2 .before .block)
-        (λ z. omega (arith, ap length came, block-size S H (S .settings .sender) g, block-length (S .settings .k) (S .settings .t))) (long-2 i f)
+        (λ z. omega (arith, ap length came, length-block S H (S .settings .sender) g, block-length-is (S .settings .k) (S .settings .t))) (long-2 i f)
         ∙ came
 
   -- ---- marks between two correct controllers
   module _ (C : Code (S .settings .n) (S .settings .t) (S .settings .k)) where
     piece : ℕ → ℕ → List ℕ
-    piece i j = pieceOf (S .settings .k) (S .settings .t) (held S i) j
+    piece i j = pieceOf (S .settings .k) (S .settings .t) (heldBlock S i) j
 
     -- what j reads of i in call 3: i's own piece, then piece j of i's coding
-    pieces-read : (i j : ℕ) → Correct S i → Correct S j → messageOf (call S j 3 .lent .inbox) (layoutOf S 2) i ≡ pieceOf (S .settings .k) (S .settings .t) (held S i) i ++ pieceOf (S .settings .k) (S .settings .t) (held S i) j
+    pieces-read : (i j : ℕ) → Correct S i → Correct S j → messageOf (call S j 3 .lent .inbox) (layoutOf S 2) i ≡ pieceOf (S .settings .k) (S .settings .t) (heldBlock S i) i ++ pieceOf (S .settings .k) (S .settings .t) (heldBlock S i) j
     pieces-read i j f g =
-        delivered S H i j 2 f g (omega arith) (omega arith) (twoPieces (S .settings .k) (S .settings .t) i (held S i))
-        (λ m. subst (Sized (layoutOf S 2)) (sym (two-pieces-is (S .settings .k) (S .settings .t) i (held S i) m))
-        (sized-bytes (layoutOf S 2) (pieceOf (S .settings .k) (S .settings .t) (held S i) i ++ pieceOf (S .settings .k) (S .settings .t) (held S i) m)
-        (length-append (pieceOf (S .settings .k) (S .settings .t) (held S i) i) (pieceOf (S .settings .k) (S .settings .t) (held S i) m)
-        ∙ omega (arith, C .piece-length (held S i) i, C .piece-length (held S i) m, len-2 i f))))
+        delivered S H i j 2 f g (omega arith) (omega arith) (twoPieces (S .settings .k) (S .settings .t) i (heldBlock S i))
+        (λ m. subst (Sized (layoutOf S 2)) (sym (two-pieces-is (S .settings .k) (S .settings .t) i (heldBlock S i) m))
+        (sized-bytes (layoutOf S 2) (pieceOf (S .settings .k) (S .settings .t) (heldBlock S i) i ++ pieceOf (S .settings .k) (S .settings .t) (heldBlock S i) m)
+        (length-append (pieceOf (S .settings .k) (S .settings .t) (heldBlock S i) i) (pieceOf (S .settings .k) (S .settings .t) (heldBlock S i) m)
+        ∙ omega (arith, C .length-piece (heldBlock S i) i, C .length-piece (heldBlock S i) m, len-2 i f))))
         (pieces-sent i f)
-        ∙ ap Rattle.wire.proofs.Laws.content (two-pieces-is (S .settings .k) (S .settings .t) i (held S i) j)
+        ∙ ap Rattle.wire.proofs.Laws.content (two-pieces-is (S .settings .k) (S .settings .t) i (heldBlock S i) j)
 
     -- i marks j: the codings agree at both places
     pub marks-agree : (i j : ℕ) (f : Correct S i) (g : Correct S j) → member (marks i f) (j - 1) ≡ true
-        → (pieceOf (S .settings .k) (S .settings .t) (held S j) j ≡ pieceOf (S .settings .k) (S .settings .t) (held S i) j) × (pieceOf (S .settings .k) (S .settings .t) (held S j) i ≡ pieceOf (S .settings .k) (S .settings .t) (held S i) i)
+        → (pieceOf (S .settings .k) (S .settings .t) (heldBlock S j) j ≡ pieceOf (S .settings .k) (S .settings .t) (heldBlock S i) j) × (pieceOf (S .settings .k) (S .settings .t) (heldBlock S j) i ≡ pieceOf (S .settings .k) (S .settings .t) (heldBlock S i) i)
     marks-agree i j f g y =
         ⊎-elim
-        (λ (e : j ≡ i). (ap (λ (x : ℕ). pieceOf (S .settings .k) (S .settings .t) (held S x) j) e, ap (λ (x : ℕ). pieceOf (S .settings .k) (S .settings .t) (held S x) i) e))
+        (λ (e : j ≡ i). (ap (λ (x : ℕ). pieceOf (S .settings .k) (S .settings .t) (heldBlock S x) j) e, ap (λ (x : ℕ). pieceOf (S .settings .k) (S .settings .t) (heldBlock S x) i) e))
         (λ (n : j ≡ i → ⊥).
-        marked-true (S .settings .k) (S .settings .t) i (call S i 3 .lent .inbox) (layoutOf S 2) (held S i) j (pieceOf (S .settings .k) (S .settings .t) (held S j) j) (pieceOf (S .settings .k) (S .settings .t) (held S j) i)
-        (pieces-read j i g f) (C .piece-length (held S j) j) (coded S H i f .k-least)
+        marked-yes (S .settings .k) (S .settings .t) i (call S i 3 .lent .inbox) (layoutOf S 2) (heldBlock S i) j (pieceOf (S .settings .k) (S .settings .t) (heldBlock S j) j) (pieceOf (S .settings .k) (S .settings .t) (heldBlock S j) i)
+        (pieces-read j i g f) (C .length-piece (heldBlock S j) j) (coded S H i f .k-least)
         (sym (marks-member i f j (g .least) (g .most)) ∙ y) n)
         (same-or-not j i)
 
     pub agree-marks : (i j : ℕ) (f : Correct S i) (g : Correct S j)
-        → pieceOf (S .settings .k) (S .settings .t) (held S j) j ≡ pieceOf (S .settings .k) (S .settings .t) (held S i) j → pieceOf (S .settings .k) (S .settings .t) (held S j) i ≡ pieceOf (S .settings .k) (S .settings .t) (held S i) i
+        → pieceOf (S .settings .k) (S .settings .t) (heldBlock S j) j ≡ pieceOf (S .settings .k) (S .settings .t) (heldBlock S i) j → pieceOf (S .settings .k) (S .settings .t) (heldBlock S j) i ≡ pieceOf (S .settings .k) (S .settings .t) (heldBlock S i) i
         → member (marks i f) (j - 1) ≡ true
     agree-marks i j f g p q =
         marks-member i f j (g .least) (g .most)
-        ∙ true-marked (S .settings .k) (S .settings .t) i (call S i 3 .lent .inbox) (layoutOf S 2) (held S i) j (pieceOf (S .settings .k) (S .settings .t) (held S j) j) (pieceOf (S .settings .k) (S .settings .t) (held S j) i)
-        (pieces-read j i g f) (C .piece-length (held S j) j) (coded S H i f .k-least) p q
+        ∙ yes-marked (S .settings .k) (S .settings .t) i (call S i 3 .lent .inbox) (layoutOf S 2) (heldBlock S i) j (pieceOf (S .settings .k) (S .settings .t) (heldBlock S j) j) (pieceOf (S .settings .k) (S .settings .t) (heldBlock S j) i)
+        (pieces-read j i g f) (C .length-piece (heldBlock S j) j) (coded S H i f .k-least) p q

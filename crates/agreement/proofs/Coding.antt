@@ -13,7 +13,7 @@ use Rattle.wire.specs.Length.{blockLength}
 use Rattle.wire.specs.Slot.{layoutWith, messageOf}
 use Rattle.reed_solomon.specs.Encode.{pieceOf}
 use Rattle.reed_solomon.specs.Decode.{Decodes}
-use Rattle.reed_solomon.proofs.Laws.{piece-length, blocks-equal, pieces-decode}
+use Rattle.reed_solomon.proofs.Laws.{length-piece, blocks-equal, pieces-decode}
 
 -- a block: of the right length, and of bytes
 pub record IsBlock (k t : ℕ) (B : List ℕ) : Type 0 where
@@ -21,7 +21,7 @@ pub record IsBlock (k t : ℕ) (B : List ℕ) : Type 0 where
   pub bytes : Bytes B
 
 pub record Code (n t k : ℕ) : Type 0 where
-  pub piece-length : (B : List ℕ) (i : ℕ) → length (pieceOf k t B i) ≡ k
+  pub length-piece : (B : List ℕ) (i : ℕ) → length (pieceOf k t B i) ≡ k
   -- two blocks whose pieces agree at t + 1 different numbers are the same block
   pub determined : (A B : List ℕ) → IsBlock k t A → IsBlock k t B
       → t + 1 ≤ count n (λ i. same (pieceOf k t A (i + 1)) (pieceOf k t B (i + 1))) → A ≡ B
@@ -31,7 +31,7 @@ pub record Code (n t k : ℕ) : Type 0 where
 
 pub code-laws : (n t k : ℕ) → Coded n t k → Code n t k
 code-laws n t k v = record {
-  piece-length = λ B i. piece-length k t B i;
+  length-piece = λ B i. length-piece k t B i;
   determined = λ A B a b many.
       blocks-equal n t k A B (λ i. same (pieceOf k t A (i + 1)) (pieceOf k t B (i + 1))) (omega (arith, v .quorum .n-most)) (a .size) (b .size) (a .bytes) (b .bytes)
       (λ i l y. same-eq (pieceOf k t A (i + 1)) (pieceOf k t B (i + 1)) y) many;

@@ -21,24 +21,24 @@ use Rattle.protocol.specs.Calls.{coreOf}
 use Rattle.protocol.specs.declared.State.{State}
 use Rattle.protocol.specs.Calls.{Carried, coreCall, chooseCall}
 use Rattle.protocol.proofs.Laws.{of-core, of-choose}
-use Rattle.agreement.specs.Run.{Held}
+use Rattle.agreement.specs.Run.{Local}
 use Rattle.agreement.specs.Agreement.{System, Correct, Supposed, last, call}
 use Rattle.agreement.proofs.System.{coded, call-at, call-next, performs-kind}
 use Rattle.agreement.proofs.Coding.{Code}
 use Rattle.agreement.proofs.Graph.{Graph}
-use Rattle.agreement.proofs.Blocks.{held, is-block, marks, marks-agree}
+use Rattle.agreement.proofs.Blocks.{heldBlock, is-block, marks, marks-agree}
 use Rattle.agreement.proofs.Votes.{correctAt, by-index, to-index, one-matrix, row-is-marks}
 
 -- the matrix after the vote, and the core, of controller i
-abbrev pub matrixOf : System → ℕ → List ℕ
-matrixOf S i = call S i (3 * S .settings .t + 7) .after .state .matrix
+abbrev pub lastMatrix : System → ℕ → List ℕ
+lastMatrix S i = call S i (3 * S .settings .t + 7) .after .state .matrix
 
 module _ (S : System) (H : Supposed S) where
   module _ (i : ℕ) (f : Correct S i) where
     few-rows : S .settings .n ≤ 16
     few-rows = coded S H i f .quorum .n-most
 
-    pub core-of : call S i (3 * S .settings .t + 7) .after .state .core ≡ coreOf (matrixOf S i) (S .settings .n) (S .settings .t)
+    pub core-of : call S i (3 * S .settings .t + 7) .after .state .core ≡ coreOf (lastMatrix S i) (S .settings .n) (S .settings .t)
     core-of =
         let m = call S i (3 * S .settings .t + 7) in
         let r = call-at S H i f (3 * S .settings .t + 7) (omega arith) (omega arith) in
@@ -50,50 +50,50 @@ module _ (S : System) (H : Supposed S) where
         ∙ ap (λ (x : List ℕ). coreOf x (S .settings .n) (S .settings .t)) (sym (ap (λ (s : State). s .matrix) (r .state-is) ∙ ap (λ (x : Carried). x .state .matrix) is))
 
     -- the core at the two calls after it
-    pub core-choose : call S i (3 * S .settings .t + 8) .before .state .core ≡ coreOf (matrixOf S i) (S .settings .n) (S .settings .t)
+    pub core-choose : call S i (3 * S .settings .t + 8) .before .state .core ≡ coreOf (lastMatrix S i) (S .settings .n) (S .settings .t)
     core-choose =
         let e : 3 * S .settings .t + 8 ≡ 3 * S .settings .t + 7 + 1 = omega arith in
         ap (λ (c : ℕ). call S i c .before .state .core) e
-        ∙ ap (λ (h : Held). h .state .core) (call-next S H i f (3 * S .settings .t + 7) (omega arith) (omega arith))
+        ∙ ap (λ (h : Local). h .state .core) (call-next S H i f (3 * S .settings .t + 7) (omega arith) (omega arith))
         ∙ core-of
 
-    pub core-last : call S i (last S) .before .state .core ≡ coreOf (matrixOf S i) (S .settings .n) (S .settings .t)
+    pub core-last : call S i (last S) .before .state .core ≡ coreOf (lastMatrix S i) (S .settings .n) (S .settings .t)
     core-last =
         let e : last S ≡ 3 * S .settings .t + 8 + 1 = omega arith in
         let r = call-at S H i f (3 * S .settings .t + 8) (omega arith) (omega arith) in
         ap (λ (c : ℕ). call S i c .before .state .core) e
-        ∙ ap (λ (h : Held). h .state .core) (call-next S H i f (3 * S .settings .t + 8) (omega arith) (omega arith))
+        ∙ ap (λ (h : Local). h .state .core) (call-next S H i f (3 * S .settings .t + 8) (omega arith) (omega arith))
         ∙ ap (λ (s : State). s .core) (r .state-is)
         ∙ ap (λ (x : Carried). x .state .core) (performs-kind S H i f (3 * S .settings .t + 8) (omega arith) (omega arith) Choose (call-choose (S .settings .t)) chooseCall of-choose)
         ∙ core-choose
 
   -- all correct controllers have one core
-  pub one-core : (i j : ℕ) → Correct S i → Correct S j → coreOf (matrixOf S i) (S .settings .n) (S .settings .t) ≡ coreOf (matrixOf S j) (S .settings .n) (S .settings .t)
+  pub one-core : (i j : ℕ) → Correct S i → Correct S j → coreOf (lastMatrix S i) (S .settings .n) (S .settings .t) ≡ coreOf (lastMatrix S j) (S .settings .n) (S .settings .t)
   one-core i j f g = ap (λ (x : List ℕ). coreOf x (S .settings .n) (S .settings .t)) (one-matrix S H (few-rows i f) i j f g)
 
   -- ---- the core of controller w, which is correct
-  module _ (w : ℕ) (f : Correct S w) (C : Code (S .settings .n) (S .settings .t) (S .settings .k)) (G : Graph (matrixOf S w) (S .settings .n) (S .settings .t)) where
+  module _ (w : ℕ) (f : Correct S w) (C : Code (S .settings .n) (S .settings .t) (S .settings .k)) (G : Graph (lastMatrix S w) (S .settings .n) (S .settings .t)) where
     abbrev pub core : ℕ
-    core = coreOf (matrixOf S w) (S .settings .n) (S .settings .t)
+    core = coreOf (lastMatrix S w) (S .settings .n) (S .settings .t)
 
     -- a word is a block's coding: place x is piece x + 1
     word : ℕ → ℕ → List ℕ
-    word i x = pieceOf (S .settings .k) (S .settings .t) (held S (i + 1)) (x + 1)
+    word i x = pieceOf (S .settings .k) (S .settings .t) (heldBlock S (i + 1)) (x + 1)
 
     code : (i j : ℕ) → i < S .settings .n → j < S .settings .n → correctAt S i ≡ true → correctAt S j ≡ true → (Q : ℕ → Bool) → S .settings .t + 1 ≤ count (S .settings .n) Q
-        → ((x : ℕ) → x < S .settings .n → Q x ≡ true → word i x ≡ word j x) → held S (i + 1) ≡ held S (j + 1)
+        → ((x : ℕ) → x < S .settings .n → Q x ≡ true → word i x ≡ word j x) → heldBlock S (i + 1) ≡ heldBlock S (j + 1)
     unfolding word
     code i j li lj ci cj Q many agree =
-        C .determined (held S (i + 1)) (held S (j + 1)) (is-block S H (i + 1) (by-index S i (li, ci))) (is-block S H (j + 1) (by-index S j (lj, cj)))
+        C .determined (heldBlock S (i + 1)) (heldBlock S (j + 1)) (is-block S H (i + 1) (by-index S i (li, ci))) (is-block S H (j + 1) (by-index S j (lj, cj)))
         (omega (
           arith,
           many,
-          count-mono (S .settings .n) Q (λ x. same (pieceOf (S .settings .k) (S .settings .t) (held S (i + 1)) (x + 1)) (pieceOf (S .settings .k) (S .settings .t) (held S (j + 1)) (x + 1)))
-              (λ x l y. eq-same (pieceOf (S .settings .k) (S .settings .t) (held S (i + 1)) (x + 1)) (pieceOf (S .settings .k) (S .settings .t) (held S (j + 1)) (x + 1)) (agree x l y)),
+          count-mono (S .settings .n) Q (λ x. same (pieceOf (S .settings .k) (S .settings .t) (heldBlock S (i + 1)) (x + 1)) (pieceOf (S .settings .k) (S .settings .t) (heldBlock S (j + 1)) (x + 1)))
+              (λ x l y. eq-same (pieceOf (S .settings .k) (S .settings .t) (heldBlock S (i + 1)) (x + 1)) (pieceOf (S .settings .k) (S .settings .t) (heldBlock S (j + 1)) (x + 1)) (agree x l y)),
         ))
 
     -- correct neighbours agree at each other's place
-    near : (i j : ℕ) → i < S .settings .n → j < S .settings .n → correctAt S i ≡ true → correctAt S j ≡ true → neighbour (matrixOf S w) i j ≡ true → word i j ≡ word j j
+    near : (i j : ℕ) → i < S .settings .n → j < S .settings .n → correctAt S i ≡ true → correctAt S j ≡ true → neighbour (lastMatrix S w) i j ≡ true → word i j ≡ word j j
     unfolding word
     near i j li lj ci cj y =
         ⊎-elim
@@ -103,24 +103,24 @@ module _ (S : System) (H : Supposed S) where
         let fj = by-index S j (lj, cj) in
         let a : i + 1 - 1 ≡ i = omega arith in
         let b : j + 1 - 1 ≡ j = omega arith in
-        let row : getD (matrixOf S w) i 0 ≡ marks S H (i + 1) fi = ap (λ (x : ℕ). getD (matrixOf S w) x 0) (sym a) ∙ row-is-marks S H (few-rows w f) w (i + 1) f fi in
+        let row : getD (lastMatrix S w) i 0 ≡ marks S H (i + 1) fi = ap (λ (x : ℕ). getD (lastMatrix S w) x 0) (sym a) ∙ row-is-marks S H (few-rows w f) w (i + 1) f fi in
         sym (marks-agree S H C (i + 1) (j + 1) fi fj (ap₂ member (sym row) b ∙ both .0) .0))
         (G .near-marks i j y)
 
     -- the correct members of the core hold one block
-    pub one-block : (a b : ℕ) → Correct S a → Correct S b → member core (a - 1) ≡ true → member core (b - 1) ≡ true → held S a ≡ held S b
+    pub one-block : (a b : ℕ) → Correct S a → Correct S b → member core (a - 1) ≡ true → member core (b - 1) ≡ true → heldBlock S a ≡ heldBlock S b
     unfolding word
     one-block a b fa fb ma mb =
         let ia = to-index S a fa in
         let ib = to-index S b fb in
         let ea : a - 1 + 1 ≡ a = omega (arith, fa .least) in
         let eb : b - 1 + 1 ≡ b = omega (arith, fb .least) in
-        ap (held S) (sym ea)
+        ap (heldBlock S) (sym ea)
         ∙ code (a - 1) (b - 1) (ia .0) (ib .0) (ia .1) (ib .1) (λ _. true) (omega (arith, count-all (S .settings .n) (λ _. true) (λ x l. refl), H .tolerance))
         (λ x l y. G .one-word (correctAt S) (H .few) word
         (λ i j li lj ci cj Q many agree x l. ap (λ (B : List ℕ). pieceOf (S .settings .k) (S .settings .t) B (x + 1)) (code i j li lj ci cj Q many agree))
         near (a - 1) (b - 1) (ia .0) (ib .0) (ia .1) (ib .1) ma mb x l)
-        ∙ ap (held S) eb
+        ∙ ap (heldBlock S) eb
 
     -- at least t + 1 of them are correct
     pub enough-correct : (core ≡ 0 → ⊥) → S .settings .t + 1 ≤ count (S .settings .n) (λ x. member core x && correctAt S x)
@@ -129,7 +129,7 @@ module _ (S : System) (H : Supposed S) where
           arith,
           G .core-size z,
           H .few,
-          count-split (S .settings .n) (member (coreOf (matrixOf S w) (S .settings .n) (S .settings .t))) (correctAt S),
-          count-mono (S .settings .n) (λ x. member (coreOf (matrixOf S w) (S .settings .n) (S .settings .t)) x && not (correctAt S x)) (λ x. not (correctAt S x))
-              (λ x l y. and-right (member (coreOf (matrixOf S w) (S .settings .n) (S .settings .t)) x) (not (correctAt S x)) y),
+          count-split (S .settings .n) (member (coreOf (lastMatrix S w) (S .settings .n) (S .settings .t))) (correctAt S),
+          count-mono (S .settings .n) (λ x. member (coreOf (lastMatrix S w) (S .settings .n) (S .settings .t)) x && not (correctAt S x)) (λ x. not (correctAt S x))
+              (λ x l y. and-right (member (coreOf (lastMatrix S w) (S .settings .n) (S .settings .t)) x) (not (correctAt S x)) y),
         )

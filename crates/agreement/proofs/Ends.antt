@@ -17,7 +17,7 @@ use Rattle.wire.specs.Slot.{layoutWith, width, messageOf}
 use Rattle.wire.proofs.Laws.{call-finish}
 use Rattle.reed_solomon.specs.Encode.{pieceOf}
 use Rattle.reed_solomon.specs.Decode.{Decodes, decodeRefusal}
-use Rattle.reed_solomon.proofs.Laws.{valid-decode}
+use Rattle.reed_solomon.proofs.Laws.{0-decode}
 use Rattle.protocol.specs.Calls.{coreOf}
 use Rattle.reconstruction.specs.declared.Outcome.the-variants.{Agreed, None, Beyond}
 use Rattle.reconstruction.specs.Reconstruction.{Finished as Final, finished}
@@ -25,13 +25,13 @@ use Rattle.reconstruction.proofs.Laws.{finished-none, finished-agreed, finished
 use Rattle.protocol.specs.declared.State.{State}
 use Rattle.protocol.specs.Calls.{Carried, finishCall}
 use Rattle.protocol.proofs.Laws.{of-finish}
-use Rattle.agreement.specs.Run.{Held}
+use Rattle.agreement.specs.Run.{Local}
 use Rattle.agreement.specs.Agreement.{System, Correct, Supposed, last, call, lastCore, lastInbox, outcomeOf, blockOf, SetByLast}
-use Rattle.agreement.proofs.System.{coded, block-size, call-at, call-last, inbox-long, block-long, performs-kind}
+use Rattle.agreement.proofs.System.{coded, length-block, call-at, call-last, inbox-long, block-long, performs-kind}
 use Rattle.agreement.proofs.Coding.{IsBlock, Code}
-use Rattle.agreement.proofs.Blocks.{held}
+use Rattle.agreement.proofs.Blocks.{heldBlock}
 use Rattle.agreement.proofs.Votes.{correctAt, by-index, most-correct}
-use Rattle.agreement.proofs.Cores.{matrixOf, core-last}
+use Rattle.agreement.proofs.Cores.{lastMatrix, core-last}
 use Rattle.agreement.proofs.Pieces.{len-rebuild, piece-read}
 
 module _ (S : System) (H : Supposed S) where
@@ -59,7 +59,7 @@ module _ (S : System) (H : Supposed S) where
         let m = call S i (last S) in
         let r = call-at S H i f (last S) (omega arith) (omega arith) in
         let a = r .before-at in
-        ap (λ (h : Held). h .state .outcome) (sym (call-last S H i f))
+        ap (λ (h : Local). h .state .outcome) (sym (call-last S H i f))
         ∙ ap (λ (s : State). s .outcome) (r .state-is)
         ∙ ap (λ (x : Carried). x .state .outcome) (performs-kind S H i f (last S) (omega arith) (omega arith) Finish (call-finish (S .settings .t)) finishCall of-finish)
         ∙ (λ x. finished (a .settings-is x .n) (a .settings-is x .t) (a .settings-is x .k) (m .before .state .core) (m .lent .inbox) (m .before .block) .outcome)
@@ -70,7 +70,7 @@ module _ (S : System) (H : Supposed S) where
         let m = call S i (last S) in
         let r = call-at S H i f (last S) (omega arith) (omega arith) in
         let a = r .before-at in
-        ap (λ (h : Held). h .block) (sym (call-last S H i f))
+        ap (λ (h : Local). h .block) (sym (call-last S H i f))
         ∙ r .block-is
         ∙ ap (λ (x : Carried). x .block) (performs-kind S H i f (last S) (omega arith) (omega arith) Finish (call-finish (S .settings .t)) finishCall of-finish)
         ∙ (λ x. finished (a .settings-is x .n) (a .settings-is x .t) (a .settings-is x .k) (m .before .state .core) (m .lent .inbox) (m .before .block) .block)
@@ -86,7 +86,7 @@ module _ (S : System) (H : Supposed S) where
 
     -- decoding is carried out
     carried-out : decodeRefusal (S .settings .n) (S .settings .t) (S .settings .k) (lastInbox S i) (call S i (last S) .before .block) ≡ 0
-    carried-out = valid-decode (S .settings .n) (S .settings .t) (S .settings .k) (lastInbox S i) (call S i (last S) .before .block) (coded S H i f) inbox-is block-is
+    carried-out = 0-decode (S .settings .n) (S .settings .t) (S .settings .k) (lastInbox S i) (call S i (last S) .before .block) (coded S H i f) inbox-is block-is
 
     -- what decoding's rule gives
     agreed : (restricted (lastCore S i) (S .settings .n) ≡ 0 → ⊥) → (B : List ℕ) → Decodes (S .settings .n) (S .settings .t) (S .settings .k) (lastInbox S i) B
@@ -106,7 +106,7 @@ module _ (S : System) (H : Supposed S) where
 
     pub set-by-last : SetByLast S i
     set-by-last =
-        let size : blockLength (S .settings .k) (S .settings .t) ≡ length (S .block i) = sym (block-size S H i f) in
+        let size : blockLength (S .settings .k) (S .settings .t) ≡ length (S .block i) = sym (length-block S H i f) in
         record {
           none = λ z. let r = none z in (r .0, r .1 ∙ ap (λ (x : ℕ). replicate x 0) size);
           agreed = agreed;
@@ -114,14 +114,14 @@ module _ (S : System) (H : Supposed S) where
         }
 
     -- no core: none, and zeros
-    pub ends-none : restricted (coreOf (matrixOf S i) (S .settings .n) (S .settings .t)) (S .settings .n) ≡ 0 → (outcomeOf S i ≡ None) × (blockOf S i ≡ replicate (blockLength (S .settings .k) (S .settings .t)) 0)
+    pub ends-none : restricted (coreOf (lastMatrix S i) (S .settings .n) (S .settings .t)) (S .settings .n) ≡ 0 → (outcomeOf S i ≡ None) × (blockOf S i ≡ replicate (blockLength (S .settings .k) (S .settings .t)) 0)
     ends-none z = none (ap (λ (x : ℕ). restricted x (S .settings .n)) (core-last S H i f) ∙ z)
 
   -- a core whose correct members hold B: agreed, and B
   module _ (C : Code (S .settings .n) (S .settings .t) (S .settings .k)) (e : ℕ) (B : List ℕ) (is : IsBlock (S .settings .k) (S .settings .t) B)
-      (core-is : (i : ℕ) → Correct S i → coreOf (matrixOf S i) (S .settings .n) (S .settings .t) ≡ e) (some : restricted e (S .settings .n) ≡ 0 → ⊥)
+      (core-is : (i : ℕ) → Correct S i → coreOf (lastMatrix S i) (S .settings .n) (S .settings .t) ≡ e) (some : restricted e (S .settings .n) ≡ 0 → ⊥)
       (enough : S .settings .t + 1 ≤ count (S .settings .n) (λ x. member e x && correctAt S x))
-      (holds : (i : ℕ) → Correct S i → member e (i - 1) ≡ true → held S i ≡ B) where
+      (holds : (i : ℕ) → Correct S i → member e (i - 1) ≡ true → heldBlock S i ≡ B) where
     pub ends-agreed : (i : ℕ) → Correct S i → (outcomeOf S i ≡ Agreed) × (blockOf S i ≡ B)
     ends-agreed i f =
         agreed i f (λ z. some (ap (λ (x : ℕ). restricted x (S .settings .n)) (sym (core-last S H i f ∙ core-is i f)) ∙ z)) B

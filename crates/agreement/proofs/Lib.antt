@@ -1,12 +1,13 @@
--- The proof of agreement, step by step.
-pub mod Run
-pub mod System
-pub mod Coding
-pub mod Graph
-pub mod Blocks
-pub mod Votes
-pub mod Cores
-pub mod Pieces
-pub mod Ends
-pub mod Verdict
-pub mod Agreement
+-- Laws for the crates above (Laws), and the proof of agreement, step by step.
+pub mod Laws
+mod Run
+mod System
+mod Coding
+mod Graph
+mod Blocks
+mod Votes
+mod Cores
+mod Pieces
+mod Ends
+mod Verdict
+mod Agreement

@@ -14,12 +14,12 @@ use Rattle.wire.specs.declared.Round.{Round}
 use Rattle.wire.specs.Round.{callKind, roundKind}
 use Rattle.wire.specs.Length.{blockLength, rowLength, roundLayout, inboxLength, outboxLength}
 use Rattle.wire.specs.Slot.{width, messageOf, Sent, slots}
-use Rattle.wire.proofs.Laws.{length-of, length-pos, inbox-of, outbox-of, Sized, content, arrived}
+use Rattle.wire.proofs.Laws.{message-length-is, length-pos, inbox-is, outbox-is, Sized, content, arrived}
 use Rattle.protocol.specs.declared.State.{State}
 use Rattle.protocol.specs.Calls.{Carried, callOf}
 use Rattle.protocol.proofs.Laws.{start-0, start-state, call-block, block-call}
-use Rattle.agreement.specs.Run.{Held}
-use Rattle.agreement.specs.Agreement.{System, Correct, Supposed, atStart, callsOf, atEnd, last, noCall, call, Finished, layoutOf}
+use Rattle.agreement.specs.Run.{Local}
+use Rattle.agreement.specs.Agreement.{System, Correct, Supposed, atStart, callsOf, atEnd, last, noCall, call, RefusesMore, layoutOf}
 use Rattle.agreement.proofs.Run.{Chain, chain, performs, At, CallAt, nth, first-before, next-before, last-after, finished-step}
 
 module _ (S : System) (H : Supposed S) (i : ℕ) (f : Correct S i) where
@@ -35,8 +35,8 @@ module _ (S : System) (H : Supposed S) (i : ℕ) (f : Correct S i) where
   pub numbered : Numbered (S .settings .n) i
   numbered = valid .number
 
-  pub block-size : length (S .block i) ≡ blockLength (S .settings .k) (S .settings .t)
-  block-size = start .1
+  pub length-block : length (S .block i) ≡ blockLength (S .settings .k) (S .settings .t)
+  length-block = start .1
 
   begun-at : At (S .settings) i 1 (atStart S i)
   begun-at =
@@ -78,19 +78,19 @@ module _ (S : System) (H : Supposed S) (i : ℕ) (f : Correct S i) where
       last-after noCall (atStart S i) (callsOf S i) (atEnd S i) links (last S - 1) (omega arith)
 
   -- and every later step is refused with 8
-  pub later : Finished S i
+  pub later : RefusesMore S i
   later l =
       let number : last S + 1 ≡ 3 * S .settings .t + 10 = omega arith in
       let a = subst (λ (x : ℕ). At (S .settings) i x (call S i (last S) .after)) number (call-at (last S) (omega arith) (omega arith) .after-at) in
       finished-step (S .settings) i valid (atEnd S i) (subst (At (S .settings) i (3 * S .settings .t + 10)) call-last a) l
 
   -- ---- lengths
-  pub some-length : (c : ℕ) → 1 ≤ c → c < last S → 1 ≤ layoutOf S c .length
-  some-length c least most = length-pos coded c least (omega arith)
+  pub length-round-some : (c : ℕ) → 1 ≤ c → c < last S → 1 ≤ layoutOf S c .length
+  length-round-some c least most = length-pos coded c least (omega arith)
 
   -- the length of a round's messages is that of its kind
-  pub round-length : (c : ℕ) {r : Round} {m : ℕ} → roundKind (S .settings .t) c ≡ r → rowLength r (S .settings .n) (S .settings .t) (S .settings .k) ≡ m → layoutOf S c .length ≡ m
-  round-length c e is = length-of coded c ∙ ap (λ (x : Round). rowLength x (S .settings .n) (S .settings .t) (S .settings .k)) e ∙ is
+  pub length-round : (c : ℕ) {r : Round} {m : ℕ} → roundKind (S .settings .t) c ≡ r → rowLength r (S .settings .n) (S .settings .t) (S .settings .k) ≡ m → layoutOf S c .length ≡ m
+  length-round c e is = message-length-is coded c ∙ ap (λ (x : Round). rowLength x (S .settings .n) (S .settings .t) (S .settings .k)) e ∙ is
 
   pub outbox-long : (c : ℕ) → 1 ≤ c → c < last S → length (call S i c .lent .outbox) ≡ S .settings .n * width (layoutOf S c)
   outbox-long c least most =
@@ -98,7 +98,7 @@ module _ (S : System) (H : Supposed S) (i : ℕ) (f : Correct S i) where
       let a = r .before-at in
       r .ready .outbox-length
       ∙ (λ x. outboxLength (a .settings-is x .n) (a .settings-is x .t) (a .settings-is x .k) (a .next-is x))
-      ∙ outbox-of (S .settings .n) (S .settings .t) (S .settings .k) c (some-length c least most)
+      ∙ outbox-is (S .settings .n) (S .settings .t) (S .settings .k) c (length-round-some c least most)
 
   pub inbox-long : (c : ℕ) → 1 ≤ c → c < last S → length (call S i (c + 1) .lent .inbox) ≡ S .settings .n * width (layoutOf S c)
   inbox-long c least most =
@@ -106,7 +106,7 @@ module _ (S : System) (H : Supposed S) (i : ℕ) (f : Correct S i) where
       let a = r .before-at in
       r .ready .inbox-length
       ∙ (λ x. inboxLength (a .settings-is x .n) (a .settings-is x .t) (a .settings-is x .k) (a .next-is x))
-      ∙ inbox-of (S .settings .n) (S .settings .t) (S .settings .k) c (some-length c least most)
+      ∙ inbox-is (S .settings .n) (S .settings .t) (S .settings .k) c (length-round-some c least most)
 
   pub block-long : (c : ℕ) → 1 ≤ c → c ≤ last S → length (call S i c .before .block) ≡ blockLength (S .settings .k) (S .settings .t)
   block-long c least most =
@@ -162,11 +162,11 @@ module _ (S : System) (H : Supposed S) (i : ℕ) (f : Correct S i) where
       ∙ call-block (callKind (S .settings .t) c) (m .before .state) (m .before .block) (m .lent .inbox) (m .lent .outbox) (kinds .0) (kinds .1)
 
   block-add : (d : ℕ) → d + 3 ≤ last S → call S i (d + 3) .before .block ≡ call S i 2 .after .block
-  block-add zero l = ap (λ (h : Held). h .block) (call-next 2 (omega arith) (omega arith))
+  block-add zero l = ap (λ (h : Local). h .block) (call-next 2 (omega arith) (omega arith))
   block-add (suc d) l =
       let e : suc d + 3 ≡ d + 3 + 1 = omega arith in
       ap (λ (c : ℕ). call S i c .before .block) e
-      ∙ ap (λ (h : Held). h .block) (call-next (d + 3) (omega arith) (omega arith))
+      ∙ ap (λ (h : Local). h .block) (call-next (d + 3) (omega arith) (omega arith))
       ∙ block-kept (d + 3) (omega arith) (omega arith)
       ∙ block-add d (omega arith)
 

@@ -22,15 +22,15 @@ use Rattle.agreement.specs.Agreement.{System, Correct, Supposed, outcome
 use Rattle.agreement.proofs.System.{coded}
 use Rattle.agreement.proofs.Coding.{IsBlock, Code}
 use Rattle.agreement.proofs.Graph.{Graph}
-use Rattle.agreement.proofs.Blocks.{held, is-block, agree-marks, sender-block}
+use Rattle.agreement.proofs.Blocks.{heldBlock, is-block, agree-marks, sender-block}
 use Rattle.agreement.proofs.Votes.{correctAt, by-index, to-index, most-correct, row-is-marks}
-use Rattle.agreement.proofs.Cores.{matrixOf, one-core, one-block, enough-correct}
+use Rattle.agreement.proofs.Cores.{lastMatrix, one-core, one-block, enough-correct}
 use Rattle.agreement.proofs.Ends.{ends-none, ends-agreed}
 
-module _ (S : System) (H : Supposed S) (w : ℕ) (f : Correct S w) (C : Code (S .settings .n) (S .settings .t) (S .settings .k)) (G : Graph (matrixOf S w) (S .settings .n) (S .settings .t)) where
+module _ (S : System) (H : Supposed S) (w : ℕ) (f : Correct S w) (C : Code (S .settings .n) (S .settings .t) (S .settings .k)) (G : Graph (lastMatrix S w) (S .settings .n) (S .settings .t)) where
   -- the core
   abbrev pub coreSet : ℕ
-  coreSet = coreOf (matrixOf S w) (S .settings .n) (S .settings .t)
+  coreSet = coreOf (lastMatrix S w) (S .settings .n) (S .settings .t)
 
   -- what all correct controllers end with
   pub record Verdict (o : Outcome) (b : List ℕ) : Type 0 where
@@ -47,7 +47,7 @@ module _ (S : System) (H : Supposed S) (w : ℕ) (f : Correct S w) (C : Code (S 
   }
 
   -- with a core whose correct members hold B
-  with : (coreSet ≡ 0 → ⊥) → (B : List ℕ) → IsBlock (S .settings .k) (S .settings .t) B → ((i : ℕ) → Correct S i → member coreSet (i - 1) ≡ true → held S i ≡ B) → Verdict Agreed B
+  with : (coreSet ≡ 0 → ⊥) → (B : List ℕ) → IsBlock (S .settings .k) (S .settings .t) B → ((i : ℕ) → Correct S i → member coreSet (i - 1) ≡ true → heldBlock S i ≡ B) → Verdict Agreed B
   with z B is holds = record {
     all =
         ends-agreed S H C coreSet B is (λ i g. one-core S H i w g f) (λ q. z (sym (restrict-below coreSet (S .settings .n) (G .core-lt)) ∙ q))
@@ -61,13 +61,13 @@ module _ (S : System) (H : Supposed S) (w : ℕ) (f : Correct S w) (C : Code (S 
       (r .0, by-index S (r .0) (r .1, and-right (member coreSet (r .0)) (correctAt S (r .0)) (r .2)), and-left (member coreSet (r .0)) (correctAt S (r .0)) (r .2))
 
   -- the common block, held by that member after call 2
-  pub held-by : (coreSet ≡ 0 → ⊥) → (c : ℕ) × Verdict Agreed (held S (c + 1))
+  pub held-by : (coreSet ≡ 0 → ⊥) → (c : ℕ) × Verdict Agreed (heldBlock S (c + 1))
   held-by z =
       let h = heart z in
       let c = h .0 in
       let b : c + 1 - 1 ≡ c = omega arith in (
         c,
-        with z (held S (c + 1)) (is-block S H (c + 1) (h .1))
+        with z (heldBlock S (c + 1)) (is-block S H (c + 1) (h .1))
             (λ i g m. one-block S H w f C G i (c + 1) g (h .1) m (ap (member coreSet) b ∙ h .2)),
       )
 
@@ -75,18 +75,18 @@ module _ (S : System) (H : Supposed S) (w : ℕ) (f : Correct S w) (C : Code (S 
   verdict =
       ⊎-elim
       (λ (z : coreSet ≡ 0). (None, replicate (blockLength (S .settings .k) (S .settings .t)) 0, without z))
-      (λ (z : coreSet ≡ 0 → ⊥). let r = held-by z in (Agreed, held S (r .0 + 1), r .1))
+      (λ (z : coreSet ≡ 0 → ⊥). let r = held-by z in (Agreed, heldBlock S (r .0 + 1), r .1))
       (same-or-not coreSet 0)
 
   -- ---- the sender is correct
   module _ (g : Correct S (S .settings .sender)) where
     -- correct controllers mark each other
-    marked : (x y : ℕ) (p : Correct S (x + 1)) (q : Correct S (y + 1)) → member (getD (matrixOf S w) x 0) y ≡ true
+    marked : (x y : ℕ) (p : Correct S (x + 1)) (q : Correct S (y + 1)) → member (getD (lastMatrix S w) x 0) y ≡ true
     marked x y p q =
         let a : x + 1 - 1 ≡ x = omega arith in
         let b : y + 1 - 1 ≡ y = omega arith in
-        let same : held S (y + 1) ≡ held S (x + 1) = sender-block S H g (y + 1) q ∙ sym (sender-block S H g (x + 1) p) in
-        ap₂ member (ap (λ (z : ℕ). getD (matrixOf S w) z 0) (sym a) ∙ row-is-marks S H few-rows w (x + 1) f p) (sym b)
+        let same : heldBlock S (y + 1) ≡ heldBlock S (x + 1) = sender-block S H g (y + 1) q ∙ sym (sender-block S H g (x + 1) p) in
+        ap₂ member (ap (λ (z : ℕ). getD (lastMatrix S w) z 0) (sym a) ∙ row-is-marks S H few-rows w (x + 1) f p) (sym b)
         ∙ agree-marks S H C (x + 1) (y + 1) p q
         (ap (λ (B : List ℕ). pieceOf (S .settings .k) (S .settings .t) B (y + 1)) same) (ap (λ (B : List ℕ). pieceOf (S .settings .k) (S .settings .t) B (x + 1)) same)
 

@@ -11,8 +11,7 @@ use Rattle.lists.specs.Sum.{count}
 use Rattle.lists.proofs.Tests.{same-or-not}
 use Rattle.lists.proofs.Sums.{count-not}
 use Rattle.bitset.specs.Row.{rowsOf}
-use Rattle.bitset.proofs.Laws.{restrict-below}
-use Rattle.bitset.proofs.Rows.{length-rows}
+use Rattle.bitset.proofs.Laws.{restrict-below, length-rows-few}
 use Rattle.settings.specs.declared.Settings.{Settings}
 use Rattle.wire.specs.declared.slot.Layout.{Layout}
 use Rattle.wire.specs.declared.Call.{Call}
@@ -20,18 +19,18 @@ use Rattle.wire.specs.declared.Call.the-variants.{Collect, Tally, Hold, Settle,
 use Rattle.wire.specs.Round.{callKind, roundKind, phaseOf}
 use Rattle.wire.specs.Length.{roundLayout}
 use Rattle.wire.specs.Slot.{messageOf, bytes, toAll}
-use Rattle.wire.proofs.Laws.{call-collect, call-tally, call-hold, call-settle, call-core, round-matrix, round-seen, round-king, length-matrix, length-seen, length-king, phase-king, to-all, sized-bytes}
+use Rattle.wire.proofs.Laws.{call-collect, call-tally, call-hold, call-settle, call-core, round-matrix, round-seen, round-king, row-matrix, row-seen, row-king, phase-king, to-all, sized-bytes}
 use Rattle.dispersal.specs.Dispersal.{marksMessage}
-use Rattle.dispersal.proofs.Laws.{marks-message-row, marks-length}
+use Rattle.dispersal.proofs.Laws.{row-of-marks, length-marks}
 use Rattle.phase_king.specs.Matrix.{limit, firstMatrix, zerosOf, onesOf, heldOf, weakOf, settledOf, seenMessage, sentByKing}
-use Rattle.phase_king.specs.Vote.{System as Voters, MatrixPhase, Agreed, phaseCount}
-use Rattle.phase_king.proofs.Laws.{vote-in-order, marks-kept, seen-length, king-all}
+use Rattle.phase_king.specs.Vote.{Resilient, MatrixPhase, Agreed, phaseCount}
+use Rattle.phase_king.proofs.Laws.{vote-in-order, marks-kept, length-seen-few, king-all}
 use Rattle.protocol.specs.declared.State.{State}
 use Rattle.protocol.specs.Calls.{Carried, inboxLayout, matrixToAll, settledMatrix, collectCall, tallyCall, holdCall, settleCall, coreCall, callOf}
 use Rattle.protocol.proofs.Laws.{of-collect, of-tally, of-hold, of-settle, of-core}
-use Rattle.agreement.specs.Run.{Held}
+use Rattle.agreement.specs.Run.{Local}
 use Rattle.agreement.specs.Agreement.{System, Correct, Supposed, last, call, layoutOf}
-use Rattle.agreement.proofs.System.{coded, call-next, round-length, outbox-long, sends-by, state-by, leaves-by, delivered}
+use Rattle.agreement.proofs.System.{coded, call-next, length-round, outbox-long, sends-by, state-by, leaves-by, delivered}
 use Rattle.agreement.proofs.Blocks.{len-3, marks, marks-sent, marks-lt}
 
 -- who is correct, by index
@@ -56,7 +55,7 @@ module _ (S : System) (H : Supposed S) where
   pub most-correct : S .settings .n ≤ count (S .settings .n) (correctAt S) + S .settings .t
   most-correct = omega (arith, count-not (S .settings .n) (correctAt S), H .few)
 
-  voters : Voters (S .settings .n) (S .settings .t) (correctAt S)
+  voters : Resilient (S .settings .n) (S .settings .t) (correctAt S)
   voters = record { small = omega (arith, H .tolerance); most = most-correct }
 
   -- a message to all is in every slot
@@ -75,17 +74,17 @@ module _ (S : System) (H : Supposed S) where
     len-matrix : (p : ℕ) → p < suc (S .settings .t) → layoutOf S (3 * p + 4) .length ≡ 2 * S .settings .n
     len-matrix p l =
         let e : 3 * p + 4 ≡ 3 * (p + 1) + 1 = omega arith in
-        round-length S H i f (3 * p + 4) (ap (roundKind (S .settings .t)) e ∙ round-matrix (S .settings .t) (p + 1) (omega arith) (omega arith)) (length-matrix (S .settings .n) (S .settings .t) (S .settings .k))
+        length-round S H i f (3 * p + 4) (ap (roundKind (S .settings .t)) e ∙ round-matrix (S .settings .t) (p + 1) (omega arith) (omega arith)) (row-matrix (S .settings .n) (S .settings .t) (S .settings .k))
 
     len-seen : (p : ℕ) → p < suc (S .settings .t) → layoutOf S (3 * p + 5) .length ≡ 4 * S .settings .n
     len-seen p l =
         let e : 3 * p + 5 ≡ 3 * (p + 1) + 2 = omega arith in
-        round-length S H i f (3 * p + 5) (ap (roundKind (S .settings .t)) e ∙ round-seen (S .settings .t) (p + 1) (omega arith) (omega arith)) (length-seen (S .settings .n) (S .settings .t) (S .settings .k))
+        length-round S H i f (3 * p + 5) (ap (roundKind (S .settings .t)) e ∙ round-seen (S .settings .t) (p + 1) (omega arith) (omega arith)) (row-seen (S .settings .n) (S .settings .t) (S .settings .k))
 
     len-king : (p : ℕ) → p < suc (S .settings .t) → layoutOf S (3 * p + 6) .length ≡ 2 * S .settings .n
     len-king p l =
         let e : 3 * p + 6 ≡ 3 * (p + 1) + 3 = omega arith in
-        round-length S H i f (3 * p + 6) (ap (roundKind (S .settings .t)) e ∙ round-king (S .settings .t) (p + 1) (omega arith) (omega arith)) (length-king (S .settings .n) (S .settings .t) (S .settings .k))
+        length-round S H i f (3 * p + 6) (ap (roundKind (S .settings .t)) e ∙ round-king (S .settings .t) (p + 1) (omega arith) (omega arith)) (row-king (S .settings .n) (S .settings .t) (S .settings .k))
 
     -- a call that leaves a matrix and sends it to all
     matrix-by : (c : ℕ) (least : 1 ≤ c) (most : c ≤ last S) (kind : Call) (is : callKind (S .settings .t) c ≡ kind)
@@ -221,7 +220,7 @@ module _ (S : System) (H : Supposed S) where
         let e : 3 * p + 4 + 1 ≡ 3 * p + 5 = omega arith in
         subst (λ (c : ℕ). messageOf (call S (i + 1) c .lent .inbox) (layoutOf S (3 * p + 4)) (j + 1) ≡ rowsOf (S .settings .n) (rowsAt S p j)) e
         (all-read (j + 1) (i + 1) gj fi (3 * p + 4) (omega arith) (omega arith) (rowsOf (S .settings .n) (rowsAt S p j))
-        (length-rows (S .settings .n) (rowsAt S p j) (few-rows (j + 1) gj) ∙ sym (len-matrix (j + 1) gj p l)) (matrix-sent (j + 1) gj p l));
+        (length-rows-few (S .settings .n) (rowsAt S p j) (few-rows (j + 1) gj) ∙ sym (len-matrix (j + 1) gj p l)) (matrix-sent (j + 1) gj p l));
     second = λ i j f g.
         let fi = by-index S i f in
         let gj = by-index S j g in
@@ -230,7 +229,7 @@ module _ (S : System) (H : Supposed S) where
         let o = onesOf (call S (j + 1) (3 * p + 5) .lent .inbox) (layoutOf S (3 * p + 4)) (S .settings .n) (S .settings .t) in
         subst (λ (c : ℕ). messageOf (call S (i + 1) c .lent .inbox) (layoutOf S (3 * p + 5)) (j + 1) ≡ seenMessage (S .settings .n) z o) e
         (all-read (j + 1) (i + 1) gj fi (3 * p + 5) (omega arith) (omega arith) (seenMessage (S .settings .n) z o)
-        (seen-length (S .settings .n) z o (few-rows (j + 1) gj) ∙ sym (len-seen (j + 1) gj p l)) (seen-sent (j + 1) gj p l));
+        (length-seen-few (S .settings .n) z o (few-rows (j + 1) gj) ∙ sym (len-seen (j + 1) gj p l)) (seen-sent (j + 1) gj p l));
     third = λ i f g.
         let fi = by-index S i f in
         let gk = by-index S p g in
@@ -238,7 +237,7 @@ module _ (S : System) (H : Supposed S) where
         let h = heldOf (call S (p + 1) (3 * p + 6) .lent .inbox) (layoutOf S (3 * p + 5)) (S .settings .n) (S .settings .t) in
         subst (λ (c : ℕ). messageOf (call S (i + 1) c .lent .inbox) (layoutOf S (3 * p + 6)) (p + 1) ≡ rowsOf (S .settings .n) h) e
         (all-read (p + 1) (i + 1) gk fi (3 * p + 6) (omega arith) (omega arith) (rowsOf (S .settings .n) h)
-        (length-rows (S .settings .n) h (few-rows (p + 1) gk) ∙ sym (len-king (p + 1) gk p l)) (king-sent (p + 1) gk p l refl));
+        (length-rows-few (S .settings .n) h (few-rows (p + 1) gk) ∙ sym (len-king (p + 1) gk p l)) (king-sent (p + 1) gk p l refl));
     result = λ i f.
         let fi = by-index S i f in
         let e : 3 * suc p + 4 ≡ 3 * p + 7 = omega arith in
@@ -248,8 +247,8 @@ module _ (S : System) (H : Supposed S) where
         ap (λ (c : ℕ). call S (i + 1) c .after .state .matrix) e
         ∙ settled-rows (i + 1) fi p l
         ∙ ap₂ (λ (x y : List ℕ). settledOf x y (call S (i + 1) (3 * p + 7) .lent .inbox) (layoutOf S (3 * p + 6)) (S .settings .n) (p + 1))
-        (ap (λ (h : Held). h .state .matrix) back ∙ held-rows (i + 1) fi p l)
-        (ap (λ (h : Held). h .state .weak) back ∙ weak-rows (i + 1) fi p l);
+        (ap (λ (h : Local). h .state .matrix) back ∙ held-rows (i + 1) fi p l)
+        (ap (λ (h : Local). h .state .weak) back ∙ weak-rows (i + 1) fi p l);
   }
 
   -- ---- the vote
@@ -279,7 +278,7 @@ module _ (S : System) (H : Supposed S) where
         ∙ marks-kept (S .settings .n) (S .settings .t) (correctAt S) (rowsAt S) few all (λ x. call S (x + 1) 4 .lent .inbox) (layoutOf S 3) (j - 1) m (to-index S j g .0)
         (λ x h. first-rows (x + 1) (by-index S x h))
         (λ x h. ap (messageOf (call S (x + 1) 4 .lent .inbox) (layoutOf S 3)) b
-        ∙ delivered S H j (x + 1) 3 g (by-index S x h) (omega arith) (omega arith) (λ _. bytes m) (λ y. sized-bytes (layoutOf S 3) m (marks-length (S .settings .n) (marks S H j g) ∙ sym (len-3 S H j g))) (marks-sent S H j g))
+        ∙ delivered S H j (x + 1) 3 g (by-index S x h) (omega arith) (omega arith) (λ _. bytes m) (λ y. sized-bytes (layoutOf S 3) m (length-marks (S .settings .n) (marks S H j g) ∙ sym (len-3 S H j g))) (marks-sent S H j g))
         (i - 1) (to-index S i f)
-        ∙ marks-message-row (S .settings .n) (marks S H j g)
+        ∙ row-of-marks (S .settings .n) (marks S H j g)
         ∙ restrict-below (marks S H j g) (S .settings .n) (marks-lt S H j g)

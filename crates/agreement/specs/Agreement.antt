@@ -11,7 +11,7 @@
 --   lastCore, lastInbox    the core before the last call, and the inbox lent to it
 --   outcomeOf, blockOf     the outcome and the block at the end
 --   SetByLast S i          outcome and block at the end are those that the last call sets
---   Finished S i           every later step is refused with 8 and leaves both
+--   RefusesMore S i           every later step is refused with 8 and leaves both
 --   Concluded S            what is concluded
 --   Agreement              demand 3: supposed implies concluded
 --   Holds S i A            controller i ends with the block A agreed on (document 01: it holds the plan)
@@ -33,7 +33,7 @@ use Rattle.reconstruction.specs.declared.Outcome.{Outcome}
 use Rattle.reconstruction.specs.declared.Outcome.the-variants.{Agreed, None, Beyond}
 use Rattle.protocol.specs.State.{zeroState}
 use Rattle.protocol.specs.Step.{startOf}
-use Rattle.agreement.specs.Run.{Lent, Held, Made, stepped, left, ends, calls, begun}
+use Rattle.agreement.specs.Run.{Lent, Local, Made, stepped, left, leftAfter, calls, begun}
 
 -- of a controller that is not correct, neither block nor steps are read: nothing is supposed of it
 pub record System : Type 0 where
@@ -48,14 +48,14 @@ pub record Correct (S : System) (i : ℕ) : Type 0 where
   pub most : i ≤ S .settings .n
   pub is : S .correct i ≡ true
 
-abbrev pub atStart : System → ℕ → Held
+abbrev pub atStart : System → ℕ → Local
 atStart S i = begun (S .settings) i (S .block i)
 
 abbrev pub callsOf : System → ℕ → List Made
 callsOf S i = calls (atStart S i) (S .steps i)
 
-abbrev pub atEnd : System → ℕ → Held
-atEnd S i = ends (atStart S i) (S .steps i)
+abbrev pub atEnd : System → ℕ → Local
+atEnd S i = leftAfter (atStart S i) (S .steps i)
 
 abbrev pub last : System → ℕ
 last S = 3 * S .settings .t + 9
@@ -112,13 +112,13 @@ pub record SetByLast (S : System) (i : ℕ) : Type 0 where
   pub beyond : (restricted (lastCore S i) (S .settings .n) ≡ 0 → ⊥) → ((B : List ℕ) → Decodes (S .settings .n) (S .settings .t) (S .settings .k) (lastInbox S i) B → ⊥)
       → (outcomeOf S i ≡ Beyond) × (blockOf S i ≡ replicate (length (S .block i)) 0)
 
-abbrev pub Finished : System → ℕ → Type 0
-Finished S i = (l : Lent) → (stepped (atEnd S i) l .answer .number ≡ 8) × (left (atEnd S i) l ≡ atEnd S i)
+abbrev pub RefusesMore : System → ℕ → Type 0
+RefusesMore S i = (l : Lent) → (stepped (atEnd S i) l .answer .number ≡ 8) × (left (atEnd S i) l ≡ atEnd S i)
 
 pub record Concluded (S : System) : Type 0 where
   -- each correct controller's outcome and block are those that the last call sets, and later steps leave them
   pub set : (i : ℕ) → Correct S i → SetByLast S i
-  pub later : (i : ℕ) → Correct S i → Finished S i
+  pub later : (i : ℕ) → Correct S i → RefusesMore S i
   -- the outcomes are equal, and the blocks are equal byte for byte
   pub same-outcome : (i j : ℕ) → Correct S i → Correct S j → outcomeOf S i ≡ outcomeOf S j
   pub same-block : (i j : ℕ) → Correct S i → Correct S j → blockOf S i ≡ blockOf S j

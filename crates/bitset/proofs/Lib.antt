@@ -1,6 +1,6 @@
 -- Laws for the crates above (Laws), and what they and the code rest on.
 pub mod Laws
-pub mod Rows
+mod Rows
 mod Sets
 mod Operations
 mod Digits

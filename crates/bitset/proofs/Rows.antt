@@ -1,4 +1,4 @@
--- Laws of rows in message bytes. The main ones: `row-read` (a row of the message that was written is read back) and `rows-bytes` (rows are
+-- Laws of rows in message bytes. The main ones: `row-read` (a row of the message that was written is read back) and `bytes-rows` (rows are
 -- written in bytes).
 use mathlib.Core.Path.{_≡_, sym, ap, ap₂, _∙_}
 use mathlib.Core.Bool.{Bool, true, false, cond}
@@ -69,12 +69,12 @@ row-right n a b m r e =
     at i j q = ap (λ (x : ℕ). getD (a ++ b) x 0) q ∙ getD-append-add a b j 0
 
 -- ---- the message that was written
-pub rows-length : (n : ℕ) (rows : List ℕ) → length (rowsOf n rows) ≡ 2 * min n 16
+pub length-rows : (n : ℕ) (rows : List ℕ) → length (rowsOf n rows) ≡ 2 * min n 16
 unfolding rowsOf
-rows-length n rows = length-tabulate (rowByte n rows) (2 * min n 16)
+length-rows n rows = length-tabulate (rowByte n rows) (2 * min n 16)
 
-pub length-rows : (n : ℕ) (rows : List ℕ) → n ≤ 16 → length (rowsOf n rows) ≡ 2 * n
-length-rows n rows l = rows-length n rows ∙ omega arith
+pub length-rows-few : (n : ℕ) (rows : List ℕ) → n ≤ 16 → length (rowsOf n rows) ≡ 2 * n
+length-rows-few n rows l = length-rows n rows ∙ omega arith
 
 -- what `write_rows` leaves of a list that is long enough
 pub rows-written : (n : ℕ) (rows out : List ℕ) → 2 * min n 16 ≤ length out
@@ -99,7 +99,7 @@ unfolding rowsOf wordAt
 row-read n rows r l h =
     let x : ℕ = restricted (getD rows r 0) n in
     let w : x % 256 + 256 * (x / 256) ≡ x = omega arith in
-    row-held n (rowsOf n rows) r (omega (arith, length-rows n rows l))
+    row-held n (rowsOf n rows) r (omega (arith, length-rows-few n rows l))
     ∙ ap₂ (λ (a b : ℕ). restricted (a + 256 * b) n)
     (getD-tabulate (rowByte n rows) (2 * min n 16) (2 * r) 0 (omega arith) ∙ byte-low n rows r)
     (getD-tabulate (rowByte n rows) (2 * min n 16) (2 * r + 1) 0 (omega arith) ∙ byte-high n rows r)
@@ -113,12 +113,12 @@ halves s n h =
     let l : restricted s n < 2 ^ 16 = omega (arith, restrict-lt s n, pow-mono {i = n} {j = 16} h) in
     (omega arith, omega arith)
 
-pub rows-bytes : (n : ℕ) (rows : List ℕ) → n ≤ 16 → (x : ℕ) → getD (rowsOf n rows) x 0 < 256
+pub bytes-rows : (n : ℕ) (rows : List ℕ) → n ≤ 16 → (x : ℕ) → getD (rowsOf n rows) x 0 < 256
 unfolding rowsOf rowByte
-rows-bytes n rows h x =
+bytes-rows n rows h x =
     ⊎-elim
     (λ (l : x < 2 * min n 16). rw (getD-tabulate (rowByte n rows) (2 * min n 16) x 0 l) (go (eqb (x % 2) 0)))
-    (λ (l : 2 * min n 16 ≤ x). rw (List·getD-eq-default (rowsOf n rows) 0 {n = x} (omega (arith, rows-length n rows))) (lit< tt))
+    (λ (l : 2 * min n 16 ≤ x). rw (List·getD-eq-default (rowsOf n rows) 0 {n = x} (omega (arith, length-rows n rows))) (lit< tt))
     (lt-or-le x (2 * min n 16))
   where
     go : (b : Bool) → cond b (restricted (getD rows (x / 2) 0) n % 256) (restricted (getD rows (x / 2) 0) n / 256) < 256

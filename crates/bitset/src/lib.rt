@@ -54,21 +54,24 @@ pub fn remove(s: u16, i: usize) -> u16
     s
 }
 
-// The members of both sets. Shut out: a, b.
+// The members of both sets.
+// Shut out: a; b.
 pub fn intersection(a: u16, b: u16) -> u16
     ensures { λ r. ⌜ r ≡ intersection a b ⌝ }
 {
     a & b
 }
 
-// The members of a that are not in b. Shut out: the members of one of the two sets only, the members of b that are not in a.
+// The members of a that are not in b.
+// Shut out: the members of one of the two sets only; the members of b that are not in a.
 pub fn difference(a: u16, b: u16) -> u16
     ensures { λ r. ⌜ r ≡ difference a b ⌝ }
 {
     a ^ (a & b)
 }
 
-// The members of either set. Shut out: a, b.
+// The members of either set.
+// Shut out: a; b.
 pub fn union(a: u16, b: u16) -> u16
     ensures { λ r. ⌜ r ≡ union a b ⌝ }
 {
@@ -161,7 +164,7 @@ fn row_byte(rows: &[u16; 16], n: usize, b: usize) -> u8
 }
 
 // How many bytes n rows take, of 16 at most.
-// Shut out: TODO.
+// Shut out: 30 for 16 rows; a byte for each row.
 pub fn rows_length(n: usize) -> usize
     ensures { λ r. ⌜ r ≡ rowsLength n ⌝ }
 {

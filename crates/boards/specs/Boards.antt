@@ -2,12 +2,12 @@
 -- refused with 6, which is tried first.
 --   badLength                       6, row 6 of the refusal table
 --   beyondNumber                    what decoding answers where no block meets the rule: 255, the number of no refusal
---   Written, written r bytes        a number answered, and the lent bytes as the call leaves them
---   startWritten state a            an answer of `start`, with the state as bytes; refused, the lent bytes stay
+--   Returned, returned r bytes        a number answered, and the lent bytes as the call leaves them
+--   startReturned state a            an answer of `start`, with the state as bytes; refused, the lent bytes stay
 --   startBytes s own b state        start to a lent state; b is the length of the lent block
---   Left, left r state b o          what a step leaves: its number, the state, the block and the outbox
---   leftOf a                        an answer of `step`, with the state as bytes
---   stepLeft state a                the same where it was carried out; refused, the state stays byte for byte
+--   ReturnedStep, returnedStep r state b o          what a step leaves: its number, the state, the block and the outbox
+--   stepAsBytes a                        an answer of `step`, with the state as bytes
+--   stepReturned state a                the same where it was carried out; refused, the state stays byte for byte
 --   stepBytes state b i o           step on the state that the bytes stand for
 --   outcomeIn state                 the number of the outcome in a state
 --   finalSize state                 the length of a block by the state's settings
@@ -17,8 +17,7 @@
 --   DecodeLeaves n t k slots before r after   decoding: r is the number of its answer, and `after` the block that it leaves
 --   setRows s                       the sets C, D, F and E as the first of 16 rows of marks
 --   setBytes s                      the bytes of these four rows
---   starWritten s sets              an answer of the star; refused, the lent bytes stay
---   rowsIn bytes                    16 rows of marks in bytes
+--   starReturned s sets              an answer of the star; refused, the lent bytes stay
 --   ofLengths a lent b out w        w where `lent` has a bytes and `out` b; else 6, and `out` stays
 --   starBytes n t rows sets         the star of the rows in 32 bytes, to 8 bytes
 --   pairBytes n rows pairs          the missing pairs of the rows in 32 bytes, to 15 bytes
@@ -30,7 +29,7 @@ use Prim.Native.Nat.{ℕ}
 use lib.Dec.{eqb}
 use lib.ListN.{length, replicate}
 use Rattle.lists.specs.Fill.{tabulate}
-use Rattle.bitset.specs.Row.{rowByte, rowOf}
+use Rattle.bitset.specs.Row.{rowsIn, rowByte}
 use Rattle.settings.specs.declared.Settings.{Settings}
 use Rattle.wire.specs.Length.{blockSize}
 use Rattle.reed_solomon.specs.declared.Decoded.{Decoded}
@@ -43,7 +42,7 @@ use Rattle.star.specs.declared.Sets.{Sets}
 use Rattle.star.specs.Star.{starOf, starOfBits}
 use Rattle.protocol.specs.declared.Started.{Started}
 use Rattle.protocol.specs.Step.{After, startOf, stepOf}
-use Rattle.state_bytes.specs.State.{stateLength, bytesOf, stateOf}
+use Rattle.state_bytes.specs.State.{stateLength, stateBytes, stateOf}
 
 abbrev pub badLength : ℕ
 badLength = 6
@@ -51,38 +50,38 @@ badLength = 6
 abbrev pub beyondNumber : ℕ
 beyondNumber = 255
 
-pub record Written : Type 0 where
+pub record Returned : Type 0 where
   pub number : ℕ
   pub bytes : List ℕ
 
-abbrev pub written : ℕ → List ℕ → Written
-written r bytes = record { number = r; bytes = bytes }
+abbrev pub returned : ℕ → List ℕ → Returned
+returned r bytes = record { number = r; bytes = bytes }
 
-abbrev pub startWritten : List ℕ → Started → Written
-startWritten state a = cond (eqb (a .number) 0) (written 0 (bytesOf (a .state))) (written (a .number) state)
+abbrev pub startReturned : List ℕ → Started → Returned
+startReturned state a = cond (eqb (a .number) 0) (returned 0 (stateBytes (a .state))) (returned (a .number) state)
 
-unfoldable pub startBytes : Settings → (own b : ℕ) → List ℕ → Written
+unfoldable pub startBytes : Settings → (own b : ℕ) → List ℕ → Returned
 startBytes s own b state =
-    cond (eqb (length state) stateLength) (startWritten state (startOf s own b)) (written badLength state)
+    cond (eqb (length state) stateLength) (startReturned state (startOf s own b)) (returned badLength state)
 
-pub record Left : Type 0 where
+pub record ReturnedStep : Type 0 where
   pub number : ℕ
   pub state : List ℕ
   pub block : List ℕ
   pub outbox : List ℕ
 
-abbrev pub left : ℕ → List ℕ → List ℕ → List ℕ → Left
-left r state b o = record { number = r; state = state; block = b; outbox = o }
+abbrev pub returnedStep : ℕ → List ℕ → List ℕ → List ℕ → ReturnedStep
+returnedStep r state b o = record { number = r; state = state; block = b; outbox = o }
 
-abbrev pub leftOf : After → Left
-leftOf a = left (a .answer .number) (bytesOf (a .answer .state)) (a .block) (a .outbox)
+abbrev pub stepAsBytes : After → ReturnedStep
+stepAsBytes a = returnedStep (a .answer .number) (stateBytes (a .answer .state)) (a .block) (a .outbox)
 
-unfoldable pub stepLeft : List ℕ → After → Left
-stepLeft state a =
-    cond (eqb (a .answer .number) 0) (leftOf a) (left (a .answer .number) state (a .block) (a .outbox))
+unfoldable pub stepReturned : List ℕ → After → ReturnedStep
+stepReturned state a =
+    cond (eqb (a .answer .number) 0) (stepAsBytes a) (returnedStep (a .answer .number) state (a .block) (a .outbox))
 
-unfoldable pub stepBytes : (state b i o : List ℕ) → Left
-stepBytes state b i o = cond (eqb (length state) stateLength) (stepLeft state (stepOf (stateOf state) b i o)) (left badLength state b o)
+unfoldable pub stepBytes : (state b i o : List ℕ) → ReturnedStep
+stepBytes state b i o = cond (eqb (length state) stateLength) (stepReturned state (stepOf (stateOf state) b i o)) (returnedStep badLength state b o)
 
 unfoldable pub outcomeIn : List ℕ → ℕ
 outcomeIn state = cond (eqb (length state) stateLength) (outcomeNumber (stateOf state .outcome)) badLength
@@ -93,11 +92,11 @@ finalSize state = blockSize (stateOf state .settings .n) (stateOf state .setting
 abbrev pub finalFits : (state block final : List ℕ) → Bool
 finalFits state block final = eqb (length block) (finalSize state) && eqb (length final) (finalSize state)
 
-unfoldable pub finalBytes : (state block final : List ℕ) → Written
+unfoldable pub finalBytes : (state block final : List ℕ) → Returned
 finalBytes state block final =
     cond (eqb (length state) stateLength && finalFits state block final)
-    (cond (eqb (outcomeIn state) 0) (written 0 final) (written (outcomeIn state) block))
-    (written badLength final)
+    (cond (eqb (outcomeIn state) 0) (returned 0 final) (returned (outcomeIn state) block))
+    (returned badLength final)
 
 abbrev pub decodeNumber : Decoded → ℕ
 decodeNumber Block = 0
@@ -113,20 +112,17 @@ setRows s = s .c ∷ s .d ∷ s .f ∷ s .e ∷ replicate 12 0
 unfoldable pub setBytes : Sets → List ℕ
 setBytes s = tabulate (rowByte 16 (setRows s)) 8
 
-unfoldable pub starWritten : Sets → List ℕ → Written
-starWritten s sets = cond (eqb (s .refusal) 0) (written 0 (setBytes s)) (written (s .refusal) sets)
+unfoldable pub starReturned : Sets → List ℕ → Returned
+starReturned s sets = cond (eqb (s .refusal) 0) (returned 0 (setBytes s)) (returned (s .refusal) sets)
 
-abbrev pub rowsIn : List ℕ → List ℕ
-rowsIn bytes = tabulate (rowOf 16 bytes) 16
+abbrev pub ofLengths : ℕ → List ℕ → ℕ → List ℕ → Returned → Returned
+ofLengths a lent b out w = cond (eqb (length lent) a && eqb (length out) b) w (returned badLength out)
 
-abbrev pub ofLengths : ℕ → List ℕ → ℕ → List ℕ → Written → Written
-ofLengths a lent b out w = cond (eqb (length lent) a && eqb (length out) b) w (written badLength out)
+unfoldable pub starBytes : (n t : ℕ) → List ℕ → List ℕ → Returned
+starBytes n t rows sets = ofLengths 32 rows 8 sets (starReturned (starOf (rowsIn rows) n t) sets)
 
-unfoldable pub starBytes : (n t : ℕ) → List ℕ → List ℕ → Written
-starBytes n t rows sets = ofLengths 32 rows 8 sets (starWritten (starOf (rowsIn rows) n t) sets)
+unfoldable pub pairBytes : ℕ → List ℕ → List ℕ → Returned
+pairBytes n rows pairs = ofLengths 32 rows 15 pairs (returned 0 (bitsOf n (neighbour (rowsIn rows))))
 
-unfoldable pub pairBytes : ℕ → List ℕ → List ℕ → Written
-pairBytes n rows pairs = ofLengths 32 rows 15 pairs (written 0 (bitsOf n (neighbour (rowsIn rows))))
-
-unfoldable pub pairStarBytes : (n t : ℕ) → List ℕ → List ℕ → Written
-pairStarBytes n t pairs sets = ofLengths 15 pairs 8 sets (starWritten (starOfBits pairs n t) sets)
+unfoldable pub pairStarBytes : (n t : ℕ) → List ℕ → List ℕ → Returned
+pairStarBytes n t pairs sets = ofLengths 15 pairs 8 sets (starReturned (starOfBits pairs n t) sets)

@@ -1,29 +1,24 @@
 // The functions that programs in C, or in Rust, link as a static library: those of the crates below over numbers and byte slices, with the
-// state as bytes in a lent buffer. include/potekawhi.h declares them for C.
+// state as bytes in a lent buffer. include/potekawhi.h declares them for C. Here are a run and its lengths; the code and the star by themselves
+// are in code.rt.
+mod code;
+
 ghost use mathlib.Core.Path.{_≡_};
 ghost use mathlib.Core.Bool.{cond};
-ghost use mathlib.Core.List.{List};
-ghost use Prim.Native.Nat.{ℕ};
 ghost use lib.ListN.{length};
 ghost use Rattle.settings.specs.Refusal.{outside};
 ghost use Rattle.wire.specs.Round.{callCount};
 ghost use Rattle.wire.specs.Length.{blockSize, messageLength, inboxLength, outboxLength};
 ghost use Rattle.wire.specs.Slot.{layoutWith, messageOf, offsetOf};
-ghost use Rattle.reed_solomon.specs.Encode.{encoded, encodeOf};
 ghost use Rattle.state_bytes.specs.State.{stateOf};
-ghost use Rattle.boards.specs.Boards.{written, startBytes, left, stepBytes, outcomeIn, finalBytes, decodeNumber, DecodeLeaves, setBytes, starWritten, starBytes, pairBytes, pairStarBytes};
-use reed_solomon::Decoded;
+ghost use Rattle.boards.specs.Boards.{returned, startBytes, returnedStep, stepBytes, outcomeIn, finalBytes};
 use settings::Settings;
-use star::Sets;
 
 // The number of a lent length that is wrong.
-const BAD_LENGTH: u8 = 6;
-
-// What decoding answers where no block meets the rule.
-const BEYOND: u8 = 255;
+pub(crate) const BAD_LENGTH: u8 = 6;
 
 // Start: the number, and the state to the lent bytes. Refused: no lent byte changes.
-// Shut out: own number and sender the other way round; 6 whatever start answers.
+// Shut out: own number and sender the other way round; 6 whatever start answers; must-fail/refused_start_written.
 #[no_mangle]
 pub extern "C" fn potekawhi_start(
     n: usize,
@@ -34,16 +29,16 @@ pub extern "C" fn potekawhi_start(
     block: &[u8],
     state: &mut [u8],
 ) -> u8
-    ensures { λ r. ⌜ written r (now (state .exit)) ≡ startBytes (record { n = n; t = t; k = k; sender = sender }) own (length (now (block .entry))) (now (state .entry)) ⌝ }
+    ensures { λ r. ⌜ returned r (now (state .exit)) ≡ startBytes (record { n = n; t = t; k = k; sender = sender }) own (length (now (block .entry))) (now (state .entry)) ⌝ }
 {
     if state.len() != state_bytes::length() {
         return BAD_LENGTH;
     }
     let settings = Settings { n, t, k, sender };
     let started = controller::start(settings, own, block);
-    let number = started.number;
-    if number != 0 {
-        return number;
+    let refused = started.number;
+    if refused != 0 {
+        return refused;
     }
     let fresh = started.state;
     state_bytes::write(fresh, state);
@@ -59,7 +54,7 @@ pub extern "C" fn potekawhi_step(
     inbox: &[u8],
     outbox: &mut [u8],
 ) -> u8
-    ensures { λ r. ⌜ left r (now (state .exit)) (now (block .exit)) (now (outbox .exit)) ≡ stepBytes (now (state .entry)) (now (block .entry)) (now (inbox .entry)) (now (outbox .entry)) ⌝ }
+    ensures { λ r. ⌜ returnedStep r (now (state .exit)) (now (block .exit)) (now (outbox .exit)) ≡ stepBytes (now (state .entry)) (now (block .entry)) (now (inbox .entry)) (now (outbox .entry)) ⌝ }
 {
     if state.len() != state_bytes::length() {
         return BAD_LENGTH;
@@ -103,7 +98,7 @@ pub extern "C" fn potekawhi_outcome(state: &[u8]) -> u8
 // Shut out: the block copied while the run is open; a final block of any length.
 #[no_mangle]
 pub extern "C" fn potekawhi_final_block(state: &[u8], block: &[u8], out: &mut [u8]) -> u8
-    ensures { λ r. ⌜ written r (now (out .exit)) ≡ finalBytes (now (state .entry)) (now (block .entry)) (now (out .entry)) ⌝ }
+    ensures { λ r. ⌜ returned r (now (out .exit)) ≡ finalBytes (now (state .entry)) (now (block .entry)) (now (out .entry)) ⌝ }
 {
     if state.len() != state_bytes::length() {
         return BAD_LENGTH;
@@ -135,128 +130,6 @@ pub extern "C" fn potekawhi_message(inbox: &[u8], len: usize, j: usize, offset: 
     *offset = start;
     let m = wire::message(inbox, layout, j);
     m.len()
-}
-
-// Piece `number` of a block's coding.
-// Shut out: piece k; k and t the other way round.
-#[no_mangle]
-pub extern "C" fn potekawhi_encode(
-    n: usize,
-    t: usize,
-    k: usize,
-    number: usize,
-    block: &[u8],
-    piece: &mut [u8],
-) -> u8
-    ensures { λ r. ⌜ encoded r (now (piece .exit)) ≡ encodeOf n t k number (now (block .entry)) (now (piece .entry)) ⌝ }
-{
-    reed_solomon::encode(n, t, k, number, block, piece)
-}
-
-// The number for an answer of decoding.
-fn decoded_number(r: Decoded) -> u8
-    ensures { λ x. ⌜ x ≡ decodeNumber r ⌝ }
-{
-    match r {
-        Decoded::Block => 0,
-        Decoded::Beyond => BEYOND,
-        Decoded::Refused(number) => number,
-    }
-}
-
-// Decoding: the block to the lent bytes, by the relation `Answers`.
-// Shut out: 0 for beyond; n and t the other way round.
-#[no_mangle]
-pub extern "C" fn potekawhi_decode(
-    n: usize,
-    t: usize,
-    k: usize,
-    slots: &[u8],
-    block: &mut [u8],
-) -> u8
-    ensures { λ r. ⌜ DecodeLeaves n t k (now (slots .entry)) (now (block .entry)) r (now (block .exit)) ⌝ }
-{
-    let decoded = reed_solomon::decode(n, t, k, slots, block);
-    decoded_number(decoded)
-}
-
-// The four sets as rows of marks.
-fn put_sets(s: Sets, sets: &mut [u8])
-    requires { ⌜ length (now sets) ≡ 8 ⌝ }
-    ensures { λ _. ⌜ now (sets .exit) ≡ setBytes s ⌝ }
-{
-    let mut rows = [0u16; 16];
-    rows[0] = s.c;
-    rows[1] = s.d;
-    rows[2] = s.f;
-    rows[3] = s.e;
-    bitset::write_rows(sets, &rows, 16);
-}
-
-// An answer of the star: its number, and where that is 0 the four sets to the lent bytes.
-fn put_star(s: Sets, sets: &mut [u8]) -> u8
-    requires { ⌜ length (now sets) ≡ 8 ⌝ }
-    ensures { λ r. ⌜ written r (now (sets .exit)) ≡ starWritten s (now (sets .entry)) ⌝ }
-{
-    let number = s.refusal;
-    if number != 0 {
-        return number;
-    }
-    put_sets(s, sets);
-    0
-}
-
-// The star of the rows in the lent bytes, its four sets to others.
-// Shut out: E for F; 9 bytes for the sets.
-#[no_mangle]
-pub extern "C" fn potekawhi_star(n: usize, t: usize, rows: &[u8], sets: &mut [u8]) -> u8
-    ensures { λ r. ⌜ written r (now (sets .exit)) ≡ starBytes n t (now (rows .entry)) (now (sets .entry)) ⌝ }
-{
-    if rows.len() != 32 {
-        return BAD_LENGTH;
-    }
-    if sets.len() != 8 {
-        return BAD_LENGTH;
-    }
-    let graph = state_bytes::get_rows(rows);
-    let found = star::find(&graph, n, t);
-    put_star(found, sets)
-}
-
-// The missing pairs of the rows in the lent bytes, to others.
-// Shut out: those of 16 controllers whatever n is; 0 for a wrong length.
-#[no_mangle]
-pub extern "C" fn potekawhi_missing_pairs(n: usize, rows: &[u8], pairs: &mut [u8]) -> u8
-    ensures { λ r. ⌜ written r (now (pairs .exit)) ≡ pairBytes n (now (rows .entry)) (now (pairs .entry)) ⌝ }
-{
-    if rows.len() != 32 {
-        return BAD_LENGTH;
-    }
-    if pairs.len() != 15 {
-        return BAD_LENGTH;
-    }
-    let graph = state_bytes::get_rows(rows);
-    let bits = graph::bits_of(&graph, n);
-    wire::copy(pairs, &bits);
-    0
-}
-
-// The star of the missing pairs in the lent bytes, its four sets to others.
-// Shut out: n and t the other way round; 9 bytes for the sets.
-#[no_mangle]
-pub extern "C" fn potekawhi_star_of_pairs(n: usize, t: usize, pairs: &[u8], sets: &mut [u8]) -> u8
-    ensures { λ r. ⌜ written r (now (sets .exit)) ≡ pairStarBytes n t (now (pairs .entry)) (now (sets .entry)) ⌝ }
-{
-    if pairs.len() != 15 {
-        return BAD_LENGTH;
-    }
-    if sets.len() != 8 {
-        return BAD_LENGTH;
-    }
-    let mut bits = [0u8; 15];
-    wire::copy(&mut bits, pairs);
-    let found = star::of_bits(bits, n, t);
-    put_star(found, sets)
 }
 
 // The length of a block; 0 outside the settings.

@@ -16,7 +16,7 @@ use Rattle.wire.specs.declared.Call.{Call}
 use Rattle.wire.specs.declared.Call.the-variants.{Send, Receive, Compare, Collect, Tally, Hold, Settle, Core, Choose, Finish, Outside}
 use Rattle.wire.specs.Round.{callKind}
 use Rattle.phase_king.specs.Matrix.{firstMatrix, heldOf, weakOf}
-use Rattle.phase_king.proofs.Laws.{length-first, length-held, length-weak, length-settled, first-below, held-below, weak-below, settled-below}
+use Rattle.phase_king.proofs.Laws.{length-first, length-held, length-weak, length-settled, first-lt, held-lt, weak-lt, settled-lt}
 use Rattle.star.proofs.Laws.{e-below}
 use Rattle.reconstruction.specs.declared.Outcome.{Outcome}
 use Rattle.reconstruction.specs.declared.Outcome.the-variants.{Open}
@@ -31,9 +31,9 @@ use Rattle.protocol.proofs.Laws.{
   start-number,
   start-found,
   start-refused,
-  refused,
-  performed,
-  ready-of,
+  step-refused,
+  step-carried,
+  step-0,
   of-send,
   of-receive,
   of-compare,
@@ -47,7 +47,7 @@ use Rattle.protocol.proofs.Laws.{
   of-outside,
 }
 use Rattle.state_bytes.specs.State.{numbersOf, Words}
-use Rattle.state_bytes.proofs.Laws.{numbers-below}
+use Rattle.state_bytes.proofs.Laws.{numbers-lt}
 
 -- ---- the states that are built
 -- with a matrix, a weak matrix and a core of zeros
@@ -62,13 +62,13 @@ zeros-words s h m w c = record {
 }
 
 zero-words : Words zeroState
-zero-words = zeros-words zeroState (numbers-below zeroState (lit< tt) (lit< tt) (lit< tt) (lit< tt) (lit< tt) (lit< tt)) refl refl refl
+zero-words = zeros-words zeroState (numbers-lt zeroState (lit< tt) (lit< tt) (lit< tt) (lit< tt) (lit< tt) (lit< tt)) refl refl refl
 
 fresh-words : (s : Settings) (own : ℕ) → Valid s own → Words (freshState s own)
 fresh-words s own v =
     let q = v .coded .quorum in
     zeros-words (freshState s own)
-    (numbers-below (freshState s own) (omega (arith, q .n-most)) (omega (arith, q .n-most, q .t-most)) (omega (arith, v .coded .k-most))
+    (numbers-lt (freshState s own) (omega (arith, q .n-most)) (omega (arith, q .n-most, q .t-most)) (omega (arith, v .coded .k-most))
     (omega (arith, q .n-most, v .number .most)) (omega (arith, q .n-most, v .sender .most)) (lit< tt))
     refl
     refl
@@ -87,7 +87,7 @@ start-words s own b =
 -- ---- the changes of a call
 advanced-words : (s : State) (w : Outcome) → Words s → s .next ≤ 24 → Words (advanced s w)
 advanced-words s w h l = record {
-  numbers = numbers-below (advanced s w) (h .numbers 0) (h .numbers 1) (h .numbers 2) (h .numbers 3) (h .numbers 4) (omega arith);
+  numbers = numbers-lt (advanced s w) (h .numbers 0) (h .numbers 1) (h .numbers 2) (h .numbers 3) (h .numbers 4) (omega arith);
   matrix-length = h .matrix-length;
   matrix-rows = h .matrix-rows;
   weak-length = h .weak-length;
@@ -140,7 +140,7 @@ module _ (s : State) (b i o : List ℕ) (h : Words s) (few : s .settings .n ≤ 
 
   settled-rows : (r : ℕ) → getD settled r 0 < 2 ^ 16
   unfolding settled
-  settled-rows r = settled-below (s .matrix) (s .weak) i (inboxLayout s) (s .settings .n) (readPhase s) r
+  settled-rows r = settled-lt (s .matrix) (s .weak) i (inboxLayout s) (s .settings .n) (readPhase s) r
 
   core-below : coreOf settled (s .settings .n) (s .settings .t) < 2 ^ 16
   core-below = lt-of-lt-of-le (e-below settled (s .settings .n) (s .settings .t)) (pow-mono few)
@@ -155,13 +155,13 @@ module _ (s : State) (b i o : List ℕ) (h : Words s) (few : s .settings .n ≤ 
   call-words Compare = by Compare _ (of-compare s b i o) open-words
   call-words Collect =
       by Collect _ (of-collect s b i o)
-      (matrix-words (advanced s Open) (firstMatrix i (inboxLayout s) (s .settings .n)) open-words (length-first i (inboxLayout s) (s .settings .n)) (first-below i (inboxLayout s) (s .settings .n)))
+      (matrix-words (advanced s Open) (firstMatrix i (inboxLayout s) (s .settings .n)) open-words (length-first i (inboxLayout s) (s .settings .n)) (first-lt i (inboxLayout s) (s .settings .n)))
   call-words Tally = by Tally _ (of-tally s b i o) open-words
   call-words Hold =
       by Hold _ (of-hold s b i o)
       (votes-words (advanced s Open) (heldOf i (inboxLayout s) (s .settings .n) (s .settings .t)) (weakOf i (inboxLayout s) (s .settings .n) (s .settings .t)) open-words
-      (length-held i (inboxLayout s) (s .settings .n) (s .settings .t)) (held-below i (inboxLayout s) (s .settings .n) (s .settings .t)) (length-weak i (inboxLayout s) (s .settings .n) (s .settings .t))
-      (weak-below i (inboxLayout s) (s .settings .n) (s .settings .t)))
+      (length-held i (inboxLayout s) (s .settings .n) (s .settings .t)) (held-lt i (inboxLayout s) (s .settings .n) (s .settings .t)) (length-weak i (inboxLayout s) (s .settings .n) (s .settings .t))
+      (weak-lt i (inboxLayout s) (s .settings .n) (s .settings .t)))
   call-words Settle = by Settle _ (of-settle s b i o) (matrix-words (advanced s Open) settled open-words settled-length settled-rows)
   call-words Core =
       by Core _ (of-core s b i o) (core-words (advanced s Open) settled (coreOf settled (s .settings .n) (s .settings .t)) open-words settled-length settled-rows core-below)
@@ -175,9 +175,9 @@ step-words s b i o h =
     let r = stepRefusal s (length b) (length i) (length o) in
     ⊎-elim
     (λ (z : r ≡ 0).
-    let ready = ready-of s (length b) (length i) (length o) z in
+    let ready = step-0 s (length b) (length i) (length o) z in
     let q = ready .valid .coded .quorum in
-    subst (λ (a : After). Words (a .answer .state)) (sym (performed s b i o z))
+    subst (λ (a : After). Words (a .answer .state)) (sym (step-carried s b i o z))
     (call-words s b i o h (q .n-most) (omega (arith, ready .next-most, q .t-most, q .n-most)) (callKind (s .settings .t) (s .next))))
-    (λ (z : r ≡ 0 → ⊥). subst (λ (a : After). Words (a .answer .state)) (sym (refused s b i o z)) h)
+    (λ (z : r ≡ 0 → ⊥). subst (λ (a : After). Words (a .answer .state)) (sym (step-refused s b i o z)) h)
     (same-or-not r 0)

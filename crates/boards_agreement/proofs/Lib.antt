@@ -1,3 +1,4 @@
--- Runs through the exported functions are runs of `agreement`.
-pub mod Library
+-- The theorems (Laws), and what they rest on: runs through the exported functions are runs of `agreement`.
+pub mod Laws
+mod Library
 mod Bounds

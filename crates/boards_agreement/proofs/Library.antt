@@ -7,43 +7,41 @@ use native.Mathlib.Omega.{arith}
 use lib.ListN.{length}
 use Rattle.settings.specs.declared.Settings.{Settings}
 use Rattle.wire.specs.Length.{blockSize}
-use Rattle.wire.proofs.Laws.{block-size as stated-size}
+use Rattle.wire.proofs.Laws.{block-size-is}
 use Rattle.protocol.specs.declared.State.{State}
 use Rattle.protocol.specs.Step.{startOf}
-use Rattle.protocol.proofs.Laws.{refused, step-number}
-use Rattle.agreement.specs.Run.{Lent, Held, stepped, left, ends, begun}
+use Rattle.protocol.proofs.Laws.{step-refused, step-number}
+use Rattle.agreement.specs.Run.{Lent, Local, stepped, left, leftAfter, begun}
 use Rattle.agreement.specs.Agreement.{System, Correct, Supposed, atStart, atEnd, last}
-use Rattle.agreement.proofs.Run.{At}
-use Rattle.agreement.proofs.System.{coded, block-size, call-at, call-last}
-use Rattle.agreement.proofs.Agreement.{agreement}
-use Rattle.state_bytes.specs.State.{stateLength, bytesOf, Words}
+use Rattle.agreement.proofs.Laws.{At, coded, length-block, call-at, call-last, agreement}
+use Rattle.state_bytes.specs.State.{stateLength, stateBytes, Words}
 use Rattle.reconstruction.specs.Outcomes.{outcomeNumber}
-use Rattle.boards.specs.Boards.{Left, left as numbered, leftOf, written, Written, outcomeIn, finalBytes}
+use Rattle.boards.specs.Boards.{ReturnedStep, returnedStep, stepAsBytes, returned, Returned, outcomeIn, finalBytes}
 use Rattle.boards.proofs.Laws.{start-bytes, step-bytes, outcome-bytes, final-bytes, final-same}
 use Rattle.boards_agreement.specs.Library.{Kept, makes, kept, keptAfter, keptFrom, LibraryRuns, keptAt, SetByLastCall, LibraryAgrees}
 use Rattle.boards_agreement.proofs.Bounds.{start-words, step-words}
 
 -- what is held, with the state as bytes
-asKept : Held → Kept
-asKept h = record { state = bytesOf (h .state); block = h .block }
+asKept : Local → Kept
+asKept h = record { state = stateBytes (h .state); block = h .block }
 
 -- ---- step by step
-makes-same : (h : Held) → Words (h .state) → (l : Lent) → makes (asKept h) l ≡ leftOf (stepped h l)
+makes-same : (h : Local) → Words (h .state) → (l : Lent) → makes (asKept h) l ≡ stepAsBytes (stepped h l)
 unfolding asKept
 makes-same h w l = step-bytes (h .state) w (h .block) (l .inbox) (l .outbox)
 
-kept-same : (h : Held) → Words (h .state) → (l : Lent) → kept (asKept h) l ≡ asKept (left h l)
+kept-same : (h : Local) → Words (h .state) → (l : Lent) → kept (asKept h) l ≡ asKept (left h l)
 unfolding asKept
-kept-same h w l = ap (λ (x : Left). record { state = x .state; block = x .block }) (makes-same h w l)
+kept-same h w l = ap (λ (x : ReturnedStep). record { state = x .state; block = x .block }) (makes-same h w l)
 
-left-words : (h : Held) (l : Lent) → Words (h .state) → Words (left h l .state)
+left-words : (h : Local) (l : Lent) → Words (h .state) → Words (left h l .state)
 left-words h l w = step-words (h .state) (h .block) (l .inbox) (l .outbox) w
 
-ends-words : (h : Held) (ls : List Lent) → Words (h .state) → Words (ends h ls .state)
+ends-words : (h : Local) (ls : List Lent) → Words (h .state) → Words (leftAfter h ls .state)
 ends-words h [] w = w
 ends-words h (l ∷ ls) w = ends-words (left h l) ls (left-words h l w)
 
-after-same : (h : Held) (ls : List Lent) → Words (h .state) → keptAfter (asKept h) ls ≡ asKept (ends h ls)
+after-same : (h : Local) (ls : List Lent) → Words (h .state) → keptAfter (asKept h) ls ≡ asKept (leftAfter h ls)
 after-same h [] w = refl
 after-same h (l ∷ ls) w = ap (λ (c : Kept). keptAfter c ls) (kept-same h w l) ∙ after-same (left h l) ls (left-words h l w)
 
@@ -51,18 +49,18 @@ after-same h (l ∷ ls) w = ap (λ (c : Kept). keptAfter c ls) (kept-same h w l)
 module _ (s : Settings) (own : ℕ) (b buffer : List ℕ) (size : length buffer ≡ stateLength) (started : startOf s own (length b) .number ≡ 0) where
   from-same : keptFrom s own b buffer ≡ asKept (begun s own b)
   unfolding asKept
-  from-same = ap (λ (x : Written). record { state = x .bytes; block = b }) (start-bytes s own (length b) buffer size started)
+  from-same = ap (λ (x : Returned). record { state = x .bytes; block = b }) (start-bytes s own (length b) buffer size started)
 
   begun-words : Words (begun s own b .state)
   begun-words = start-words s own (length b)
 
-  run-same : (ls : List Lent) → keptAfter (keptFrom s own b buffer) ls ≡ asKept (ends (begun s own b) ls)
+  run-same : (ls : List Lent) → keptAfter (keptFrom s own b buffer) ls ≡ asKept (leftAfter (begun s own b) ls)
   run-same ls = ap (λ (c : Kept). keptAfter c ls) from-same ∙ after-same (begun s own b) ls begun-words
 
 pub library-runs : LibraryRuns
 library-runs s own b buffer size ls l started =
     ap (λ (c : Kept). makes c l) (run-same s own b buffer size started ls)
-    ∙ makes-same (ends (begun s own b) ls) (ends-words (begun s own b) ls (begun-words s own b buffer size started)) l
+    ∙ makes-same (leftAfter (begun s own b) ls) (ends-words (begun s own b) ls (begun-words s own b buffer size started)) l
 
 -- ---- systems
 module _ (S : System) (supposed : Supposed S) (buffers : ℕ → List ℕ) (sizes : (i : ℕ) → length (buffers i) ≡ stateLength) where
@@ -91,16 +89,16 @@ module _ (S : System) (supposed : Supposed S) (buffers : ℕ → List ℕ) (size
       }
 
   later-steps : (i : ℕ) → Correct S i → (l : Lent)
-      → makes (keptAt S buffers i) l ≡ numbered 8 (keptAt S buffers i .state) (keptAt S buffers i .block) (l .outbox)
+      → makes (keptAt S buffers i) l ≡ returnedStep 8 (keptAt S buffers i .state) (keptAt S buffers i .block) (l .outbox)
   unfolding asKept
   later-steps i c l =
       let h = atEnd S i in
       let e : stepped h l .answer .number ≡ 8 = agreement S supposed .later i c l .0 in
-      let q = refused (h .state) (h .block) (l .inbox) (l .outbox) (λ z. omega (arith, e, step-number (h .state) (h .block) (l .inbox) (l .outbox), z)) in
+      let q = step-refused (h .state) (h .block) (l .inbox) (l .outbox) (λ z. omega (arith, e, step-number (h .state) (h .block) (l .inbox) (l .outbox), z)) in
       ap (λ (x : Kept). makes x l) (at i c)
       ∙ makes-same h (end-words i) l
-      ∙ (λ x. numbered (e x) (bytesOf (q x .answer .state)) (q x .block) (q x .outbox))
-      ∙ sym (ap (λ (x : Kept). numbered 8 (x .state) (x .block) (l .outbox)) (at i c))
+      ∙ (λ x. returnedStep (e x) (stateBytes (q x .answer .state)) (q x .block) (q x .outbox))
+      ∙ sym (ap (λ (x : Kept). returnedStep 8 (x .state) (x .block) (l .outbox)) (at i c))
 
   -- the settings at the end are the system's
   end-size : (i : ℕ) → Correct S i → blockSize (atEnd S i .state .settings .n) (atEnd S i .state .settings .t) (atEnd S i .state .settings .k) ≡ blockSize (S .settings .n) (S .settings .t) (S .settings .k)
@@ -125,17 +123,17 @@ module _ (S : System) (supposed : Supposed S) (buffers : ℕ → List ℕ) (size
       ∙ sym (ap (λ (c : Kept). finalBytes (c .state) (c .block) out) (at j cj))
 
   senders-final : (i : ℕ) → Correct S (S .settings .sender) → Correct S i → (out : List ℕ) → length out ≡ length (S .block (S .settings .sender))
-      → finalBytes (keptAt S buffers i .state) (keptAt S buffers i .block) out ≡ written 1 (S .block (S .settings .sender))
+      → finalBytes (keptAt S buffers i .state) (keptAt S buffers i .block) out ≡ returned 1 (S .block (S .settings .sender))
   unfolding asKept
   senders-final i cs ci out e =
       let o = agreement S supposed .sender-outcome i cs ci in
       let b = agreement S supposed .sender-block i cs ci in
       let r : outcomeNumber (atEnd S i .state .outcome) ≡ 1 = ap outcomeNumber o in
       let size : length (S .block (S .settings .sender)) ≡ blockSize (atEnd S i .state .settings .n) (atEnd S i .state .settings .t) (atEnd S i .state .settings .k)
-      = block-size S supposed (S .settings .sender) cs ∙ sym (stated-size (coded S supposed (S .settings .sender) cs)) ∙ sym (end-size i ci) in
+      = length-block S supposed (S .settings .sender) cs ∙ sym (block-size-is (coded S supposed (S .settings .sender) cs)) ∙ sym (end-size i ci) in
       ap (λ (c : Kept). finalBytes (c .state) (c .block) out) (at i ci)
       ∙ final-bytes (atEnd S i .state) (end-words i) (atEnd S i .block) out (ap length b ∙ size) (e ∙ size) (λ z. omega (arith, r, z))
-      ∙ ap₂ written r b
+      ∙ ap₂ returned r b
 
 pub library-agrees : LibraryAgrees
 library-agrees S supposed buffers sizes = record {

@@ -23,16 +23,16 @@ use Rattle.reed_solomon.specs.Decode.{Decodes}
 use Rattle.reconstruction.specs.declared.Outcome.the-variants.{Agreed, None, Beyond}
 use Rattle.reconstruction.specs.Outcomes.{outcomeNumber}
 use Rattle.protocol.specs.Step.{startOf}
-use Rattle.agreement.specs.Run.{Lent, stepped, ends, begun}
+use Rattle.agreement.specs.Run.{Lent, stepped, leftAfter, begun}
 use Rattle.agreement.specs.Agreement.{System, Correct, Supposed, lastCore, lastInbox}
 use Rattle.state_bytes.specs.State.{stateLength}
-use Rattle.boards.specs.Boards.{Left, left, leftOf, startBytes, stepBytes, outcomeIn, finalBytes, written}
+use Rattle.boards.specs.Boards.{ReturnedStep, returnedStep, stepAsBytes, startBytes, stepBytes, outcomeIn, finalBytes, returned}
 
 pub record Kept : Type 0 where
   pub state : List ℕ
   pub block : List ℕ
 
-abbrev pub makes : Kept → Lent → Left
+abbrev pub makes : Kept → Lent → ReturnedStep
 makes c l = stepBytes (c .state) (c .block) (l .inbox) (l .outbox)
 
 abbrev pub kept : Kept → Lent → Kept
@@ -49,7 +49,7 @@ abbrev pub LibraryRuns : Type 0
 LibraryRuns =
     (s : Settings) (own : ℕ) (b buffer : List ℕ) → length buffer ≡ stateLength → (ls : List Lent) (l : Lent)
     → startOf s own (length b) .number ≡ 0
-    → makes (keptAfter (keptFrom s own b buffer) ls) l ≡ leftOf (stepped (ends (begun s own b) ls) l)
+    → makes (keptAfter (keptFrom s own b buffer) ls) l ≡ stepAsBytes (stepped (leftAfter (begun s own b) ls) l)
 
 abbrev pub keptAt : System → (ℕ → List ℕ) → ℕ → Kept
 keptAt S buffers i = keptAfter (keptFrom (S .settings) i (S .block i) (buffers i)) (S .steps i)
@@ -69,14 +69,14 @@ pub record OneOutcome (S : System) (buffers : ℕ → List ℕ) : Type 0 where
   -- each correct controller's outcome and block are those that the last call sets, and later steps answer 8 and change nothing
   pub set : (i : ℕ) → Correct S i → SetByLastCall S buffers i
   pub later : (i : ℕ) → Correct S i → (l : Lent)
-      → makes (keptAt S buffers i) l ≡ left 8 (keptAt S buffers i .state) (keptAt S buffers i .block) (l .outbox)
+      → makes (keptAt S buffers i) l ≡ returnedStep 8 (keptAt S buffers i .state) (keptAt S buffers i .block) (l .outbox)
   pub same-outcome : (i j : ℕ) → Correct S i → Correct S j → outcomeIn (keptAt S buffers i .state) ≡ outcomeIn (keptAt S buffers j .state)
   pub same-block : (i j : ℕ) → Correct S i → Correct S j → keptAt S buffers i .block ≡ keptAt S buffers j .block
   -- and what the final block is copied to, out, holds the same
   pub same-final : (i j : ℕ) → Correct S i → Correct S j → (out : List ℕ)
       → finalBytes (keptAt S buffers i .state) (keptAt S buffers i .block) out ≡ finalBytes (keptAt S buffers j .state) (keptAt S buffers j .block) out
   pub sender-final : (i : ℕ) → Correct S (S .settings .sender) → Correct S i → (out : List ℕ) → length out ≡ length (S .block (S .settings .sender))
-      → finalBytes (keptAt S buffers i .state) (keptAt S buffers i .block) out ≡ written 1 (S .block (S .settings .sender))
+      → finalBytes (keptAt S buffers i .state) (keptAt S buffers i .block) out ≡ returned 1 (S .block (S .settings .sender))
 
 abbrev pub LibraryAgrees : Type 0
 LibraryAgrees = (S : System) → Supposed S → (buffers : ℕ → List ℕ) → ((i : ℕ) → length (buffers i) ≡ stateLength) → OneOutcome S buffers

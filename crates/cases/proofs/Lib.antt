@@ -1,2 +1,2 @@
--- Laws of digests.
-pub mod Laws
+-- Laws of digests, that the proofs of the functions cite.
+mod Digests

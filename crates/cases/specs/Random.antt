@@ -1,5 +1,5 @@
 -- Random numbers, and digests by the same generator.
---   next x            x times 1664525 plus 1013904223, modulo 2 to the 32
+--   nextRandom x            x times 1664525 plus 1013904223, modulo 2 to the 32
 --   mixed x y         next of the sum, modulo 2 to the 64
 --   seeded a b c d    a mixed with b, c and d, one after the other
 --   drawn a b c d     the upper 16 bits of that
@@ -7,11 +7,11 @@
 use mathlib.Core.List.{List, [], _∷_}
 use Prim.Native.Nat.{ℕ, _+_, _*_, _/_, _%_, _^_}
 
-unfoldable pub next : ℕ → ℕ
-next x = (x % 4294967296 * 1664525 + 1013904223) % 4294967296
+unfoldable pub nextRandom : ℕ → ℕ
+nextRandom x = (x % 4294967296 * 1664525 + 1013904223) % 4294967296
 
 unfoldable pub mixed : ℕ → ℕ → ℕ
-mixed x y = next ((x + y) % 2 ^ 64)
+mixed x y = nextRandom ((x + y) % 2 ^ 64)
 
 abbrev pub seeded : ℕ → ℕ → ℕ → ℕ → ℕ
 seeded a b c d = mixed (mixed (mixed a b) c) d

@@ -8,11 +8,11 @@ ghost use lib.Dec.{eqb, ltb};
 ghost use lib.ListN.{length, replicate};
 ghost use Rattle.lists.specs.Sum.{ind};
 ghost use Rattle.io.specs.Counts.{Counts};
-ghost use Rattle.cases.specs.Random.{next as Random·next, mixed, seeded, drawn, digested};
+ghost use Rattle.cases.specs.Random.{nextRandom, mixed, seeded, drawn, digested};
 
 // The generator: x times 1664525 plus 1013904223, modulo 2 to the 32.
 pub fn next(x: u64) -> u64
-    ensures { λ r. ⌜ r ≡ Random·next x ⌝ }
+    ensures { λ r. ⌜ r ≡ nextRandom x ⌝ }
 {
     (x % 4294967296 * 1664525 + 1013904223) % 4294967296
 }

@@ -1,2 +1,2 @@
 -- For the contracts of the private functions.
-pub mod Bounds
+pub mod Steps

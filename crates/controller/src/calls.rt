@@ -5,7 +5,7 @@ ghost use Prim.Native.Nat.{_≤_};
 ghost use Rattle.wire.specs.Round.{callKind};
 ghost use Rattle.protocol.specs.State.{advanced};
 ghost use Rattle.protocol.specs.Calls.{carried, inboxLayout, outboxLayout, settledMatrix, sendCall, receiveCall, compareCall, collectCall, tallyCall, holdCall, settleCall, coreCall, chooseCall, finishCall, callOf};
-ghost use Rattle.controller.specs.Bounds.{Bounded};
+ghost use Rattle.controller.specs.Steps.{Bounded};
 use protocol::State;
 use protocol::with_call;
 use protocol::with_core;

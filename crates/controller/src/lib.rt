@@ -18,7 +18,7 @@ use refusal::step_refusal;
 use settings::Settings;
 
 // Begins a run; the block is neither read nor changed. Refused: the zero state.
-// Shut out: a start carried out that returns 1; a refused one whose state has a next call.
+// Shut out: a start carried out that returns 1; a refused one whose state has a next call; must-fail/start_always_refuses.
 pub fn start(s: Settings, own: usize, block: &[u8]) -> Started
     ensures { λ r. ⌜ r ≡ startOf s own (length (now (block .entry))) ⌝ }
 {
@@ -32,7 +32,7 @@ pub fn start(s: Settings, own: usize, block: &[u8]) -> Started
 }
 
 // One step. Refused: the state comes back as given, and no lent byte changes.
-// Shut out: a refused step that returns 0; 7 after the last call; none while the vote is open, always refusing (must-fail edits).
+// Shut out: a refused step that returns 0; 7 after the last call; must-fail/none_while_open; must-fail/always_refusing.
 pub fn step(s: State, block: &mut [u8], inbox: &[u8], outbox: &mut [u8]) -> Stepped
     ensures { λ r. ⌜ after r (now (block .exit)) (now (outbox .exit)) ≡ stepOf s (now (block .entry)) (now (inbox .entry)) (now (outbox .entry)) ⌝ }
 {

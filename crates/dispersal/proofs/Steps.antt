@@ -10,22 +10,22 @@ use lib.ListN.{length, take, drop, replicate, length-append, length-take, length
 use lib.Seq.{take-at, drop-at, drop-drop, length-take-le}
 use Rattle.lists.specs.Same.{same}
 use Rattle.lists.proofs.Tests.{fails, and-no-left, and-tail, or-left, or-tail}
-use Rattle.lists.proofs.Sames.{same-length}
+use Rattle.lists.proofs.Sames.{no-same}
 use Rattle.settings.specs.declared.Entry.the-variants.{Encode}
 use Rattle.wire.specs.declared.slot.Layout.{Layout}
 use Rattle.wire.specs.Slot.{messageOf}
 use Rattle.wire.specs.declared.Round.the-variants.{Pieces}
 use Rattle.wire.specs.Length.{kindLength}
-use Rattle.wire.proofs.Laws.{kind-length, length-pieces, Sized, sized-bytes}
+use Rattle.wire.proofs.Laws.{kind-length-is, row-pieces, Sized, sized-bytes}
 use Rattle.settings.specs.Valid.{Coded}
 use Rattle.reed_solomon.specs.Encode.{pieceOf, Encoded, encoded, encodeOf, isReady, Coding}
-use Rattle.reed_solomon.proofs.Laws.{0-encoded, piece-length, ready-says}
+use Rattle.reed_solomon.proofs.Laws.{encode-valid, length-piece, ready-yes}
 use Rattle.dispersal.specs.Dispersal.{twoPieces, isMarked}
-use Rattle.dispersal.proofs.Laws.{two-pieces-is}
+use Rattle.dispersal.proofs.Calls.{two-pieces-is}
 
 -- ---- the table's length is that of two pieces
-pub two-pieces-length : {n t k : ℕ} → Coded n t k → kindLength Pieces n t k ≡ 2 * k
-two-pieces-length {n} {t} {k} v = kind-length v Pieces ∙ length-pieces n t k
+pub kind-pieces : {n t k : ℕ} → Coded n t k → kindLength Pieces n t k ≡ 2 * k
+kind-pieces {n} {t} {k} v = kind-length-is v Pieces ∙ row-pieces n t k
 
 -- ---- pieces
 -- piece j, coded into the part of m from a to e that was lent and came back as q
@@ -35,7 +35,7 @@ pub put-piece : {n t k j : ℕ} {b : List ℕ} → Coding n t k j b → (m q : L
 put-piece {n} {t} {k} {j} {b} v m q a r l e =
     let u : a + (a + k - a) ≡ a + k = omega arith in
     ap₂ (λ (x y : List ℕ). take a m ++ (x ++ y))
-    (ap (λ (x : Encoded). x .piece) (e ∙ 0-encoded n t k j b (take (a + k - a) (drop a m)) (v .coded) (v .number) (v .size) l))
+    (ap (λ (x : Encoded). x .piece) (e ∙ encode-valid n t k j b (take (a + k - a) (drop a m)) (v .coded) (v .number) (v .size) l))
     (drop-drop (a + k - a) a m ∙ ap (λ (x : ℕ). drop x m) u)
 
 -- the piece p at the front of m
@@ -50,13 +50,13 @@ paired k p q m m' h l e =
 
 -- both have the length of two pieces
 module _ (k t own : ℕ) (b : List ℕ) where
-  pub pair-length : (j : ℕ) → length (pieceOf k t b own ++ pieceOf k t b j) ≡ 2 * k
-  pair-length j =
-      length-append (pieceOf k t b own) (pieceOf k t b j) ∙ omega (arith, piece-length k t b own, piece-length k t b j)
+  pub length-two-pieces : (j : ℕ) → length (pieceOf k t b own ++ pieceOf k t b j) ≡ 2 * k
+  length-two-pieces j =
+      length-append (pieceOf k t b own) (pieceOf k t b j) ∙ omega (arith, length-piece k t b own, length-piece k t b j)
 
   pub two-pieces-sized : (layout : Layout) → layout .length ≡ 2 * k → (j : ℕ) → Sized layout (twoPieces k t own b j)
   two-pieces-sized layout e j =
-      rw (two-pieces-is k t own b j) (sized-bytes layout (pieceOf k t b own ++ pieceOf k t b j) (pair-length j ∙ sym e))
+      rw (two-pieces-is k t own b j) (sized-bytes layout (pieceOf k t b own ++ pieceOf k t b j) (length-two-pieces j ∙ sym e))
 
 -- the front of an array that holds two pieces
 pub pair-room : (k len : ℕ) → k ≤ 128 → len ≡ 2 * k → length (take {A = ℕ} len (replicate 256 0)) ≡ len
@@ -66,7 +66,7 @@ pair-room k len h e = let o : List ℕ = replicate 256 0 in length-take-le len o
 -- a message that is shorter than a piece
 pub short-message : (k : ℕ) (message m : List ℕ) → length message < k → length m ≡ 2 * k → same (take k message) (drop k m) ≡ false
 short-message k message m l e =
-    same-length (take k message) (drop k m) (λ q. omega (arith, length-take k message, length-drop k m))
+    no-same (take k message) (drop k m) (λ q. omega (arith, length-take k message, length-drop k m))
 
 -- the cases of a mark
 module _ (k t own : ℕ) (inbox : List ℕ) (layout : Layout) (b : List ℕ) (j : ℕ) where
@@ -90,5 +90,5 @@ module _ (k t own : ℕ) (inbox : List ℕ) (layout : Layout) (b : List ℕ) (j 
         let p = pieceOf k t b own in
         let q = pieceOf k t b j in
         ap₂ (λ (x y : List ℕ). same (take k M) x && same (drop k M) y)
-        (ap (drop k) e ∙ drop-at p q k (piece-length k t b own)) (ap (take k) e ∙ take-at p q k (piece-length k t b own))
+        (ap (drop k) e ∙ drop-at p q k (length-piece k t b own)) (ap (take k) e ∙ take-at p q k (length-piece k t b own))
         ∙ sym (or-tail (eqb j own) _ (ne-eqb j own other) ∙ and-tail (not (eqb (length M) 0)) _ (ap not (ne-eqb (length M) 0 n)))

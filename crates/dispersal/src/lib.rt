@@ -96,7 +96,7 @@ fn send_both(
 }
 
 // Call 2: to each controller the own piece, then its piece of the own coding. Refused settings or lengths: nothing is written.
-// Shut out: the outbox untouched, the first slot left, slots of this round left unwritten (must-fail edits); the own piece twice.
+// Shut out: the own piece twice; must-fail/outbox_untouched; must-fail/first_slot_left; must-fail/round_2_unwritten.
 pub fn send_pieces(n: usize, t: usize, k: usize, own: usize, block: &[u8], outbox: &mut [u8])
     ensures { λ _. ⌜ now (outbox .exit) ≡ sentPieces n t k own (now (block .entry)) (now (outbox .entry)) ⌝ }
 {
@@ -186,7 +186,7 @@ fn mark(n: usize, t: usize, k: usize, own: usize, inbox: &[u8], layout: Layout, 
 }
 
 // Call 3: the set of those marked; empty where the settings or the block's length are refused.
-// Shut out: marks without oneself (must-fail edit); the indices one too high; the first t controllers alone.
+// Shut out: the indices one too high; the first t controllers alone; must-fail/marks_without_oneself.
 pub fn marks(
     n: usize,
     t: usize,
@@ -205,7 +205,7 @@ pub fn marks(
 }
 
 // Call 3: the marks to all. An outbox whose length is not that of the slots stays as it is.
-// Shut out: bits past n sent; four slots, whatever n is.
+// Shut out: bits past n sent; four slots, whatever n is; must-fail/marks_to_nobody.
 pub fn send_marks(layout: Layout, n: usize, s: u16, outbox: &mut [u8])
     ensures { λ _. ⌜ now (outbox .exit) ≡ sentMarks layout n s (now (outbox .entry)) ⌝ }
 {

@@ -10,9 +10,9 @@ use Rattle.graph.specs.Bits.{bit, missingAt, bitsOf, adjacent}
 use Rattle.matching.specs.Matching.{matched}
 use Rattle.matching.specs.First.{firstFound, ofSize, upTo, matchingOf}
 use Rattle.star.specs.Star.{struck, setC, lacks, setD, atLeast, setF, setE, setsFrom, noSets, isLarge, starFrom, refusalFor, starOfBits}
-use Rattle.examples.specs.Pairs.{Pairs}
+use Rattle.examples.specs.Pairs.{MissingPairs}
 
-pub missing-pairs : Pairs
+pub missing-pairs : MissingPairs
 unfolding sum count tabulate member setOf sizeOf outside tooMany broken refusalOf starRefusal neighbour withLarger pairsFrom order pairAt place bit missingAt bitsOf adjacent matched firstFound ofSize upTo matchingOf struck setC lacks setD atLeast setF setE setsFrom noSets isLarge starFrom refusalFor starOfBits
 missing-pairs =
     record {

@@ -21,7 +21,7 @@ use Rattle.reed_solomon.specs.declared.Decoded.the-variants.{Block, Beyond}
 use Rattle.reed_solomon.specs.Decode.{received, agreeing, decodeRefusal}
 use Rattle.reed_solomon.specs.First.{meets}
 use Rattle.reed_solomon.specs.Steps.{points, column, stripeOf, isFound}
-use Rattle.reed_solomon.proofs.Laws.{decode-valid, meets-decodes, stripe-beyond}
+use Rattle.reed_solomon.proofs.Laws.{decode-0, meets-decodes, stripe-beyond}
 use Rattle.phase_king.specs.Bit.{zeroSeen, oneSeen}
 use Rattle.graph.specs.Neighbour.{neighbour}
 use Rattle.matching.specs.Matching.{matched}
@@ -33,7 +33,7 @@ use Rattle.examples.specs.Examples.{fourPieces, decodes, Examples}
 -- ---- decoding, at n 4, t 1, k 1
 coded : Coded 4 1 1
 unfolding decodeRefusal decodingRefusal refusalOf outside tooMany broken blockLength width
-coded = decode-valid 4 1 1 (fourPieces 0 0 0 0) (0 ∷ 0 ∷ []) refl .0
+coded = decode-0 4 1 1 (fourPieces 0 0 0 0) (0 ∷ 0 ∷ []) refl .0
 
 -- example d: the block is of bytes, and its code agrees with three of the pieces
 bytes-d : Bytes (0x0a ∷ 0x14 ∷ [])

@@ -1,4 +1,4 @@
--- The laws of the field: all that a crate above may know of it besides the contracts. Written with + for `gadd`, · for `gmul`, a⁻¹ for
+-- What a crate above may know of the field besides the contracts and the definitions. Written with + for `gadd`, · for `gmul`, a⁻¹ for
 -- `ginv a` and ^ for `gpow`; a law holds of all numbers, or where it says `element` of those below 256, or where it says `unit` of those
 -- from 1 to 255.
 --   Sum

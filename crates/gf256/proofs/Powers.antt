@@ -9,8 +9,8 @@ use native.Mathlib.Nat.{zero-add, suc-add, add-zero, add-suc, zero-mul, suc-mul,
 use native.Mathlib.Omega.{arith}
 use lib.Dec.{T, eqb, eqb→eq, lit<}
 use lib.ListN.{getD, length}
-use Rattle.lists.proofs.Table.{below, below-at, every, at}
-use Rattle.gf256.specs.Field.{gmul, gpow, ginv, glog, orbit, place}
+use Rattle.lists.proofs.Table.{below, below-at, everyAt, at}
+use Rattle.gf256.specs.Field.{gmul, gpow, ginv, glog, orbit, indexOf}
 use Rattle.gf256.proofs.Product.{gmul-lt, gmul-comm, gmul-assoc, gmul-medial, gmul-one-l, gmul-one-r, gmul-zero-l, gmul-zero-r}
 
 -- ---- powers
@@ -85,13 +85,13 @@ pub getD-orbit : (n k : ℕ) → k < n → getD (orbit n 1) k 0 ≡ gpow 2 k
 unfolding gpow
 getD-orbit n k h = orbit-from n 0 k h ∙ ap (gpow 2) (zero-add k)
 
-place-lt : (n p i a : ℕ) → 0 < i + n → place (orbit n p) i a < i + n
-unfolding orbit place
+place-lt : (n p i a : ℕ) → 0 < i + n → indexOf (orbit n p) i a < i + n
+unfolding orbit indexOf
 place-lt zero p i a h = h
 place-lt (suc n) p i a h = go (eqb p a) (place-lt n (gmul 2 p) (suc i) a (omega arith))
   where
     later : ℕ
-    later = place (orbit n (gmul 2 p)) (suc i) a
+    later = indexOf (orbit n (gmul 2 p)) (suc i) a
 
     go : (b : Bool) → later < suc i + n → cond b i later < i + suc n
     go true l = omega arith
@@ -103,13 +103,13 @@ glog-lt a = omega (arith, place-lt 255 1 0 a (lit< tt))
 
 -- what stands in a list of powers at the place of a + 1 is a + 1
 foundIn : List ℕ → ℕ → Bool
-foundIn powers a = eqb (getD powers (place powers 0 (suc a)) 0) (suc a)
+foundIn powers a = eqb (getD powers (indexOf powers 0 (suc a)) 0) (suc a)
 
 allFound : List ℕ → Bool
 allFound powers = below 255 (foundIn powers)
 
 all-found : T (allFound (orbit 255 1))
-unfolding gmul orbit place foundIn allFound
+unfolding gmul orbit indexOf foundIn allFound
 all-found = tt
 
 pub gpow-glog : (a : ℕ) → 0 < a → a < 256 → gpow 2 (glog a) ≡ a
@@ -121,13 +121,13 @@ gpow-glog (suc a) p h =
 
 -- the place of the entry k is k
 placedAt : List ℕ → ℕ → ℕ → Bool
-placedAt powers k x = eqb (place powers 0 x) k
+placedAt powers k x = eqb (indexOf powers 0 x) k
 
 allPlaced : List ℕ → Bool
-allPlaced powers = every (placedAt powers) 0 powers
+allPlaced powers = everyAt (placedAt powers) 0 powers
 
 all-placed : T (allPlaced (orbit 255 1))
-unfolding gmul orbit place placedAt allPlaced
+unfolding gmul orbit indexOf placedAt allPlaced
 all-placed = tt
 
 pub glog-gpow : (e : ℕ) → e < 255 → glog (gpow 2 e) ≡ e
@@ -138,7 +138,7 @@ glog-gpow e h =
     (at 0 (placedAt (orbit 255 1)) (orbit 255 1) all-placed e (rw (length-orbit 255 1) h))
 
 pub glog-zero : glog 0 ≡ 0
-unfolding gmul glog orbit place
+unfolding gmul glog orbit indexOf
 glog-zero = refl
 
 pub glog-one : glog 1 ≡ 0

@@ -6,7 +6,7 @@
 --   gmul a b   the product: of polynomials, reduced by 11d
 --   gpow a n   a multiplied by itself n times
 --   ginv a     the inverse; that of 00 is 00
---   orbit n p, place l i a   p, 02 p, .. : n of them; where a first stands in l, counted from i
+--   orbit n p, indexOf l i a   p, 02 p, .. : n of them; where a first stands in l, counted from i
 --   glog a     the exponent: a is that power of 02; that of 00 is 0
 use mathlib.Core.Bool.{cond}
 use mathlib.Core.List.{List, [], _∷_}
@@ -53,10 +53,10 @@ orbit zero p = []
 orbit (suc n) p = p ∷ orbit n (gmul 2 p)
 
 -- where a first stands in a list whose places are counted from i; 0 where it stands nowhere
-unfoldable pub place : List ℕ → ℕ → ℕ → ℕ
-place [] i a = 0
-place (x ∷ xs) i a = cond (eqb x a) i (place xs (suc i) a)
+unfoldable pub indexOf : List ℕ → ℕ → ℕ → ℕ
+indexOf [] i a = 0
+indexOf (x ∷ xs) i a = cond (eqb x a) i (indexOf xs (suc i) a)
 
 -- the place among the 255 powers of 02
 unfoldable pub glog : ℕ → ℕ
-glog a = place (orbit 255 1) 0 a
+glog a = indexOf (orbit 255 1) 0 a

@@ -42,14 +42,16 @@ const EXPONENTS: [u8; 256] = *b"\
     \xcb\x59\x5f\xb0\x9c\xa9\xa0\x51\x0b\xf5\x16\xeb\x7a\x75\x2c\xd7\
     \x4f\xae\xd5\xe9\xe6\xe7\xad\xe8\x74\xd6\xf4\xea\xa8\x50\x58\xaf";
 
-// The sum, which is also the difference. Shut out: a | b; a ^ a.
+// The sum, which is also the difference.
+// Shut out: a | b; a ^ a.
 pub fn add(a: u8, b: u8) -> u8
     ensures { λ r. ⌜ r ≡ gadd a b ⌝ }
 {
     a ^ b
 }
 
-// 02 to the power `e`; 255 gives 01, as 0 does. Shut out: 02 at 255; and must-fail/wrong_power.
+// 02 to the power `e`; 255 gives 01, as 0 does.
+// Shut out: 02 at 255; must-fail/wrong_power.
 pub fn power(e: u8) -> u8
     ensures { λ r. ⌜ r ≡ gpow 2 e ⌝ }
 {
@@ -59,16 +61,16 @@ pub fn power(e: u8) -> u8
     POWERS[e as usize]
 }
 
-// The exponent of `a`: `power` of it is `a`. That of 00 is 00, and so is that of 01. Shut out: 255 for 00; 255 for 01; and
-// must-fail/wrong_exponent.
+// The exponent of `a`: `power` of it is `a`. That of 00 is 00, and so is that of 01.
+// Shut out: 255 for 00; 255 for 01; must-fail/wrong_exponent.
 pub fn log(a: u8) -> u8
     ensures { λ r. ⌜ r ≡ glog a ⌝ }
 {
     EXPONENTS[a as usize]
 }
 
-// The product: exponents add up, modulo 255; the sum of two is below 510, so 255 is subtracted at most once (document 02, U5). Shut out: 01
-// where a is 00; and must-fail/subtracts_254, must-fail/exponent_added_twice.
+// The product: exponents add up, modulo 255; the sum of two is below 510, so 255 is subtracted at most once (document 02, U5).
+// Shut out: 01 where a is 00; must-fail/subtracts_254; must-fail/exponent_added_twice; must-fail/other_polynomial.
 pub fn mul(a: u8, b: u8) -> u8
     ensures { λ r. ⌜ r ≡ gmul a b ⌝ }
 {
@@ -85,7 +87,8 @@ pub fn mul(a: u8, b: u8) -> u8
     power((e - 255) as u8)
 }
 
-// The inverse; that of 00 is 00. Shut out: 01 for 00; 00 for 01.
+// The inverse; that of 00 is 00.
+// Shut out: 01 for 00; 00 for 01.
 pub fn inv(a: u8) -> u8
     ensures { λ r. ⌜ r ≡ ginv a ⌝ }
 {

@@ -1,4 +1,4 @@
--- What a crate above may know of the neighbour graph besides the contracts.
+-- What a crate above may know of the neighbour graph besides the contracts and the definitions.
 --   Neighbours by rows of marks
 --     neighbour-self     everyone is its own neighbour
 --     neighbour-sym      neighbours are so both ways

@@ -64,7 +64,7 @@ fn with_bit(s: u8, k: usize, yes: bool) -> u8
 }
 
 // The graph of the rows as missing pairs, of the indices below n.
-// Shut out: a place off by one; the larger index first in the order; a bit for an index past n (must-fail edits).
+// Shut out: must-fail/place_off_by_one; must-fail/larger_first; must-fail/ordered_by_larger; must-fail/bit_past_n.
 pub fn bits_of(rows: &[u16; 16], n: usize) -> [u8; 15]
     ensures { λ r. ⌜ r ≡ bitsOf n (neighbour (now (rows .entry))) ⌝ }
 {
@@ -124,7 +124,7 @@ fn at_most_16(n: usize) -> usize
 
 // The set of those with whom i makes a missing pair below n; empty where i is not below n and 16. Digits are added, not tested one by one:
 // a branch on each would be mispredicted for half of random bits.
-// Shut out: bits of indices past n read; oneself not a neighbour (must-fail edits).
+// Shut out: must-fail/bits_past_n_read; must-fail/self_not_neighbour.
 pub fn missing_row(bits: [u8; 15], n: usize, i: usize) -> u16
     ensures { λ r. ⌜ r ≡ missing n (adjacent bits) i ⌝ }
 {

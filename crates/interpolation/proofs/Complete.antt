@@ -18,22 +18,22 @@ use Rattle.lists.proofs.Sums.{count-mono, count-meet}
 use Rattle.lists.proofs.Tests.{and-left, and-right, lt-or-le}
 use Rattle.polynomial.specs.Polynomial.{evaluate, horner, plus, product, Bytes, Zero, Below, Points}
 use Rattle.polynomial.proofs.Laws.{evaluate-horner, horner-plus, horner-product, horner-zero, horner-at-zero, at-plus, at-product, past-end, bytes-plus, bytes-product, below-more, below-length, below-plus, below-product, zero-product-r, zero-of-roots, equal-of-values}
-use Rattle.interpolation.specs.Interpolation.{agreements, Pair, wrongBy, State, swapped, run, smaller, reduced, series, candidate}
-use Rattle.interpolation.proofs.Invariant.{Weighs, Holds, Units, det, holds-swapped, holds-run}
+use Rattle.interpolation.specs.Interpolation.{agreements, Ratio, wrongBy, Ratios, swapped, run, smaller, reduced, series, candidate}
+use Rattle.interpolation.proofs.Invariant.{Weighs, Invariant, Units, det, holds-swapped, holds-run}
 
 -- ---- Q - f E
-rest : List ℕ → Pair → List ℕ
+rest : List ℕ → Ratio → List ℕ
 rest f P = plus (P .Q) (product f (P .E))
 
 -- where f takes the value received and the pair is right, Q - f E has a root
-rest-root : (f : List ℕ) (P : Pair) (x y : ℕ) → wrongBy y P x ≡ 0 → horner f x ≡ y → horner (rest f P) x ≡ 0
+rest-root : (f : List ℕ) (P : Ratio) (x y : ℕ) → wrongBy y P x ≡ 0 → horner f x ≡ y → horner (rest f P) x ≡ 0
 unfolding rest wrongBy
 rest-root f P x y r e =
     horner-plus (P .Q) (product f (P .E)) x
     ∙ ap (gadd (horner (P .Q) x)) (horner-product f (P .E) x ∙ ap (λ z. gmul z (horner (P .E) x)) e)
     ∙ r
 
-rest-below : (t k : ℕ) (f : List ℕ) (P : Pair) → Below (suc t) f → Weighs t k P → Below (suc k) (rest f P)
+rest-below : (t k : ℕ) (f : List ℕ) (P : Ratio) → Below (suc t) f → Weighs t k P → Below (suc k) (rest f P)
 unfolding rest
 rest-below t k f P hf h =
     below-plus (suc k) (P .Q) (product f (P .E)) (h .weighs-Q) (⊎-elim empty full (eq-zero-or-pos (suc k - t)))
@@ -106,7 +106,7 @@ module _ (t : ℕ) (xs ys f : List ℕ) (units : Units xs) (points : Points (len
   w = length xs + t + 1
 
   -- Q = f E for a pair whose bound is small enough
-  rest-zero : (s : State) → s .u ≤ s .v → Holds w t xs ys (length xs) s → Zero (rest f (s .A))
+  rest-zero : (s : Ratios) → s .u ≤ s .v → Invariant w t xs ys (length xs) s → Zero (rest f (s .A))
   unfolding rest agreements
   rest-zero s order h =
       zero-of-roots (suc (s .u)) (length xs) (λ i. getD xs i 0) (rest f (s .A)) points
@@ -122,7 +122,7 @@ module _ (t : ℕ) (xs ys f : List ℕ) (units : Units xs) (points : Points (len
       ))
 
   -- then E(0) is not 0, since the determinant isn't
-  locator-pos : (A B : Pair) → 0 < det A B → Zero (rest f A) → 0 < horner (A .E) 0
+  locator-pos : (A B : Ratio) → 0 < det A B → Zero (rest f A) → 0 < horner (A .E) 0
   unfolding rest det
   locator-pos A B h z = ⊎-elim none (λ l. l) (eq-zero-or-pos (horner (A .E) 0))
     where
@@ -137,7 +137,7 @@ module _ (t : ℕ) (xs ys f : List ℕ) (units : Units xs) (points : Points (len
           ∙ gadd-self 0 in
           absurd (omega arith)
 
-  of-smaller : (s : State) → s .u ≤ s .v → Holds w t xs ys (length xs) s → series (t + 1) (s .A .Q) (s .A .E) ≡ f
+  of-smaller : (s : Ratios) → s .u ≤ s .v → Invariant w t xs ys (length xs) s → series (t + 1) (s .A .Q) (s .A .E) ≡ f
   unfolding rest
   of-smaller s order h =
       let z = rest-zero s order h in
@@ -149,11 +149,11 @@ module _ (t : ℕ) (xs ys f : List ℕ) (units : Units xs) (points : Points (len
   unfolding candidate smaller
   recovers = by (run t xs ys (length xs)) (holds-run t xs ys units (length xs) (omega arith))
     where
-      of : (s : State) → Holds w t xs ys (length xs) s → (k : Bool) → leb (s .u) (s .v) ≡ k → series (t + 1) (cond k (s .A) (s .B) .Q) (cond k (s .A) (s .B) .E) ≡ f
+      of : (s : Ratios) → Invariant w t xs ys (length xs) s → (k : Bool) → leb (s .u) (s .v) ≡ k → series (t + 1) (cond k (s .A) (s .B) .Q) (cond k (s .A) (s .B) .E) ≡ f
       of s h true e = of-smaller s (leb-true (s .u) (s .v) e) h
       of s h false e = of-smaller (swapped s) (omega (arith, leb-false (s .u) (s .v) e)) (holds-swapped w t xs ys (length xs) s h)
 
-      by : (s : State) → Holds w t xs ys (length xs) s → series (t + 1) (smaller s .Q) (smaller s .E) ≡ f
+      by : (s : Ratios) → Invariant w t xs ys (length xs) s → series (t + 1) (smaller s .Q) (smaller s .E) ≡ f
       by s h = of s h (leb (s .u) (s .v)) refl
 
 -- at most one polynomial of a length agrees in so many places

@@ -13,31 +13,31 @@ use Rattle.lists.specs.Sum.{count}
 use Rattle.lists.specs.Fill.{tabulate}
 use Rattle.lists.proofs.Tests.{cond-yes, cond-no, and-no-left, and-no-right, and-both}
 use Rattle.polynomial.specs.Polynomial.{evaluate, horner, plus, scale, timesRoot}
-use Rattle.interpolation.specs.Interpolation.{agreements, Pair, pair, wrongBy, combine, withRoot, State, state, swapped, constant, start, advance, next, run, smaller, reduced, series, candidate, most, canTry, candidateInto}
+use Rattle.interpolation.specs.Interpolation.{agreements, Ratio, ratio, wrongBy, combine, withRoot, Ratios, ratios, swapped, constant, start, advance, next, run, smaller, reduced, series, candidate, most, canTry, candidateInto}
 
 pub agreements-count : (xs ys m : List ℕ) → agreements xs ys m ≡ count (length xs) (λ i. eqb (evaluate m (getD xs i 0)) (getD ys i 0))
 unfolding agreements
 agreements-count xs ys m = refl
 
-pub wrong-values : (y : ℕ) (q e : List ℕ) (x : ℕ) → wrongBy y (pair q e) x ≡ gadd (horner q x) (gmul y (horner e x))
+pub wrong-values : (y : ℕ) (q e : List ℕ) (x : ℕ) → wrongBy y (ratio q e) x ≡ gadd (horner q x) (gmul y (horner e x))
 unfolding wrongBy
 wrong-values y q e x = refl
 
-pub root-pair : (x : ℕ) (q e : List ℕ) → withRoot x (pair q e) ≡ pair (timesRoot x q) (timesRoot x e)
+pub root-pair : (x : ℕ) (q e : List ℕ) → withRoot x (ratio q e) ≡ ratio (timesRoot x q) (timesRoot x e)
 unfolding withRoot
 root-pair x q e = refl
 
-pub combine-pair : (a b : ℕ) (q e q′ e′ : List ℕ) → combine a (pair q e) b (pair q′ e′) ≡ pair (plus (scale a q) (scale b q′)) (plus (scale a e) (scale b e′))
+pub combine-pair : (a b : ℕ) (q e q′ e′ : List ℕ) → combine a (ratio q e) b (ratio q′ e′) ≡ ratio (plus (scale a q) (scale b q′)) (plus (scale a e) (scale b e′))
 unfolding combine
 combine-pair a b q e q′ e′ = refl
 
-module _ (x y : ℕ) (s : State) where
-  pub advance-right : wrongBy y (s .A) x ≡ 0 → advance x y s ≡ state (s .A) (s .u) (withRoot x (s .B)) (s .v + 1)
+module _ (x y : ℕ) (s : Ratios) where
+  pub advance-right : wrongBy y (s .A) x ≡ 0 → advance x y s ≡ ratios (s .A) (s .u) (withRoot x (s .B)) (s .v + 1)
   unfolding advance
   advance-right e = cond-yes (eqb (wrongBy y (s .A) x) 0) _ _ (eq-eqb (wrongBy y (s .A) x) 0 e)
 
   pub advance-wrong : (wrongBy y (s .A) x ≡ 0 → ⊥)
-      → advance x y s ≡ state (withRoot x (s .A)) (s .u + 1) (combine (wrongBy y (s .A) x) (s .B) (wrongBy y (s .B) x) (s .A)) (s .v)
+      → advance x y s ≡ ratios (withRoot x (s .A)) (s .u + 1) (combine (wrongBy y (s .A) x) (s .B) (wrongBy y (s .B) x) (s .A)) (s .v)
   unfolding advance
   advance-wrong n = cond-no (eqb (wrongBy y (s .A) x) 0) _ _ (ne-eqb (wrongBy y (s .A) x) 0 n)
 
@@ -49,7 +49,7 @@ module _ (x y : ℕ) (s : State) where
   unfolding next
   next-second l = cond-no (leb (s .u) (s .v)) _ _ (lt-leb (s .u) (s .v) l)
 
-pub start-state : (w t : ℕ) → start w t ≡ state (pair (constant w 1) (constant w 0)) 0 (pair (constant w 0) (constant w 1)) t
+pub start-state : (w t : ℕ) → start w t ≡ ratios (ratio (constant w 1) (constant w 0)) 0 (ratio (constant w 0) (constant w 1)) t
 unfolding start
 start-state w t = refl
 
@@ -61,11 +61,11 @@ pub run-more : (t : ℕ) (xs ys : List ℕ) (i : ℕ) → run t xs ys (i + 1) �
 unfolding run
 run-more t xs ys i = rw add-one
 
-pub smaller-first : (s : State) → s .u ≤ s .v → smaller s ≡ s .A
+pub smaller-first : (s : Ratios) → s .u ≤ s .v → smaller s ≡ s .A
 unfolding smaller
 smaller-first s l = cond-yes (leb (s .u) (s .v)) _ _ (le-leb (s .u) (s .v) l)
 
-pub smaller-second : (s : State) → s .v < s .u → smaller s ≡ s .B
+pub smaller-second : (s : Ratios) → s .v < s .u → smaller s ≡ s .B
 unfolding smaller
 smaller-second s l = cond-no (leb (s .u) (s .v)) _ _ (lt-leb (s .u) (s .v) l)
 
@@ -81,7 +81,7 @@ pub series-suc : (n c : ℕ) (q e : List ℕ) → c ≡ gmul (getD q 0 0) (ginv 
 unfolding series
 series-suc n c q e h = rw h
 
-pub candidate-series : (t : ℕ) (xs ys : List ℕ) (P : Pair) → smaller (run t xs ys (length xs)) ≡ P → candidate t xs ys ≡ series (t + 1) (P .Q) (P .E)
+pub candidate-series : (t : ℕ) (xs ys : List ℕ) (P : Ratio) → smaller (run t xs ys (length xs)) ≡ P → candidate t xs ys ≡ series (t + 1) (P .Q) (P .E)
 unfolding candidate
 candidate-series t xs ys P e = rw e
 

@@ -1,4 +1,4 @@
--- The laws of interpolation for the crates above.
+-- What a crate above may know of interpolation besides the contracts and the definitions.
 --   What the candidate is worth, of t + 1 coefficients, at the points xs (units, all different) with the values ys received
 --     recovers           a polynomial of t + 1 bytes that agrees at more than half of length xs + t of the points is the candidate
 --     unique             two polynomials of one length that agree at so many points are the same

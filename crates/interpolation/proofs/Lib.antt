@@ -1,7 +1,7 @@
--- `Laws` and `Loops` are for the crates above; the others are what they and the functions' proofs rest on.
+-- Laws for the crates above (Laws), and what they and the code rest on.
 mod Invariant
 mod Complete
 mod Equations
-pub mod Zeros
-pub mod Loops
+mod Zeros
+mod Loops
 pub mod Laws

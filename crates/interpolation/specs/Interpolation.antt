@@ -2,11 +2,11 @@
 -- right for one point after the other (Kötter). A pair Q, E is right at x, where y was received, when Q(x) = y E(x). Its weighted degree
 -- is the larger of the degree of Q and t more than that of E. What the result is worth is said by the laws `recovers` and `unique`.
 --   agreements xs ys m   the number of points of the list xs at which m takes the value that the list ys has
---   Pair, pair q e       a pair Q, E
+--   Ratio, ratio q e       a pair Q, E
 --   wrongBy y P x        Q(x) - y E(x)
 --   combine a B b A      a B + b A
 --   withRoot x A         X + x times A
---   State, state         two pairs and bounds of their weighted degrees
+--   Ratios, ratios         two pairs and bounds of their weighted degrees
 --   swapped s            the other pair first
 --   constant w c         the polynomial c, in w coefficients
 --   start w t            1, 0 and 0, 1, in w coefficients
@@ -34,58 +34,58 @@ use Rattle.polynomial.specs.Polynomial.{evaluate, horner, plus, scale, timesRoo
 unfoldable pub agreements : List ℕ → List ℕ → List ℕ → ℕ
 agreements xs ys m = count (length xs) (λ i. eqb (evaluate m (getD xs i 0)) (getD ys i 0))
 
-pub record Pair : Type 0 where
+pub record Ratio : Type 0 where
   pub Q : List ℕ
   pub E : List ℕ
 
-abbrev pub pair : List ℕ → List ℕ → Pair
-pair q e = record { Q = q; E = e }
+abbrev pub ratio : List ℕ → List ℕ → Ratio
+ratio q e = record { Q = q; E = e }
 
-unfoldable pub wrongBy : ℕ → Pair → ℕ → ℕ
+unfoldable pub wrongBy : ℕ → Ratio → ℕ → ℕ
 wrongBy y P x = gadd (horner (P .Q) x) (gmul y (horner (P .E) x))
 
-unfoldable pub combine : ℕ → Pair → ℕ → Pair → Pair
-combine a B b A = pair (plus (scale a (B .Q)) (scale b (A .Q))) (plus (scale a (B .E)) (scale b (A .E)))
+unfoldable pub combine : ℕ → Ratio → ℕ → Ratio → Ratio
+combine a B b A = ratio (plus (scale a (B .Q)) (scale b (A .Q))) (plus (scale a (B .E)) (scale b (A .E)))
 
-unfoldable pub withRoot : ℕ → Pair → Pair
-withRoot x A = pair (timesRoot x (A .Q)) (timesRoot x (A .E))
+unfoldable pub withRoot : ℕ → Ratio → Ratio
+withRoot x A = ratio (timesRoot x (A .Q)) (timesRoot x (A .E))
 
-pub record State : Type 0 where
-  pub A : Pair
+pub record Ratios : Type 0 where
+  pub A : Ratio
   pub u : ℕ
-  pub B : Pair
+  pub B : Ratio
   pub v : ℕ
 
-abbrev pub state : Pair → ℕ → Pair → ℕ → State
-state A u B v = record { A = A; u = u; B = B; v = v }
+abbrev pub ratios : Ratio → ℕ → Ratio → ℕ → Ratios
+ratios A u B v = record { A = A; u = u; B = B; v = v }
 
 -- the other pair first
-abbrev pub swapped : State → State
-swapped s = state (s .B) (s .v) (s .A) (s .u)
+abbrev pub swapped : Ratios → Ratios
+swapped s = ratios (s .B) (s .v) (s .A) (s .u)
 
 -- the polynomial c in w coefficients
 abbrev pub constant : ℕ → ℕ → List ℕ
 constant w c = c ∷ replicate (w - 1) 0
 
-unfoldable pub start : ℕ → ℕ → State
-start w t = state (pair (constant w 1) (constant w 0)) 0 (pair (constant w 0) (constant w 1)) t
+unfoldable pub start : ℕ → ℕ → Ratios
+start w t = ratios (ratio (constant w 1) (constant w 0)) 0 (ratio (constant w 0) (constant w 1)) t
 
-unfoldable pub advance : ℕ → ℕ → State → State
+unfoldable pub advance : ℕ → ℕ → Ratios → Ratios
 advance x y s =
     let a = wrongBy y (s .A) x in
     let b = wrongBy y (s .B) x in
     cond (eqb a 0)
-    (state (s .A) (s .u) (withRoot x (s .B)) (s .v + 1))
-    (state (withRoot x (s .A)) (s .u + 1) (combine a (s .B) b (s .A)) (s .v))
+    (ratios (s .A) (s .u) (withRoot x (s .B)) (s .v + 1))
+    (ratios (withRoot x (s .A)) (s .u + 1) (combine a (s .B) b (s .A)) (s .v))
 
-unfoldable pub next : ℕ → ℕ → State → State
+unfoldable pub next : ℕ → ℕ → Ratios → Ratios
 next x y s = cond (leb (s .u) (s .v)) (advance x y s) (swapped (advance x y (swapped s)))
 
-unfoldable pub run : ℕ → List ℕ → List ℕ → ℕ → State
+unfoldable pub run : ℕ → List ℕ → List ℕ → ℕ → Ratios
 run t xs ys zero = start (length xs + t + 1) t
 run t xs ys (suc i) = next (getD xs i 0) (getD ys i 0) (run t xs ys i)
 
-unfoldable pub smaller : State → Pair
+unfoldable pub smaller : Ratios → Ratio
 smaller s = cond (leb (s .u) (s .v)) (s .A) (s .B)
 
 unfoldable pub reduced : ℕ → List ℕ → List ℕ → List ℕ

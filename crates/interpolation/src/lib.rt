@@ -4,8 +4,8 @@ ghost use mathlib.Core.Path.{_≡_};
 ghost use Prim.Native.Nat.{_+_, _-_, _≤_, _<_};
 ghost use lib.ListN.{length};
 ghost use Rattle.polynomial.specs.Polynomial.{evaluate, plus, scale, timesRoot};
-ghost use Rattle.interpolation.specs.Interpolation.{pair, wrongBy, advance, next, run, reduced, series, candidate, candidateInto};
-ghost use Rattle.interpolation.specs.Steps.{stateOf, Sized, Next, Zeros};
+ghost use Rattle.interpolation.specs.Interpolation.{ratio, wrongBy, advance, next, run, reduced, series, candidate, candidateInto};
+ghost use Rattle.interpolation.specs.Steps.{ratiosOf, SameWidth, Next, Zeros};
 
 // Bounds of the weighted degrees of two pairs of polynomials.
 struct Weights {
@@ -16,7 +16,8 @@ struct Weights {
 // The most coefficients that decoding needs: n + t + 1 for n 16 and t 5.
 const MOST: usize = 22;
 
-// The value of the polynomial p at x, by Horner's rule. Shut out: a further coefficient 01 at the end; and must-fail/coefficients_reversed.
+// The value of the polynomial p at x, by Horner's rule.
+// Shut out: a further coefficient 01 at the end; must-fail/coefficients_reversed.
 pub fn evaluate(p: &[u8], x: u8) -> u8
     ensures { λ r. ⌜ r ≡ evaluate (now (p .entry)) x ⌝ }
 {
@@ -57,7 +58,7 @@ fn combine(p: &mut [u8], a: u8, q: &[u8], b: u8)
 
 // q(x) - y e(x): what the pair q, e is wrong by at x, where y was received.
 fn wrong_by(q: &[u8], e: &[u8], x: u8, y: u8) -> u8
-    ensures { λ r. ⌜ r ≡ wrongBy y (pair (now (q .entry)) (now (e .entry))) x ⌝ }
+    ensures { λ r. ⌜ r ≡ wrongBy y (ratio (now (q .entry)) (now (e .entry))) x ⌝ }
 {
     gf256::add(evaluate(q, x), gf256::mul(y, evaluate(e, x)))
 }
@@ -74,8 +75,8 @@ fn advance(
     x: u8,
     y: u8,
 ) -> Weights
-    requires { ⌜ Sized (length (now qa)) (now qa) (now ea) (now qb) (now eb) × (u + v < 64) ⌝ }
-    ensures { λ r. ⌜ Next (advance x y) (stateOf (now (qa .entry)) (now (ea .entry)) u (now (qb .entry)) (now (eb .entry)) v) (stateOf (now (qa .exit)) (now (ea .exit)) (r .u) (now (qb .exit)) (now (eb .exit)) (r .v)) ⌝ }
+    requires { ⌜ SameWidth (length (now qa)) (now qa) (now ea) (now qb) (now eb) × (u + v < 64) ⌝ }
+    ensures { λ r. ⌜ Next (advance x y) (ratiosOf (now (qa .entry)) (now (ea .entry)) u (now (qb .entry)) (now (eb .entry)) v) (ratiosOf (now (qa .exit)) (now (ea .exit)) (r .u) (now (qb .exit)) (now (eb .exit)) (r .v)) ⌝ }
 {
     let a = wrong_by(qa, ea, x, y);
     if a == 0 {
@@ -102,8 +103,8 @@ fn next(
     x: u8,
     y: u8,
 ) -> Weights
-    requires { ⌜ Sized (length (now qa)) (now qa) (now ea) (now qb) (now eb) × (u + v < 64) ⌝ }
-    ensures { λ r. ⌜ Next (next x y) (stateOf (now (qa .entry)) (now (ea .entry)) u (now (qb .entry)) (now (eb .entry)) v) (stateOf (now (qa .exit)) (now (ea .exit)) (r .u) (now (qb .exit)) (now (eb .exit)) (r .v)) ⌝ }
+    requires { ⌜ SameWidth (length (now qa)) (now qa) (now ea) (now qb) (now eb) × (u + v < 64) ⌝ }
+    ensures { λ r. ⌜ Next (next x y) (ratiosOf (now (qa .entry)) (now (ea .entry)) u (now (qb .entry)) (now (eb .entry)) v) (ratiosOf (now (qa .exit)) (now (ea .exit)) (r .u) (now (qb .exit)) (now (eb .exit)) (r .v)) ⌝ }
 {
     if u <= v {
         return advance(qa, ea, u, qb, eb, v, x, y);
@@ -123,7 +124,7 @@ fn interpolate(
     eb: &mut [u8],
 ) -> Weights
     requires { ⌜ Zeros (now xs) (now ys) t (now qa) (now ea) (now qb) (now eb) ⌝ }
-    ensures { λ r. ⌜ stateOf (now (qa .exit)) (now (ea .exit)) (r .u) (now (qb .exit)) (now (eb .exit)) (r .v) ≡ run t (now (xs .entry)) (now (ys .entry)) (length (now (xs .entry))) ⌝ }
+    ensures { λ r. ⌜ ratiosOf (now (qa .exit)) (now (ea .exit)) (r .u) (now (qb .exit)) (now (eb .exit)) (r .v) ≡ run t (now (xs .entry)) (now (ys .entry)) (length (now (xs .entry))) ⌝ }
 {
     qa[0] = 1;
     eb[0] = 1;
@@ -212,8 +213,8 @@ fn recover(xs: &[u8], ys: &[u8], t: usize, m: &mut [u8])
 }
 
 // The only polynomial of m.len() coefficients that can agree with the values ys received at the points xs in enough places, into m. Nothing
-// is written where ys has not a value for each point, m is empty, or there are more than MOST points and coefficients together. Shut out:
-// must-fail/larger_pair, must-fail/discrepancies_swapped.
+// is written where ys has not a value for each point, m is empty, or there are more than MOST points and coefficients together.
+// Shut out: must-fail/larger_pair; must-fail/discrepancies_swapped.
 pub fn candidate(xs: &[u8], ys: &[u8], m: &mut [u8])
     ensures { λ _. ⌜ now (m .exit) ≡ candidateInto (now (xs .entry)) (now (ys .entry)) (now (m .entry)) ⌝ }
 {

@@ -32,8 +32,8 @@ ne-same a b n = fails (same a b) (λ e. n (same-eq a b e))
 pub same-all : (a b : List ℕ) → length a ≡ length b → ((i : ℕ) → i < length a → getD a i 0 ≡ getD b i 0) → same a b ≡ true
 same-all a b e h = eq-same a b (ext-getD 0 a b e h)
 
-pub same-length : (a b : List ℕ) → (length a ≡ length b → ⊥) → same a b ≡ false
-same-length a b n = ne-same a b (λ e. n (ap length e))
+pub no-same : (a b : List ℕ) → (length a ≡ length b → ⊥) → same a b ≡ false
+no-same a b n = ne-same a b (λ e. n (ap length e))
 
 pub same-differ : (a b : List ℕ) (i : ℕ) → (getD a i 0 ≡ getD b i 0 → ⊥) → same a b ≡ false
 same-differ a b i n = ne-same a b (λ e. n (ap (λ (l : List ℕ). getD l i 0) e))

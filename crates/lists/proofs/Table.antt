@@ -23,19 +23,19 @@ both-right true b t = t
 both-right false b t = absurd t
 
 -- the test f passes at each place of the list, counted from i, and its entry
-abbrev pub every {ℓ} : {A : Type ℓ} → (ℕ → A → Bool) → ℕ → List A → Bool
-every f i [] = true
-every f i (x ∷ xs) = both (f i x) (every f (suc i) xs)
+abbrev pub everyAt {ℓ} : {A : Type ℓ} → (ℕ → A → Bool) → ℕ → List A → Bool
+everyAt f i [] = true
+everyAt f i (x ∷ xs) = both (f i x) (everyAt f (suc i) xs)
 
 module _ {A : Type 0} (z : A) where
-  from : (f : ℕ → A → Bool) (xs : List A) (i : ℕ) → T (every f i xs) → (k : ℕ) → k < length xs → T (f (i + k) (getD xs k z))
+  from : (f : ℕ → A → Bool) (xs : List A) (i : ℕ) → T (everyAt f i xs) → (k : ℕ) → k < length xs → T (f (i + k) (getD xs k z))
   from f [] i t k h = absurd (not-suc-le-zero h)
-  from f (x ∷ xs) i t zero h = subst (λ (m : ℕ). T (f m x)) (sym (add-zero i)) (both-left (f i x) (every f (suc i) xs) t)
+  from f (x ∷ xs) i t zero h = subst (λ (m : ℕ). T (f m x)) (sym (add-zero i)) (both-left (f i x) (everyAt f (suc i) xs) t)
   from f (x ∷ xs) i t (suc k) h =
       subst (λ (m : ℕ). T (f m (getD xs k z))) (suc-add i k ∙ sym (add-suc i k))
-      (from f xs (suc i) (both-right (f i x) (every f (suc i) xs) t) k (le-of-suc-le-suc h))
+      (from f xs (suc i) (both-right (f i x) (everyAt f (suc i) xs) t) k (le-of-suc-le-suc h))
 
-  pub at : (f : ℕ → A → Bool) (xs : List A) → T (every f 0 xs) → (k : ℕ) → k < length xs → T (f k (getD xs k z))
+  pub at : (f : ℕ → A → Bool) (xs : List A) → T (everyAt f 0 xs) → (k : ℕ) → k < length xs → T (f k (getD xs k z))
   at f xs t k h = subst (λ (m : ℕ). T (f m (getD xs k z))) (zero-add k) (from f xs 0 t k h)
 
 -- the same for a test at the numbers below n

@@ -1,5 +1,6 @@
--- Sums, counts, lists given by a function of the index, equality of lists as a test, and lists joined from parts.
+-- Sums, counts, lists given by a function of the index, equality of lists as a test, lists joined from parts, and answers that may be none.
 pub mod Sum
 pub mod Fill
 pub mod Same
 pub mod Join
+pub mod Options

@@ -8,11 +8,12 @@ use Prim.Native.Nat.{ℕ, zero, suc, _+_, _≤_, _<_}
 use native.Mathlib.Omega.{arith}
 use borrow.Author.Tests.{eqb-false, ne-eqb, not-true}
 use lib.Dec.{eqb}
+use Rattle.lists.specs.Options.{orElse, front}
 use Rattle.lists.proofs.Tests.{true≢false, and-left, and-right, and-both}
 use Rattle.lists.proofs.Sums.{below-suc}
 use Rattle.graph.specs.Pairs.{Pair}
 use Rattle.matching.specs.Matching.{FirstLargest, Missing}
-use Rattle.matching.specs.First.{orElse, front, firstFound, ofSize, orList, upTo, matchingOf, MatchingFirst}
+use Rattle.matching.specs.First.{firstFound, ofSize, orList, upTo, matchingOf, MatchingFirst}
 use Rattle.matching.specs.Steps.{Joined, AtMost, NoneOfSize, FirstOfSize}
 use Rattle.matching.proofs.Sizes.{Minus, same-first, same-none, fewer, matching-half, first-zero, none-empty, joined-map, step-found, step-drop, step-none}
 

@@ -1,4 +1,4 @@
--- What a crate above may know of matchings besides the contracts.
+-- What a crate above may know of matchings besides the contracts and the definitions.
 --   Sets
 --     in-set, set-in, some-in   members of the set of a test, of any set
 --   The first largest matching M

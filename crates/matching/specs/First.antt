@@ -1,7 +1,5 @@
 -- A function that meets the relation `FirstLargest`, for callers that need one: no contract here speaks of it. That `matchingOf n adj` meets
 -- the relation is `MatchingFirst`; that nothing else does is `OneMatching` (specs/Matching).
---   orElse r q            r, or q where r is none
---   front p r             p before the pairs of r
 --   firstFound f u w      the first of f w, f (w + 1), .., u of them, that is not none
 --   ofSize adj u v free k the first matching of k pairs among those of v .. v + u - 1 that are free; none where there is none
 --   orList r M            the list of r, or M where r is none
@@ -11,18 +9,11 @@
 use mathlib.Core.List.{List, [], _∷_}
 use mathlib.Core.Bool.{Bool, true, cond, not, _&&_}
 use mathlib.Core.Option.{Option, none, some}
+use Rattle.lists.specs.Options.{orElse, front}
 use Prim.Native.Nat.{ℕ, zero, suc}
 use lib.Dec.{eqb}
 use Rattle.graph.specs.Pairs.{Pair}
 use Rattle.matching.specs.Matching.{FirstLargest, Missing}
-
-abbrev pub orElse : Option (List Pair) → Option (List Pair) → Option (List Pair)
-orElse none q = q
-orElse (some M) q = some M
-
-abbrev pub front : Pair → Option (List Pair) → Option (List Pair)
-front p none = none
-front p (some M) = some (p ∷ M)
 
 unfoldable pub firstFound : (ℕ → Option (List Pair)) → ℕ → ℕ → Option (List Pair)
 firstFound f zero w = none

@@ -1,4 +1,5 @@
--- What the private functions of the search promise. A graph is given by rows of sets, as `complement` makes them.
+-- For the contracts of private functions; a reader of the public contracts needs none of it.
+-- What the search promises. A graph is given by rows of sets, as `complement` makes them.
 --   complement n adj    row i has those with whom i makes a missing pair: 16 rows, empty from n on
 --   In s x              x is a member of the set s
 --   Edge graph x y      row x of the graph has y

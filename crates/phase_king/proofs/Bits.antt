@@ -13,7 +13,7 @@ use Rattle.lists.specs.Sum.{count}
 use Rattle.lists.proofs.Tests.{either, fails, and-both}
 use Rattle.lists.proofs.Sums.{below-suc, count-not, count-without, many, few, close}
 use Rattle.phase_king.specs.Bit.{zeroSeen, oneSeen, held, support, weak, settled}
-use Rattle.phase_king.specs.Vote.{Correct, System, phaseCount, Kings, BitPhase}
+use Rattle.phase_king.specs.Vote.{CorrectIndex, Resilient, phaseCount, Kings, BitPhase}
 
 -- m different indices below n that pass the test p are at most as many as pass it
 different : (m n : ℕ) (f : ℕ → ℕ) (p : ℕ → Bool) → ((a : ℕ) → a < m → f a < n) → ((a b : ℕ) → a < m → b < m → f a ≡ f b → a ≡ b)
@@ -25,7 +25,7 @@ different (suc m) n f p below apart holds =
     (λ a l. and-both (p (f a)) (not (eqb (f a) (f m))) (holds a (omega arith)) (ap not (ne-eqb (f a) (f m) (λ e. omega (arith, apart a m (omega arith) (omega arith) e))))) in
     omega (arith, count-without n p (f m) (below m (omega arith)) (holds m (omega arith)))
 
-module _ (n t : ℕ) (correct : ℕ → Bool) (system : System n t correct) where
+module _ (n t : ℕ) (correct : ℕ → Bool) (system : Resilient n t correct) where
   -- what is seen, as a count
   zeros-said : (p : ℕ → Bool) → zeroSeen n t p ≡ true → n ≤ count n (λ i. not (p i)) + t
   unfolding zeroSeen
@@ -55,10 +55,10 @@ module _ (n t : ℕ) (correct : ℕ → Bool) (system : System n t correct) wher
     strong b zeros ones k e h = rw (e, le-ltb (cond b (count n ones) (count n zeros)) (n - t) (omega arith))
 
     -- all correct controllers hold b before: all hold b after
-    pub bit-validity : (b : Bool) → ((i : ℕ) → Correct n correct i → before i ≡ b) → (i : ℕ) → Correct n correct i → after i ≡ b
+    pub bit-validity : (b : Bool) → ((i : ℕ) → CorrectIndex n correct i → before i ≡ b) → (i : ℕ) → CorrectIndex n correct i → after i ≡ b
     unfolding zeroSeen oneSeen held
     bit-validity true h i f =
-        let seen : (j : ℕ) → Correct n correct j → oneSeen n t (phase .said j) ≡ true =
+        let seen : (j : ℕ) → CorrectIndex n correct j → oneSeen n t (phase .said j) ≡ true =
         λ j g. le-leb (n - t) (count n (phase .said j))
         (omega (arith, many n t correct (system .most) (phase .said j) (λ k l w. phase .first j k g (l, w) ∙ h k (l, w)))) in
         let reached : n ≤ count n (phase .ones i) + t =
@@ -66,10 +66,10 @@ module _ (n t : ℕ) (correct : ℕ → Bool) (system : System n t correct) wher
         phase .result i f
         ∙ strong true (phase .zeros i) (phase .ones i) (phase .kings i) (lt-ltb t (count n (phase .ones i)) (omega (arith, system .small))) reached
     bit-validity false h i f =
-        let seen0 : (j : ℕ) → Correct n correct j → zeroSeen n t (phase .said j) ≡ true =
+        let seen0 : (j : ℕ) → CorrectIndex n correct j → zeroSeen n t (phase .said j) ≡ true =
         λ j g. le-leb (n - t) (count n (λ s. not (phase .said j s)))
         (omega (arith, many n t correct (system .most) (λ s. not (phase .said j s)) (λ k l w. ap not (phase .first j k g (l, w) ∙ h k (l, w))))) in
-        let seen1 : (j : ℕ) → Correct n correct j → oneSeen n t (phase .said j) ≡ false =
+        let seen1 : (j : ℕ) → CorrectIndex n correct j → oneSeen n t (phase .said j) ≡ false =
         λ j g. lt-leb (n - t) (count n (phase .said j))
         (omega (arith, system .small, few n t correct (system .most) (phase .said j) (λ k l w. phase .first j k g (l, w) ∙ h k (l, w)))) in
         phase .result i f
@@ -78,7 +78,7 @@ module _ (n t : ℕ) (correct : ℕ → Bool) (system : System n t correct) wher
         (many n t correct (system .most) (phase .zeros i) (λ j l w. phase .second0 i j f (l, w) ∙ seen0 j (l, w)))
 
     -- where the zeros that a correct controller counts exceed t, no correct one saw one, since else no correct one saw zero
-    no-one-seen : (i : ℕ) → Correct n correct i → t < count n (phase .zeros i) → (j : ℕ) → Correct n correct j → oneSeen n t (phase .said j) ≡ false
+    no-one-seen : (i : ℕ) → CorrectIndex n correct i → t < count n (phase .zeros i) → (j : ℕ) → CorrectIndex n correct j → oneSeen n t (phase .said j) ≡ false
     no-one-seen i f h j g =
         fails (oneSeen n t (phase .said j)) (λ o. omega (
           arith,
@@ -89,7 +89,7 @@ module _ (n t : ℕ) (correct : ℕ → Bool) (system : System n t correct) wher
         ))
 
     -- a correct controller whose count reaches n - t holds what a correct king holds
-    backed : (b : Bool) (i : ℕ) → Correct n correct i → Correct n correct king → n ≤ cond b (count n (phase .ones i)) (count n (phase .zeros i)) + t
+    backed : (b : Bool) (i : ℕ) → CorrectIndex n correct i → CorrectIndex n correct king → n ≤ cond b (count n (phase .ones i)) (count n (phase .zeros i)) + t
         → held n t (phase .ones king) ≡ b
     unfolding held
     backed true i f w h =
@@ -104,7 +104,7 @@ module _ (n t : ℕ) (correct : ℕ → Bool) (system : System n t correct) wher
         phase .second1 king j w (l, g) ∙ no-one-seen i f (omega (arith, system .small)) j (l, g)))
 
     -- a correct king: every correct controller ends with the bit that the king held
-    pub bit-king : Correct n correct king → (i : ℕ) → Correct n correct i → after i ≡ held n t (phase .ones king)
+    pub bit-king : CorrectIndex n correct king → (i : ℕ) → CorrectIndex n correct i → after i ≡ held n t (phase .ones king)
     unfolding settled weak support
     bit-king w i f = phase .result i f ∙ go (held n t (phase .ones i)) refl (weak n t (phase .zeros i) (phase .ones i)) refl
       where
@@ -141,8 +141,8 @@ module _ (n t : ℕ) (correct : ℕ → Bool) (system : System n t correct) wher
 
     module _ (bits : ℕ → ℕ → Bool) (phases : (p : ℕ) → p < phaseCount t → BitPhase n t correct (king p) (bits p) (bits (suc p))) where
       -- once all correct controllers hold b they keep it
-      pub bit-stays : (b : Bool) (k m : ℕ) → ((i : ℕ) → Correct n correct i → bits k i ≡ b) → k ≤ m → m ≤ phaseCount t
-          → (i : ℕ) → Correct n correct i → bits m i ≡ b
+      pub bit-stays : (b : Bool) (k m : ℕ) → ((i : ℕ) → CorrectIndex n correct i → bits k i ≡ b) → k ≤ m → m ≤ phaseCount t
+          → (i : ℕ) → CorrectIndex n correct i → bits m i ≡ b
       bit-stays b k zero h l u = λ i f. rw (le-zero l) at (h i f)
       bit-stays b k (suc m) h l u =
           ⊎-elim (λ (q : k ≡ suc m). λ i f. rw q at (h i f))
@@ -150,7 +150,7 @@ module _ (n t : ℕ) (correct : ℕ → Bool) (system : System n t correct) wher
           bit-validity (king m) (bits m) (bits (suc m)) (phases m u) b (bit-stays b k m h (le-of-suc-le-suc q) (omega arith)))
           (eq-or-lt-of-le l)
 
-      pub bit-agreement : (i j : ℕ) → Correct n correct i → Correct n correct j → bits (phaseCount t) i ≡ bits (phaseCount t) j
+      pub bit-agreement : (i j : ℕ) → CorrectIndex n correct i → CorrectIndex n correct j → bits (phaseCount t) i ≡ bits (phaseCount t) j
       bit-agreement i j f g =
           let k = some-king in
           let phase = phases (k .0) (k .1) in

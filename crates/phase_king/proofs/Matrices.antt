@@ -14,13 +14,12 @@ use Rattle.lists.proofs.Tests.{cond-yes, cond-no, lt-or-le}
 use Rattle.lists.proofs.Fills.{length-filled, getD-filled, getD-filled-past, filled-ext}
 use Rattle.bitset.specs.Set.{member, setOf, restricted}
 use Rattle.bitset.specs.Row.{rowOf, rowsOf}
-use Rattle.bitset.proofs.Laws.{member-over, set-lt, set-lt-16, member-set, set-ext, set-of-members, ext, restrict-lt, member-restrict}
-use Rattle.bitset.proofs.Rows.{row-lt, row-none, row-left, row-right, length-rows, row-read}
+use Rattle.bitset.proofs.Laws.{member-over, set-lt, set-lt-16, member-set, set-ext, set-of-members, ext, restrict-lt, member-restrict, row-lt, row-none, row-left, row-right, length-rows-few, row-read}
 use Rattle.wire.specs.declared.slot.Layout.{Layout}
 use Rattle.wire.specs.Slot.{messageOf}
 use Rattle.phase_king.specs.Bit.{zeroSeen, oneSeen, held, weak, settled}
 use Rattle.phase_king.specs.Matrix.{limit, cell, matrixOf, said, kingSays, firstMatrix, zerosOf, onesOf, heldOf, weakOf, settledOf, seenMessage}
-use Rattle.phase_king.specs.Vote.{Correct, System, phaseCount, Kings, BitPhase, MatrixPhase, Vote, Agreed}
+use Rattle.phase_king.specs.Vote.{CorrectIndex, Resilient, phaseCount, Kings, BitPhase, MatrixPhase, Vote, Agreed}
 use Rattle.phase_king.proofs.Bits.{bit-stays, bit-agreement}
 
 -- ---- matrices
@@ -33,9 +32,9 @@ unfolding matrixOf
 row-matrix n f r u l = getD-filled (λ r. setOf n (f r)) n (replicate 16 0) r 0 l (omega arith)
 
 -- each row is a number of 16 bits
-pub matrix-below : (n : ℕ) (f : ℕ → ℕ → Bool) (r : ℕ) → n ≤ 16 → getD (matrixOf n f) r 0 < 2 ^ 16
+pub matrix-lt : (n : ℕ) (f : ℕ → ℕ → Bool) (r : ℕ) → n ≤ 16 → getD (matrixOf n f) r 0 < 2 ^ 16
 unfolding matrixOf
-matrix-below n f r l =
+matrix-lt n f r l =
     ⊎-elim
     (λ (h : r < n). rw (getD-filled (λ r. setOf n (f r)) n (replicate 16 0) r 0 h (omega arith)) (set-lt-16 n (f r) l))
     (λ (h : n ≤ r). rw (getD-filled-past (λ r. setOf n (f r)) n (replicate 16 0) r 0 h) (all-zeros (λ x. x < 2 ^ 16) (lit< tt) 16 r))
@@ -94,7 +93,7 @@ pub said-zeros : (inbox : List ℕ) (layout : Layout) (n i : ℕ) (zeros ones : 
 unfolding said seenMessage
 said-zeros inbox layout n i zeros ones r j u l h e =
     ap (λ (x : List ℕ). member (rowOf n x r) j) e
-    ∙ ap (λ (x : ℕ). member x j) (row-left n (rowsOf n zeros) (rowsOf n ones) r (omega (arith, length-rows n zeros u)))
+    ∙ ap (λ (x : ℕ). member x j) (row-left n (rowsOf n zeros) (rowsOf n ones) r (omega (arith, length-rows-few n zeros u)))
     ∙ row-sent n zeros r j u l h
 
 pub said-ones : (inbox : List ℕ) (layout : Layout) (n i : ℕ) (zeros ones : List ℕ) (r j : ℕ) → n ≤ 16 → r < n → j < n
@@ -102,7 +101,7 @@ pub said-ones : (inbox : List ℕ) (layout : Layout) (n i : ℕ) (zeros ones : L
 unfolding said seenMessage
 said-ones inbox layout n i zeros ones r j u l h e =
     ap (λ (x : List ℕ). member (rowOf n x (n + r)) j) e
-    ∙ ap (λ (x : ℕ). member x j) (row-right n (rowsOf n zeros) (rowsOf n ones) n r (length-rows n zeros u))
+    ∙ ap (λ (x : ℕ). member x j) (row-right n (rowsOf n zeros) (rowsOf n ones) n r (length-rows-few n zeros u))
     ∙ row-sent n ones r j u l h
 
 pub king-matrix : (inbox : List ℕ) (layout : Layout) (n k : ℕ) (m : List ℕ) (r j : ℕ) → n ≤ 16 → k < n → r < n → j < n
@@ -181,18 +180,18 @@ module _ (n t : ℕ) (correct : ℕ → Bool) (u : n ≤ 16) where
         (cell-held (phase .in2 i) (phase .layout2) n t r j u l h) (cell-weak (phase .in2 i) (phase .layout2) n t r j u l h);
   }
 
-  module _ (system : System n t correct) (king : ℕ → ℕ) (kings : Kings n t king) (rows : ℕ → ℕ → List ℕ) (phases : Vote n t correct king rows) where
+  module _ (system : Resilient n t correct) (king : ℕ → ℕ) (kings : Kings n t king) (rows : ℕ → ℕ → List ℕ) (phases : Vote n t correct king rows) where
     bit-phases : (r j : ℕ) → r < n → j < n → (p : ℕ) → p < phaseCount t
         → BitPhase n t correct (king p) (λ i. cell (rows p i) r j) (λ i. cell (rows (suc p) i) r j)
     bit-phases r j l h p b = phase-bit (king p) (rows p) (rows (suc p)) (phases p b) r j l h
 
-    bit-kept : (r j : ℕ) (b : Bool) → r < n → j < n → ((i : ℕ) → Correct n correct i → cell (rows 0 i) r j ≡ b)
-        → (i : ℕ) → Correct n correct i → cell (rows (phaseCount t) i) r j ≡ b
+    bit-kept : (r j : ℕ) (b : Bool) → r < n → j < n → ((i : ℕ) → CorrectIndex n correct i → cell (rows 0 i) r j ≡ b)
+        → (i : ℕ) → CorrectIndex n correct i → cell (rows (phaseCount t) i) r j ≡ b
     bit-kept r j b l h e =
         bit-stays n t correct system king kings (λ p i. cell (rows p i) r j) (bit-phases r j l h) b 0 (phaseCount t) e (omega arith) (omega arith)
 
     -- the last matrix is one of n rows and n bits
-    last : (i : ℕ) → Correct n correct i → (f : ℕ → ℕ → Bool) × (rows (phaseCount t) i ≡ matrixOf n f)
+    last : (i : ℕ) → CorrectIndex n correct i → (f : ℕ → ℕ → Bool) × (rows (phaseCount t) i ≡ matrixOf n f)
     last i f =
         let phase = phases t (omega arith) in (
           _,

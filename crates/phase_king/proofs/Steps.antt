@@ -14,12 +14,11 @@ use Rattle.lists.proofs.Sums.{count-le, count-ext, count-not}
 use Rattle.lists.proofs.Fills.{getD-filled, filled-ext}
 use Rattle.bitset.specs.Set.{member, setOf, inserted}
 use Rattle.bitset.specs.Row.{rowOf}
-use Rattle.bitset.proofs.Laws.{set-ext, set-of-members, insert-next, insert-skip}
-use Rattle.bitset.proofs.Rows.{row-lt}
+use Rattle.bitset.proofs.Laws.{set-ext, set-of-members, insert-next, insert-skip, row-lt}
 use Rattle.wire.specs.declared.slot.Layout.{Layout}
 use Rattle.wire.specs.Slot.{messageOf}
 use Rattle.phase_king.specs.Bit.{zeroSeen, oneSeen, held, support, weak, settled}
-use Rattle.phase_king.specs.Matrix.{limit, cell, matrixOf, said, kingSays, firstMatrix, zerosOf, onesOf, heldOf, weakOf, settledOf, collected, tallied, kept, resolved}
+use Rattle.phase_king.specs.Matrix.{limit, cell, matrixOf, said, kingSays, firstMatrix, zerosOf, onesOf, heldOf, weakOf, settledOf, collectAnswer, tallyAnswer, holdAnswer, settleAnswer}
 use Rattle.phase_king.specs.Steps.{saidRows, ruleBit, ruleRow, ruleMatrix, kingRow, settledRow, settledRows}
 use Rattle.phase_king.specs.declared.Matrix.{Matrix}
 use Rattle.phase_king.specs.declared.Seen.{Seen}
@@ -103,7 +102,7 @@ unfolding settledRows settledRow settledOf matrixOf kingRow kingSays
 settled-rows rows weak inbox layout n king = refl
 
 -- the functions' answers, as structs
-pub is-collected : (inbox rows : List ℕ) (layout : Layout) (n m : ℕ) → m ≡ limit n → rows ≡ saidRows inbox layout m 0 → _≡_ {A = Matrix} (record { rows = rows }) (collected inbox layout n)
+pub is-collected : (inbox rows : List ℕ) (layout : Layout) (n m : ℕ) → m ≡ limit n → rows ≡ saidRows inbox layout m 0 → _≡_ {A = Matrix} (record { rows = rows }) (collectAnswer inbox layout n)
 is-collected inbox rows layout n m e h =
     ap (λ (l : List ℕ). matrix l) (h ∙ ap (λ (x : ℕ). saidRows inbox layout x 0) e ∙ first-rows inbox layout n)
   where
@@ -111,7 +110,7 @@ is-collected inbox rows layout n m e h =
     matrix l = record { rows = l }
 
 pub is-tallied : (inbox zeros ones : List ℕ) (layout : Layout) (n m t : ℕ) → m ≡ limit n → zeros ≡ ruleMatrix ZeroSeen inbox layout m t → ones ≡ ruleMatrix OneSeen inbox layout m t
-    → _≡_ {A = Seen} (record { zeros = zeros; ones = ones }) (tallied inbox layout n t)
+    → _≡_ {A = Seen} (record { zeros = zeros; ones = ones }) (tallyAnswer inbox layout n t)
 is-tallied inbox zeros ones layout n m t e h k =
     ap₂ (λ (a b : List ℕ). seen a b)
     (h ∙ ap (λ (x : ℕ). ruleMatrix ZeroSeen inbox layout x t) e ∙ rule-zeros inbox layout n t)
@@ -121,7 +120,7 @@ is-tallied inbox zeros ones layout n m t e h k =
     seen a b = record { zeros = a; ones = b }
 
 pub is-kept : (inbox rows weak : List ℕ) (layout : Layout) (n m t : ℕ) → m ≡ limit n → rows ≡ ruleMatrix Hold inbox layout m t → weak ≡ ruleMatrix Weak inbox layout m t
-    → _≡_ {A = Held} (record { rows = rows; weak = weak }) (kept inbox layout n t)
+    → _≡_ {A = Held} (record { rows = rows; weak = weak }) (holdAnswer inbox layout n t)
 is-kept inbox rows weak layout n m t e h k =
     ap₂ (λ (a b : List ℕ). two a b)
     (h ∙ ap (λ (x : ℕ). ruleMatrix Hold inbox layout x t) e ∙ rule-held inbox layout n t)
@@ -131,7 +130,7 @@ is-kept inbox rows weak layout n m t e h k =
     two a b = record { rows = a; weak = b }
 
 pub is-resolved : (rows weak inbox settled : List ℕ) (layout : Layout) (n m king : ℕ) → m ≡ limit n → settled ≡ settledRows rows weak inbox layout m king
-    → _≡_ {A = Matrix} (record { rows = settled }) (resolved rows weak inbox layout n king)
+    → _≡_ {A = Matrix} (record { rows = settled }) (settleAnswer rows weak inbox layout n king)
 is-resolved rows weak inbox settled layout n m king e h =
     ap (λ (l : List ℕ). matrix l) (h ∙ ap (λ (x : ℕ). settledRows rows weak inbox layout x king) e ∙ settled-rows rows weak inbox layout n king)
   where

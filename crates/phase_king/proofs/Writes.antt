@@ -11,14 +11,14 @@ use Rattle.lists.specs.Fill.{filled}
 use Rattle.lists.proofs.Tests.{cond-yes, cond-no}
 use Rattle.lists.proofs.Fills.{length-filled}
 use Rattle.bitset.specs.Row.{rowByte, rowsLength, rowsOf}
-use Rattle.bitset.proofs.Rows.{rows-length, rows-written}
+use Rattle.bitset.proofs.Laws.{length-rows, rows-written}
 use Rattle.wire.specs.declared.slot.Layout.{Layout}
 use Rattle.wire.specs.Slot.{toAll}
 use Rattle.phase_king.specs.Matrix.{limit, seenMessage, sentByKing}
 
-pub seen-length : (n : ℕ) (zeros ones : List ℕ) → length (seenMessage n zeros ones) ≡ 2 * rowsLength n
+pub length-seen : (n : ℕ) (zeros ones : List ℕ) → length (seenMessage n zeros ones) ≡ 2 * rowsLength n
 unfolding seenMessage
-seen-length n zeros ones = length-append (rowsOf n zeros) (rowsOf n ones) ∙ omega (arith, rows-length n zeros, rows-length n ones)
+length-seen n zeros ones = length-append (rowsOf n zeros) (rowsOf n ones) ∙ omega (arith, length-rows n zeros, length-rows n ones)
 
 pub seen-written : (n k : ℕ) (zeros ones o w v : List ℕ) → k ≡ rowsLength n → 2 * rowsLength n ≤ length o
     → w ≡ filled (rowByte n zeros) (rowsLength n) o → v ≡ filled (rowByte n ones) (rowsLength n) (take (length w - k) (drop k w))
@@ -26,7 +26,7 @@ pub seen-written : (n k : ℕ) (zeros ones o w v : List ℕ) → k ≡ rowsLengt
 unfolding seenMessage
 seen-written n k zeros ones o w v e h p q =
     let long : length w ≡ length o = ap length p ∙ length-filled (rowByte n zeros) (rowsLength n) o in
-    let sized : length (rowsOf n zeros) ≡ k = rows-length n zeros ∙ sym e in
+    let sized : length (rowsOf n zeros) ≡ k = length-rows n zeros ∙ sym e in
     let parts : w ≡ rowsOf n zeros ++ drop k o = p ∙ rows-written n zeros o (omega arith) ∙ ap (λ (i : ℕ). rowsOf n zeros ++ drop i o) (sym e) in
     let front : take k w ≡ rowsOf n zeros = ap (take k) parts ∙ take-at (rowsOf n zeros) (drop k o) k sized in
     let rest : drop k w ≡ drop k o = ap (drop k) parts ∙ drop-at (rowsOf n zeros) (drop k o) k sized in
@@ -45,7 +45,7 @@ front-of m b o k e l = ap (take k) e ∙ take-at m o k l
 
 pub rows-front : (n k : ℕ) (rows b o : List ℕ) → k ≡ rowsLength n → rowsLength n ≤ length o → b ≡ filled (rowByte n rows) (rowsLength n) o
     → take k b ≡ rowsOf n rows
-rows-front n k rows b o e h p = front-of (rowsOf n rows) b (drop (rowsLength n) o) k (p ∙ rows-written n rows o h) (rows-length n rows ∙ sym e)
+rows-front n k rows b o e h p = front-of (rowsOf n rows) b (drop (rowsLength n) o) k (p ∙ rows-written n rows o h) (length-rows n rows ∙ sym e)
 
 -- one message in all slots
 pub is-to-all : (layout : Layout) (n count : ℕ) (m part outbox last : List ℕ) → count ≡ limit n → part ≡ m → last ≡ toAll layout count part outbox

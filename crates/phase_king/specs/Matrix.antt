@@ -14,7 +14,7 @@
 --   settledOf rows weak inbox layout n king   after 3p + 3: the king's bit where weak, else the bit held
 --   seenMessage n zeros ones      the message of round 3p + 2: the zeros matrix, then the ones matrix
 --   sentByKing layout own king n rows o   round 3p + 3: the king's matrix to all; silence from everyone else
---   collected, tallied, kept, resolved   the answers of the functions, as structs
+--   collectAnswer, tallyAnswer, holdAnswer, settleAnswer   the answers of the functions, as structs
 use mathlib.Core.Bool.{Bool, cond}
 use mathlib.Core.List.{List, [], _++_}
 use Prim.Native.Nat.{ℕ, _+_, min}
@@ -71,14 +71,14 @@ seenMessage n zeros ones = rowsOf n zeros ++ rowsOf n ones
 unfoldable pub sentByKing : Layout → (own king n : ℕ) → List ℕ → List ℕ → List ℕ
 sentByKing layout own king n rows outbox = cond (eqb own king) (toAll layout (limit n) (rowsOf n rows) outbox) (replicate (length outbox) 0)
 
-abbrev pub collected : List ℕ → Layout → ℕ → Matrix
-collected inbox layout n = record { rows = firstMatrix inbox layout n }
+abbrev pub collectAnswer : List ℕ → Layout → ℕ → Matrix
+collectAnswer inbox layout n = record { rows = firstMatrix inbox layout n }
 
-abbrev pub tallied : List ℕ → Layout → ℕ → ℕ → Seen
-tallied inbox layout n t = record { zeros = zerosOf inbox layout n t; ones = onesOf inbox layout n t }
+abbrev pub tallyAnswer : List ℕ → Layout → ℕ → ℕ → Seen
+tallyAnswer inbox layout n t = record { zeros = zerosOf inbox layout n t; ones = onesOf inbox layout n t }
 
-abbrev pub kept : List ℕ → Layout → ℕ → ℕ → Held
-kept inbox layout n t = record { rows = heldOf inbox layout n t; weak = weakOf inbox layout n t }
+abbrev pub holdAnswer : List ℕ → Layout → ℕ → ℕ → Held
+holdAnswer inbox layout n t = record { rows = heldOf inbox layout n t; weak = weakOf inbox layout n t }
 
-abbrev pub resolved : List ℕ → List ℕ → List ℕ → Layout → ℕ → ℕ → Matrix
-resolved rows weak inbox layout n king = record { rows = settledOf rows weak inbox layout n king }
+abbrev pub settleAnswer : List ℕ → List ℕ → List ℕ → Layout → ℕ → ℕ → Matrix
+settleAnswer rows weak inbox layout n king = record { rows = settledOf rows weak inbox layout n king }

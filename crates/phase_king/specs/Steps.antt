@@ -1,4 +1,4 @@
--- What the private functions compute, for a reader of the code. The public contracts cite none of these.
+-- For the contracts of private functions; a reader of the public contracts needs none of it.
 --   saidRows inbox layout n r           row r of the message of each of the n slots
 --   ruleBit rule n t first second j  bit j by one of the four rules, from the rows that the slots say: `first` of row r, `second` of row n + r
 --   ruleRow, ruleMatrix              the row of those bits, and the matrix of those rows

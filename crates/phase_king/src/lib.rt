@@ -1,6 +1,7 @@
 // The vote among the controllers on a matrix of marks, bit by bit (document 01, 'Rounds', call 4 and rounds 3p + 1 to 3p + 3; Berman, Garay
 // and Perry). Index i is controller i + 1; a king is named by its number. Every function is total: a number n over 16 counts as 16.
-// What is sent is in send.rt.
+// The rules for one bit are in one_bit.rt, what is sent is in send.rt.
+mod one_bit;
 mod send;
 
 pub use send::send_as_king;
@@ -8,14 +9,17 @@ pub use send::send_matrix;
 pub use send::send_seen;
 ghost use mathlib.Core.Path.{_≡_};
 ghost use mathlib.Core.Bool.{cond};
-ghost use Prim.Native.Nat.{_+_, _-_, _<_, _≤_, min};
-ghost use Rattle.lists.specs.Sum.{ind, count};
-ghost use Rattle.bitset.specs.Set.{member, inserted};
+ghost use Prim.Native.Nat.{_+_, _<_, _≤_, min};
+ghost use Rattle.bitset.specs.Set.{inserted};
 ghost use Rattle.bitset.specs.Row.{rowOf};
 ghost use Rattle.wire.specs.Slot.{messageOf};
-ghost use Rattle.phase_king.specs.Bit.{zeroSeen, oneSeen, held, weak, settled};
-ghost use Rattle.phase_king.specs.Matrix.{cell, collected, tallied, kept, resolved};
+ghost use Rattle.phase_king.specs.Matrix.{collectAnswer, tallyAnswer, holdAnswer, settleAnswer};
 ghost use Rattle.phase_king.specs.Steps.{saidRows, ruleBit, ruleRow, ruleMatrix, kingRow, settledRow};
+use one_bit::held_bit;
+use one_bit::one_seen;
+use one_bit::settled_bit;
+use one_bit::weak_bit;
+use one_bit::zero_seen;
 use wire::Layout;
 
 // A matrix: a row of marks for each controller.
@@ -56,16 +60,6 @@ fn limit(n: usize) -> usize
     n
 }
 
-// How many slots make a quorum: n - t, or 0 where t is larger.
-fn quorum(n: usize, t: usize) -> usize
-    ensures { λ r. ⌜ r ≡ n - t ⌝ }
-{
-    if n < t {
-        return 0;
-    }
-    n - t
-}
-
 // Row r of what slot i + 1 says.
 fn said_row(inbox: &[u8], layout: Layout, n: usize, r: usize, i: usize) -> u16
     requires { ⌜ i < 16 ⌝ }
@@ -90,66 +84,6 @@ fn said_rows(inbox: &[u8], layout: Layout, n: usize, r: usize) -> [u16; 16]
         i += 1;
     }
     rows
-}
-
-// Bit j of a row, as a number.
-fn bit(row: u16, j: usize) -> usize
-    ensures { λ b. ⌜ b ≡ ind (member row j) ⌝ }
-{
-    if bitset::member(row, j) {
-        return 1;
-    }
-    0
-}
-
-// How many of the first n rows have bit j.
-fn count_bit(rows: &[u16; 16], n: usize, j: usize) -> usize
-    requires { ⌜ n ≤ 16 ⌝ }
-    ensures { λ c. ⌜ c ≡ count n (λ i. cell (now (rows .entry)) i j) ⌝ }
-{
-    let mut c: usize = 0;
-    let mut i: usize = 0;
-    while i < n {
-        c += bit(rows[i], j);
-        i += 1;
-    }
-    c
-}
-
-// Whether at least n - t say 0 at bit j.
-fn zero_seen(said: &[u16; 16], n: usize, t: usize, j: usize) -> bool
-    requires { ⌜ n ≤ 16 ⌝ }
-    ensures { λ b. ⌜ b ≡ zeroSeen n t (λ i. cell (now (said .entry)) i j) ⌝ }
-{
-    let ones = count_bit(said, n, j);
-    quorum(n, t) <= quorum(n, ones)
-}
-
-// Whether at least n - t say 1 at bit j.
-fn one_seen(said: &[u16; 16], n: usize, t: usize, j: usize) -> bool
-    requires { ⌜ n ≤ 16 ⌝ }
-    ensures { λ b. ⌜ b ≡ oneSeen n t (λ i. cell (now (said .entry)) i j) ⌝ }
-{
-    quorum(n, t) <= count_bit(said, n, j)
-}
-
-// The bit held: 1 if more than t have one seen.
-fn held_bit(ones: &[u16; 16], n: usize, t: usize, j: usize) -> bool
-    requires { ⌜ n ≤ 16 ⌝ }
-    ensures { λ b. ⌜ b ≡ held n t (λ i. cell (now (ones .entry)) i j) ⌝ }
-{
-    t < count_bit(ones, n, j)
-}
-
-// Whether the count for the bit held is below n - t.
-fn weak_bit(zeros: &[u16; 16], ones: &[u16; 16], n: usize, t: usize, j: usize) -> bool
-    requires { ⌜ n ≤ 16 ⌝ }
-    ensures { λ b. ⌜ b ≡ weak n t (λ i. cell (now (zeros .entry)) i j) (λ i. cell (now (ones .entry)) i j) ⌝ }
-{
-    if held_bit(ones, n, t, j) {
-        return count_bit(ones, n, j) < quorum(n, t);
-    }
-    count_bit(zeros, n, j) < quorum(n, t)
 }
 
 // Bit j by a rule, from the rows that the slots say.
@@ -214,18 +148,18 @@ fn rule_matrix(rule: Rule, inbox: &[u8], layout: Layout, n: usize, t: usize) -> 
 }
 
 // Call 4: row j of the matrix is the message of j.
-// Shut out: the next slot's message, another row of it, ones for an absent slot.
+// Shut out: the next slot's message; another row of it; must-fail/absent_says_one.
 pub fn collect(inbox: &[u8], layout: Layout, n: usize) -> Matrix
-    ensures { λ m. ⌜ m ≡ collected (now (inbox .entry)) layout n ⌝ }
+    ensures { λ m. ⌜ m ≡ collectAnswer (now (inbox .entry)) layout n ⌝ }
 {
     let rows = said_rows(inbox, layout, limit(n), 0);
     Matrix { rows }
 }
 
 // After round 3p + 1: where zero and where one is seen.
-// Shut out: zero seen only above n - t, the zeros matrix in the place of the ones matrix.
+// Shut out: zero seen only above n - t; the zeros matrix in the place of the ones matrix; must-fail/one_fewer_seen.
 pub fn tally(inbox: &[u8], layout: Layout, n: usize, t: usize) -> Seen
-    ensures { λ s. ⌜ s ≡ tallied (now (inbox .entry)) layout n t ⌝ }
+    ensures { λ s. ⌜ s ≡ tallyAnswer (now (inbox .entry)) layout n t ⌝ }
 {
     let m = limit(n);
     let zeros = rule_matrix(Rule::ZeroSeen, inbox, layout, m, t);
@@ -234,9 +168,9 @@ pub fn tally(inbox: &[u8], layout: Layout, n: usize, t: usize) -> Seen
 }
 
 // After round 3p + 2: the bits now held, and where their count is below n - t.
-// Shut out: 1 held where the ones are t, weak where the count is n - t.
+// Shut out: weak where the count is n - t; must-fail/ones_at_least_t.
 pub fn hold(inbox: &[u8], layout: Layout, n: usize, t: usize) -> Held
-    ensures { λ s. ⌜ s ≡ kept (now (inbox .entry)) layout n t ⌝ }
+    ensures { λ s. ⌜ s ≡ holdAnswer (now (inbox .entry)) layout n t ⌝ }
 {
     let m = limit(n);
     let rows = rule_matrix(Rule::Hold, inbox, layout, m, t);
@@ -254,16 +188,6 @@ fn king_row(inbox: &[u8], layout: Layout, n: usize, king: usize, r: usize) -> u1
     bitset::read_row(wire::message(inbox, layout, king), n, r)
 }
 
-// Bit j after round 3p + 3.
-fn settled_bit(held: u16, weak: u16, king: u16, j: usize) -> bool
-    ensures { λ b. ⌜ b ≡ settled (member held j) (member weak j) (member king j) ⌝ }
-{
-    if bitset::member(weak, j) {
-        return bitset::member(king, j);
-    }
-    bitset::member(held, j)
-}
-
 // A row after round 3p + 3.
 fn settled_row(held: u16, weak: u16, king: u16, n: usize) -> u16
     requires { ⌜ n ≤ 16 ⌝ }
@@ -279,7 +203,7 @@ fn settled_row(held: u16, weak: u16, king: u16, n: usize) -> u16
 }
 
 // After round 3p + 3: the king's bit where weak, else the bit held.
-// Shut out: always the king's bit, never the king's bit.
+// Shut out: never the king's bit; must-fail/always_the_kings_bit.
 pub fn settle(
     rows: &[u16; 16],
     weak: &[u16; 16],
@@ -288,7 +212,7 @@ pub fn settle(
     n: usize,
     king: usize,
 ) -> Matrix
-    ensures { λ m. ⌜ m ≡ resolved (now (rows .entry)) (now (weak .entry)) (now (inbox .entry)) layout n king ⌝ }
+    ensures { λ m. ⌜ m ≡ settleAnswer (now (rows .entry)) (now (weak .entry)) (now (inbox .entry)) layout n king ⌝ }
 {
     let m = limit(n);
     let mut settled = [0u16; 16];

@@ -10,7 +10,7 @@ use crate::limit;
 use wire::Layout;
 
 // The matrix to all: rounds 3p + 1 and 3p + 3. An outbox whose length is not that of the slots stays as it is.
-// Shut out: a message of zeros, half the message.
+// Shut out: a message of zeros; half the message.
 pub fn send_matrix(outbox: &mut [u8], layout: Layout, rows: &[u16; 16], n: usize)
     ensures { λ _. ⌜ now (outbox .exit) ≡ toAll layout (min n 16) (rowsOf n (now (rows .entry))) (now (outbox .entry)) ⌝ }
 {
@@ -31,7 +31,7 @@ fn write_seen(m: &mut [u8], zeros: &[u16; 16], ones: &[u16; 16], n: usize)
 }
 
 // The zeros matrix, then the ones matrix to all: round 3p + 2. An outbox whose length is not that of the slots stays as it is.
-// Shut out: the ones matrix first, the zeros matrix alone.
+// Shut out: the ones matrix first; the zeros matrix alone.
 pub fn send_seen(outbox: &mut [u8], layout: Layout, zeros: &[u16; 16], ones: &[u16; 16], n: usize)
     ensures { λ _. ⌜ now (outbox .exit) ≡ toAll layout (min n 16) (seenMessage n (now (zeros .entry)) (now (ones .entry))) (now (outbox .entry)) ⌝ }
 {
@@ -42,7 +42,7 @@ pub fn send_seen(outbox: &mut [u8], layout: Layout, zeros: &[u16; 16], ones: &[u
 }
 
 // The matrix to all if the own number is the king's, else silence: round 3p + 3.
-// Shut out: the king's matrix sent by nobody (must-fail edit); TODO.
+// Shut out: controller 1's matrix, whoever is king; must-fail/kings_matrix_by_nobody.
 pub fn send_as_king(
     outbox: &mut [u8],
     layout: Layout,

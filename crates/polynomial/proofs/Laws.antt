@@ -1,4 +1,4 @@
--- The laws of polynomials: all that a crate above may know of them. Written with p(x) for the value at x.
+-- What a crate above may know of polynomials besides the definitions. Written with p(x) for the value at x.
 --   Values by powers
 --     evaluate-lt        a value is an element
 --     evaluate-horner    the value by powers is the value by Horner's rule

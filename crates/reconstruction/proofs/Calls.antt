@@ -12,7 +12,7 @@ use Rattle.wire.specs.Length.{kindLayout}
 use Rattle.wire.specs.Slot.{width, slots}
 use Rattle.reed_solomon.specs.Encode.{pieceOf, isReady}
 use Rattle.reconstruction.specs.Reconstruction.{inCore, forwarded, chosenPiece, ownPiece, sentPiece, shared}
-use Rattle.reconstruction.proofs.Laws.{own-member, own-other}
+use Rattle.reconstruction.proofs.Rounds.{own-member, own-other}
 use Rattle.reconstruction.proofs.Pieces.{pieces}
 
 module _ (n t k own core : ℕ) (b o : List ℕ) where

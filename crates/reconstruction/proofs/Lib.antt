@@ -3,3 +3,4 @@ pub mod Laws
 mod Choice
 mod Pieces
 mod Calls
+mod Rounds

@@ -83,7 +83,7 @@ fn send_coding(layout: Layout, n: usize, t: usize, k: usize, block: &[u8], outbo
 }
 
 // Call 3t + 7: a core member sends to each j piece j of its own coding; others are silent.
-// Shut out: a core member that is silent; slots that are left (must-fail edits).
+// Shut out: must-fail/member_silent; must-fail/last_slots_left.
 pub fn forward(n: usize, t: usize, k: usize, own: usize, core: u16, block: &[u8], outbox: &mut [u8])
     ensures { λ _. ⌜ now (outbox .exit) ≡ forwarded n t k own core (now (block .entry)) (now (outbox .entry)) ⌝ }
 {
@@ -206,8 +206,7 @@ fn share_own(out: Layout, n: usize, t: usize, k: usize, own: usize, block: &[u8]
 }
 
 // Call 3t + 8: a member sends its own piece to all, another the piece that is chosen.
-// Shut out: the own piece from outside the core; t members enough; a slot counted that is no member's; silence in this round from those outside
-// the core (must-fail edits).
+// Shut out: must-fail/own_piece_outside_core; must-fail/t_members_enough; must-fail/non_member_counted; must-fail/silent_outside_the_core.
 pub fn share(
     n: usize,
     t: usize,
@@ -234,7 +233,7 @@ pub fn share(
 }
 
 // The outcome for an answer of decoding.
-fn outcome_of(d: Decoded) -> Outcome
+fn decoded_outcome(d: Decoded) -> Outcome
     ensures { λ r. ⌜ r ≡ decodedOutcome d ⌝ }
 {
     match d {
@@ -246,7 +245,7 @@ fn outcome_of(d: Decoded) -> Outcome
 
 // The last call: no core: none and a block of zeros; else agreed and the block that meets decoding's rule, or beyond and zeros where none does;
 // where decoding is refused, open and the block as it was.
-// Shut out: none and zeros always; none where decoding gives a block (must-fail edits).
+// Shut out: must-fail/always_none; must-fail/none_for_agreed.
 pub fn finish(n: usize, t: usize, k: usize, core: u16, inbox: &[u8], block: &mut [u8]) -> Outcome
     ensures { λ r. ⌜ finish r (now (block .exit)) ≡ finished n t k core (now (inbox .entry)) (now (block .entry)) ⌝ }
 {
@@ -254,5 +253,5 @@ pub fn finish(n: usize, t: usize, k: usize, core: u16, inbox: &[u8], block: &mut
         wire::silence(block);
         return Outcome::None;
     }
-    outcome_of(reed_solomon::decode(n, t, k, inbox, block))
+    decoded_outcome(reed_solomon::decode(n, t, k, inbox, block))
 }

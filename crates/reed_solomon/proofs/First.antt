@@ -8,9 +8,10 @@ use Prim.Native.Nat.{ℕ, zero, suc, _≤_, _<_}
 use native.Mathlib.Omega.{arith}
 use lib.Dec.{lit<}
 use lib.ListN.{length, getD}
+use Rattle.lists.specs.Options.{orElse, front}
 use Rattle.lists.proofs.Tests.{lt-or-le}
 use Rattle.polynomial.specs.Polynomial.{Bytes}
-use Rattle.reed_solomon.specs.First.{orElse, front, firstBelow, firstBytes}
+use Rattle.reed_solomon.specs.First.{firstBelow, firstBytes}
 
 abbrev pub Right : ℕ → (List ℕ → Bool) → Option (List ℕ) → Type 0
 Right len p none = (l : List ℕ) → length l ≡ len → Bytes l → p l ≡ false

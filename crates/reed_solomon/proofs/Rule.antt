@@ -16,10 +16,10 @@ use Rattle.lists.proofs.Fills.{length-tabulate, getD-tabulate}
 use Rattle.lists.proofs.Tests.{true≢false, cond-yes, cond-no, lt-or-le}
 use Rattle.settings.specs.Refusal.{encodingRefusal, decodingRefusal}
 use Rattle.settings.specs.Valid.{Coded, Numbered}
-use Rattle.settings.proofs.Laws.{encode-0, 0-encode, decode-0, 0-decode}
+use Rattle.settings.proofs.Laws.{encoding-0, 0-encoding, decoding-0, 0-decoding}
 use Rattle.wire.specs.Length.{blockLength}
 use Rattle.wire.specs.Slot.{layoutWith, width, messageOf}
-use Rattle.wire.proofs.Laws.{block-length}
+use Rattle.wire.proofs.Laws.{block-length-is}
 use Rattle.polynomial.specs.Polynomial.{evaluate, Bytes, Points}
 use Rattle.polynomial.proofs.Laws.{evaluate-lt, equal-of-values, past-end}
 use Rattle.interpolation.specs.Interpolation.{agreements, candidate}
@@ -56,17 +56,17 @@ module _ (n t k : ℕ) (slots : List ℕ) where
   unfolding decodeRefusal
   decode-number block fits r is-fits is-r = is-r ∙ ap (decodingRefusal n t k) is-fits
 
-  pub decode-valid : (block : List ℕ) → decodeRefusal n t k slots block ≡ 0 → Coded n t k × (length slots ≡ n * width (layoutWith k)) × (length block ≡ blockLength k t)
+  pub decode-0 : (block : List ℕ) → decodeRefusal n t k slots block ≡ 0 → Coded n t k × (length slots ≡ n * width (layoutWith k)) × (length block ≡ blockLength k t)
   unfolding decodeRefusal
-  decode-valid block e =
-      let r = decode-0 n t k (decodeFits n t k slots block) e in
+  decode-0 block e =
+      let r = decoding-0 n t k (decodeFits n t k slots block) e in
       let both = both-true (length slots) (n * width (layoutWith k)) (length block) (blockLength k t) (r .1) in
       (r .0, both .0, both .1)
 
-  pub valid-decode : (block : List ℕ) → Coded n t k → length slots ≡ n * width (layoutWith k) → length block ≡ blockLength k t → decodeRefusal n t k slots block ≡ 0
+  pub 0-decode : (block : List ℕ) → Coded n t k → length slots ≡ n * width (layoutWith k) → length block ≡ blockLength k t → decodeRefusal n t k slots block ≡ 0
   unfolding decodeRefusal
-  valid-decode block v a b =
-      0-decode n t k (decodeFits n t k slots block) v
+  0-decode block v a b =
+      0-decoding n t k (decodeFits n t k slots block) v
       (true-both (length slots) (n * width (layoutWith k)) (length block) (blockLength k t) a b)
 
   -- ---- the rule and the candidate
@@ -81,11 +81,11 @@ module _ (n t k : ℕ) (slots : List ℕ) where
     module _ (block : List ℕ) (d : Decodes n t k slots block) where
       each : (s : ℕ) → s < k → stripeOf n t k slots s ≡ stripe t block s
       each s l =
-          stripe-found s (stripe t block s) (bytes-stripe t block s (d .bytes)) (length-stripe k t block s (d .size ∙ block-length k t) l) (d .agrees s l)
+          stripe-found s (stripe t block s) (bytes-stripe t block s (d .bytes)) (length-stripe k t block s (d .size ∙ block-length-is k t) l) (d .agrees s l)
 
       pub decodes-joined : block ≡ joined (stripeOf n t k slots) k
       decodes-joined =
-          block-joined k t block (d .size ∙ block-length k t) ∙ joined-ext (stripe t block) (stripeOf n t k slots) k (λ s l. sym (each s l))
+          block-joined k t block (d .size ∙ block-length-is k t) ∙ joined-ext (stripe t block) (stripeOf n t k slots) k (λ s l. sym (each s l))
 
       decodes-found : (s : ℕ) → s < k → isFound n t k slots s ≡ true
       unfolding isFound
@@ -100,7 +100,7 @@ module _ (n t k : ℕ) (slots : List ℕ) where
     found-decodes : ((s : ℕ) → s < k → isFound n t k slots s ≡ true) → Decodes n t k slots (joined (stripeOf n t k slots) k)
     unfolding isFound
     found-decodes h = record {
-      size = length-joined (t + 1) (stripeOf n t k slots) k (λ s l. length-found n t k slots s) ∙ sym (block-length k t);
+      size = length-joined (t + 1) (stripeOf n t k slots) k (λ s l. length-found n t k slots s) ∙ sym (block-length-is k t);
       bytes = all-joined (λ x. x < 256) (stripeOf n t k slots) k (lit< tt) (λ s l. bytes-found n t k slots s);
       agrees = λ s l.
           subst (λ m. n - t ≤ agreeing n k slots s m) (sym (stripe-joined t (stripeOf n t k slots) k (λ s l. length-found n t k slots s) s l))
@@ -123,7 +123,7 @@ decodes-unique n t k slots v B C d e = decodes-joined n t k slots v B d ∙ sym 
 
 pub answers-unique : AnswersUnique
 answers-unique n t k slots before Block Block B C d e =
-    (refl, decodes-unique n t k slots (decode-valid n t k slots before (d .0) .0) B C (d .1) (e .1))
+    (refl, decodes-unique n t k slots (decode-0 n t k slots before (d .0) .0) B C (d .1) (e .1))
 answers-unique n t k slots before Block Beyond B C d e = absurd (e .1 B (d .1))
 answers-unique n t k slots before Block (Refused r) B C d e = absurd (e .1 (e .0 ∙ d .0))
 answers-unique n t k slots before Beyond Block B C d e = absurd (d .1 C (e .1))
@@ -209,54 +209,58 @@ module _ (n t k i : ℕ) (block piece : List ℕ) where
   unfolding encodeOf
   encode-carried e = cond-yes (eqb (encodeRefusal n t k i block piece) 0) _ _ (eq-eqb (encodeRefusal n t k i block piece) 0 e)
 
-  pub encode-valid : encodeRefusal n t k i block piece ≡ 0 → Coded n t k × Numbered n i × (length block ≡ blockLength k t) × (length piece ≡ k)
+  pub encode-0 : encodeRefusal n t k i block piece ≡ 0 → Coded n t k × Numbered n i × (length block ≡ blockLength k t) × (length piece ≡ k)
   unfolding encodeRefusal
-  encode-valid e =
-      let r = encode-0 n t k i (encodeFits k t block piece) e in
+  encode-0 e =
+      let r = encoding-0 n t k i (encodeFits k t block piece) e in
       let both = both-true (length block) (blockLength k t) (length piece) k (r .2) in
       (r .0, r .1, both .0, both .1)
 
-  pub valid-encode : Coded n t k → Numbered n i → length block ≡ blockLength k t → length piece ≡ k → encodeRefusal n t k i block piece ≡ 0
+  pub 0-encode : Coded n t k → Numbered n i → length block ≡ blockLength k t → length piece ≡ k → encodeRefusal n t k i block piece ≡ 0
   unfolding encodeRefusal
-  valid-encode v m a b =
-      0-encode n t k i (encodeFits k t block piece) v m
+  0-encode v m a b =
+      0-encoding n t k i (encodeFits k t block piece) v m
       (true-both (length block) (blockLength k t) (length piece) k a b)
 
+  pub encode-valid : Coded n t k → Numbered n i → length block ≡ blockLength k t → length piece ≡ k
+      → encodeOf n t k i block piece ≡ encoded 0 (pieceOf k t block i)
+  encode-valid v m a b = encode-carried (0-encode v m a b)
+
 -- ---- pieces
-pub piece-length : (k t : ℕ) (block : List ℕ) (i : ℕ) → length (pieceOf k t block i) ≡ k
+pub length-piece : (k t : ℕ) (block : List ℕ) (i : ℕ) → length (pieceOf k t block i) ≡ k
 unfolding pieceOf
-piece-length k t block i = length-tabulate (λ s. evaluate (stripe t block s) i) k
+length-piece k t block i = length-tabulate (λ s. evaluate (stripe t block s) i) k
 
-pub piece-byte : (k t : ℕ) (block : List ℕ) (i s : ℕ) → s < k → getD (pieceOf k t block i) s 0 ≡ evaluate (stripe t block s) i
+pub getD-piece : (k t : ℕ) (block : List ℕ) (i s : ℕ) → s < k → getD (pieceOf k t block i) s 0 ≡ evaluate (stripe t block s) i
 unfolding pieceOf
-piece-byte k t block i s l = getD-tabulate (λ s. evaluate (stripe t block s) i) k s 0 l
+getD-piece k t block i s l = getD-tabulate (λ s. evaluate (stripe t block s) i) k s 0 l
 
-pub piece-bytes : (k t : ℕ) (block : List ℕ) (i : ℕ) → Bytes (pieceOf k t block i)
-piece-bytes k t block i s =
+pub bytes-piece : (k t : ℕ) (block : List ℕ) (i : ℕ) → Bytes (pieceOf k t block i)
+bytes-piece k t block i s =
     ⊎-elim
-    (λ (l : s < k). rw (piece-byte k t block i s l) (evaluate-lt (stripe t block s) i))
-    (λ (l : k ≤ s). rw (past-end (pieceOf k t block i) s (omega (arith, piece-length k t block i))) (lit< tt))
+    (λ (l : s < k). rw (getD-piece k t block i s l) (evaluate-lt (stripe t block s) i))
+    (λ (l : k ≤ s). rw (past-end (pieceOf k t block i) s (omega (arith, length-piece k t block i))) (lit< tt))
     (lt-or-le s k)
 
 -- t + 1 equal pieces determine the block: `same` says of an index that the two codings have the same piece there
 pub blocks-equal : (n t k : ℕ) (b b′ : List ℕ) (same : ℕ → Bool) → n < 256 → length b ≡ blockLength k t → length b′ ≡ blockLength k t → Bytes b → Bytes b′
     → ((i : ℕ) → i < n → same i ≡ true → pieceOf k t b (i + 1) ≡ pieceOf k t b′ (i + 1)) → t + 1 ≤ count n same → b ≡ b′
 blocks-equal n t k b b′ same few l l′ h h′ equal many =
-    block-joined k t b (l ∙ block-length k t)
+    block-joined k t b (l ∙ block-length-is k t)
     ∙ joined-ext (stripe t b) (stripe t b′) k each
-    ∙ sym (block-joined k t b′ (l′ ∙ block-length k t))
+    ∙ sym (block-joined k t b′ (l′ ∙ block-length-is k t))
   where
     each : (s : ℕ) → s < k → stripe t b s ≡ stripe t b′ s
     each s g =
-        let m : length (stripe t b s) ≡ t + 1 = length-stripe k t b s (l ∙ block-length k t) g in
-        let m′ : length (stripe t b′ s) ≡ t + 1 = length-stripe k t b′ s (l′ ∙ block-length k t) g in
+        let m : length (stripe t b s) ≡ t + 1 = length-stripe k t b s (l ∙ block-length-is k t) g in
+        let m′ : length (stripe t b′ s) ≡ t + 1 = length-stripe k t b′ s (l′ ∙ block-length-is k t) g in
         equal-of-values n (λ i. i + 1) (stripe t b s) (stripe t b′ s) (different-numbers n few) (bytes-stripe t b s h) (bytes-stripe t b′ s h′) (m ∙ sym m′)
         (omega (
           arith,
           m,
           count-mono n same (λ i. eqb (evaluate (stripe t b s) (i + 1)) (evaluate (stripe t b′ s) (i + 1)))
               (λ i u e. eq-eqb (evaluate (stripe t b s) (i + 1)) (evaluate (stripe t b′ s) (i + 1))
-              (sym (piece-byte k t b (i + 1) s g) ∙ ap (λ p. getD p s 0) (equal i u e) ∙ piece-byte k t b′ (i + 1) s g)),
+              (sym (getD-piece k t b (i + 1) s g) ∙ ap (λ p. getD p s 0) (equal i u e) ∙ getD-piece k t b′ (i + 1) s g)),
         ))
 
 -- ---- true pieces in enough slots: `right` says of an index that its slot has the block's piece
@@ -271,7 +275,7 @@ pieces-decode n t k slots b right l h true-piece many = record {
         arith,
         count-mono n right (λ i. eqb (evaluate (stripe t b s) (i + 1)) (getD (messageOf slots (layoutWith k) (i + 1)) s 0))
             (λ i u e. eq-eqb (evaluate (stripe t b s) (i + 1)) (getD (messageOf slots (layoutWith k) (i + 1)) s 0)
-            (sym (piece-byte k t b (i + 1) s g) ∙ ap (λ p. getD p s 0) (sym (true-piece i u e)))),
+            (sym (getD-piece k t b (i + 1) s g) ∙ ap (λ p. getD p s 0) (sym (true-piece i u e)))),
       );
 }
 

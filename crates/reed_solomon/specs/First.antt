@@ -1,7 +1,5 @@
 -- The block that meets decoding's rule as a function, for definitions that need one: the first of all blocks, in dictionary order, that meets
 -- it. Within the settings it is the only one (`DecodesUnique`), so the order says nothing. The definition is never computed.
---   orElse r q             r, or q where r is none
---   front x r              x before the list of r
 --   firstBelow m f         the first of f 0, .., f (m - 1) that is not none
 --   firstBytes len p       the first list of len bytes that passes the test p; none where none does
 --   meets n t k slots B    each stripe of B agrees in at least n - t places
@@ -15,6 +13,7 @@ use mathlib.Core.Path.{_≡_}
 use mathlib.Core.Bool.{Bool, true, cond}
 use mathlib.Core.List.{List, [], _∷_}
 use mathlib.Core.Option.{Option, none, some}
+use Rattle.lists.specs.Options.{orElse, front}
 use Prim.Native.Nat.{ℕ, zero, suc, _-_}
 use lib.Dec.{eqb, leb}
 use lib.ListN.{length}
@@ -24,14 +23,6 @@ use Rattle.wire.specs.Length.{blockLength}
 use Rattle.polynomial.specs.Polynomial.{Bytes}
 use Rattle.reed_solomon.specs.Encode.{stripe}
 use Rattle.reed_solomon.specs.Decode.{agreeing, Decodes}
-
-abbrev pub orElse : Option (List ℕ) → Option (List ℕ) → Option (List ℕ)
-orElse none q = q
-orElse (some l) q = some l
-
-abbrev pub front : ℕ → Option (List ℕ) → Option (List ℕ)
-front x none = none
-front x (some l) = some (x ∷ l)
 
 unfoldable pub firstBelow : ℕ → (ℕ → Option (List ℕ)) → Option (List ℕ)
 firstBelow zero f = none

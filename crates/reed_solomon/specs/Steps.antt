@@ -1,4 +1,5 @@
--- For the contracts of private functions: how decoding finds the block, by Kötter's candidate.
+-- For the contracts of private functions; a reader of the public contracts needs none of it.
+-- How decoding finds the block: by Kötter's candidate.
 --   points n                          the points that are read: 1 .. n
 --   column k slots s xs               the values received at the points xs
 --   stripeOf n t k slots s            the candidate for stripe s

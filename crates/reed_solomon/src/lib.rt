@@ -191,8 +191,8 @@ fn rebuild(n: usize, t: usize, k: usize, slots: &[u8], block: &mut [u8]) -> Deco
 
 // Decoding: the block whose code agrees, in each stripe, with the pieces in the n slots in at least n - t places, into the lent block; beyond
 // and zeros where there is none. The relation determines the answer and the block that is left: at most one block meets the rule (laws
-// `decodes-unique`, `answers-unique`). Shut out: must-fail/one_agreement_less, points_off_by_one, beyond_keeps_the_block,
-// refusal_clears_the_block.
+// `decodes-unique`, `answers-unique`).
+// Shut out: must-fail/one_agreement_less; must-fail/points_off_by_one; must-fail/beyond_keeps_the_block; must-fail/refusal_clears_the_block.
 pub fn decode(n: usize, t: usize, k: usize, slots: &[u8], block: &mut [u8]) -> Decoded
     ensures { λ r. ⌜ Answers n t k (now (slots .entry)) (now (block .entry)) r (now (block .exit)) ⌝ }
 {
@@ -217,8 +217,8 @@ fn encode_piece(t: usize, block: &[u8], x: u8, piece: &mut [u8])
     }
 }
 
-// Coding: piece `number` of a block's coding, into the lent piece. Shut out: 0 where it is refused; each stripe without its last byte; and
-// must-fail/piece_of_another.
+// Coding: piece `number` of a block's coding, into the lent piece.
+// Shut out: 0 where it is refused; each stripe without its last byte; must-fail/piece_of_another.
 pub fn encode(n: usize, t: usize, k: usize, number: usize, block: &[u8], piece: &mut [u8]) -> u8
     ensures { λ r. ⌜ encoded r (now (piece .exit)) ≡ encodeOf n t k number (now (block .entry)) (now (piece .entry)) ⌝ }
 {

@@ -1,2 +1,3 @@
 -- The laws of runs.
 pub mod Laws
+mod Runs

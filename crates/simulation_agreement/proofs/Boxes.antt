@@ -1,4 +1,4 @@
--- Every block and outbox of a run holds bytes (`kept`), and so does every inbox (`inbox-bytes`). An outbox and an inbox are as long as the call
+-- Every block and outbox of a run holds bytes (`holds-bytes`), and so does every inbox (`inbox-bytes`). An outbox and an inbox are as long as the call
 -- states (`lent-bytes`, `inbox-size`), and slot i of an inbox is what came from i (`in-slot`).
 use mathlib.Core.Path.{_≡_, refl, sym, ap, subst, _∙_}
 use mathlib.Core.Bool.{true, false}
@@ -19,16 +19,16 @@ use Rattle.polynomial.specs.Polynomial.{Bytes}
 use Rattle.wire.specs.declared.slot.Layout.{Layout}
 use Rattle.wire.specs.Length.{blockLength, messageLength, inboxLength, outboxLength}
 use Rattle.wire.specs.Slot.{width, slotOf}
-use Rattle.wire.proofs.Laws.{length-pos, outbox-of, inbox-of, first-inbox, Sized, sized-silence, sized-bytes, content, written-each, slot-part, slot-length}
+use Rattle.wire.proofs.Laws.{length-pos, outbox-is, inbox-is, first-inbox, Sized, sized-silence, sized-bytes, content, written-each, slot-is, length-slot}
 use Rattle.protocol.specs.Step.{After, stepOf}
 use Rattle.simulation.specs.Run.{layoutAt, Scenario, Proper, Playing, sentAs, slotTo, inboxOf, outboxOf, played}
 use Rattle.simulation.proofs.Laws.{began-is, called-is, inbox-first, inbox-later, slot-faulty, slot-correct, cleared, played-start, played-correct, played-faulty}
-use Rattle.simulation_agreement.proofs.Bytes.{IsBytes, Byte, zeros-bytes, step-bytes}
+use Rattle.simulation_agreement.proofs.Bytes.{IsBytes, Byte, zeros-bytes, bytes-step}
 
 -- ---- slots
 slot-bytes : (box : List ℕ) (layout : Layout) (j : ℕ) → Bytes box → Bytes (slotOf box layout j)
 slot-bytes box layout j h =
-    subst Bytes (sym (slot-part box layout j ∙ part-take (width layout) box (j - 1)))
+    subst Bytes (sym (slot-is box layout j ∙ part-take (width layout) box (j - 1)))
     (all-take Byte (lit< tt) (width layout) _ (all-drop Byte (lit< tt) ((j - 1) * width layout) box h))
 
 -- what a faulty controller sends is its message
@@ -62,7 +62,7 @@ module _ (F : Scenario) (p : Proper F) where
   lent-bytes c = subst (IsBytes (outboxLength (F .settings .n) (F .settings .t) (F .settings .k) c)) (sym (cleared F c)) (zeros-bytes (outboxLength (F .settings .n) (F .settings .t) (F .settings .k) c))
 
   -- block and outbox of a controller after c calls
-  pub record Kept (c i : ℕ) : Type 0 where
+  pub record HoldsBytes (c i : ℕ) : Type 0 where
     pub block-is : IsBytes (blockLength (F .settings .k) (F .settings .t)) (played F c i .block)
     pub sends : Bytes (played F c i .outbox)
 
@@ -81,18 +81,18 @@ module _ (F : Scenario) (p : Proper F) where
       → IsBytes (length (played F c i .block)) (after c i .block) × IsBytes (length (outboxOf F (c + 1))) (after c i .outbox)
   unfolding after
   after-bytes c i h g =
-      step-bytes (played F c i .state) (played F c i .block) (inboxOf F c (played F c) i) (outboxOf F (c + 1)) h (box-bytes c (played F c) g i) (lent-bytes (c + 1) .bytes)
+      bytes-step (played F c i .state) (played F c i .block) (inboxOf F c (played F c) i) (outboxOf F (c + 1)) h (box-bytes c (played F c) g i) (lent-bytes (c + 1) .bytes)
 
-  pub kept : (c i : ℕ) → Kept c i
+  pub holds-bytes : (c i : ℕ) → HoldsBytes c i
   unfolding taken
-  kept zero i =
+  holds-bytes zero i =
       let e = played-start F i ∙ began-is F i in
       record {
         block-is = subst (λ (x : Playing). IsBytes (blockLength (F .settings .k) (F .settings .t)) (x .block)) (sym e) (record { size = p .block-length; bytes = p .block-bytes });
         sends = subst (λ (x : Playing). Bytes (x .outbox)) (sym e) (λ x. lit< tt);
       }
-  kept (suc c) i =
-      let q = kept c i in
+  holds-bytes (suc c) i =
+      let q = holds-bytes c i in
       ⊎-elim
       (λ (y : F .faulty i ≡ true).
       let e = sym (played-faulty F c i y) in
@@ -102,7 +102,7 @@ module _ (F : Scenario) (p : Proper F) where
       })
       (λ (y : F .faulty i ≡ false).
       let e = sym (step-is c i y) in
-      let r = after-bytes c i (q .block-is .bytes) (λ j. kept c j .sends) in
+      let r = after-bytes c i (q .block-is .bytes) (λ j. holds-bytes c j .sends) in
       record {
         block-is =
             subst (λ (x : Playing). IsBytes (blockLength (F .settings .k) (F .settings .t)) (x .block)) e
@@ -112,7 +112,7 @@ module _ (F : Scenario) (p : Proper F) where
       (either (F .faulty i))
 
   pub inbox-bytes : (c i : ℕ) → Bytes (inboxOf F c (played F c) i)
-  inbox-bytes c i = box-bytes c (played F c) (λ j. kept c j .sends) i
+  inbox-bytes c i = box-bytes c (played F c) (λ j. holds-bytes c j .sends) i
 
   -- ---- lengths
   -- what a correct controller's call sends is as long as its outbox
@@ -120,7 +120,7 @@ module _ (F : Scenario) (p : Proper F) where
   unfolding taken
   sent-size c i y =
       ap (λ (x : Playing). length (x .outbox)) (step-is c i y)
-      ∙ after-bytes c i (kept c i .block-is .bytes) (λ j. kept c j .sends) .1 .size
+      ∙ after-bytes c i (holds-bytes c i .block-is .bytes) (λ j. holds-bytes c j .sends) .1 .size
       ∙ lent-bytes (c + 1) .size
       ∙ ap (outboxLength (F .settings .n) (F .settings .t) (F .settings .k)) (add-one c)
 
@@ -134,9 +134,9 @@ module _ (F : Scenario) (p : Proper F) where
       ap length (slot-faulty F (suc c) (played F (suc c)) i j y) ∙ sent-sized (layoutAt F (suc c)) (F .said (suc c) j i) (p .said-length (suc c) j i))
       (λ (y : F .faulty j ≡ false).
       ap length (slot-correct F (suc c) (played F (suc c)) i j y)
-      ∙ slot-length (played F (suc c) j .outbox) (layoutAt F (suc c)) i (v .least)
+      ∙ length-slot (played F (suc c) j .outbox) (layoutAt F (suc c)) i (v .least)
       (subst (λ (m : ℕ). i * width (layoutAt F (suc c)) ≤ m)
-      (sym (sent-size c j y ∙ outbox-of (F .settings .n) (F .settings .t) (F .settings .k) (suc c) (some-length c l)))
+      (sym (sent-size c j y ∙ outbox-is (F .settings .n) (F .settings .t) (F .settings .k) (suc c) (some-length c l)))
       (mul-le-mul-right (width (layoutAt F (suc c))) (v .most))))
       (either (F .faulty j))
 
@@ -145,7 +145,7 @@ module _ (F : Scenario) (p : Proper F) where
   inbox-size (suc c) i l v =
       ap length (inbox-later F c (played F (suc c)) i)
       ∙ length-joined (width (layoutAt F (suc c))) (λ x. slotTo F (suc c) (played F (suc c)) i (x + 1)) (F .settings .n) (λ x b. slot-size c i (x + 1) l v)
-      ∙ sym (inbox-of (F .settings .n) (F .settings .t) (F .settings .k) (suc c) (some-length c l))
+      ∙ sym (inbox-is (F .settings .n) (F .settings .t) (F .settings .k) (suc c) (some-length c l))
 
   -- slot i of an inbox is what came from i
   pub in-slot : (c i j : ℕ) → suc c ≤ 3 * F .settings .t + 8 → Numbered (F .settings .n) i → Numbered (F .settings .n) j
@@ -154,7 +154,7 @@ module _ (F : Scenario) (p : Proper F) where
       let a = v .least in
       let b = v .most in
       let e : i - 1 + 1 ≡ i = omega arith in
-      slot-part (inboxOf F (suc c) (played F (suc c)) j) (layoutAt F (suc c)) i
+      slot-is (inboxOf F (suc c) (played F (suc c)) j) (layoutAt F (suc c)) i
       ∙ ap (λ (x : List ℕ). part (width (layoutAt F (suc c))) x (i - 1)) (inbox-later F c (played F (suc c)) j)
       ∙ part-joined (width (layoutAt F (suc c))) (λ x. slotTo F (suc c) (played F (suc c)) j (x + 1)) (F .settings .n) (λ x d. slot-size c j (x + 1) l w) (i - 1) (omega arith)
       ∙ ap (slotTo F (suc c) (played F (suc c)) j) e

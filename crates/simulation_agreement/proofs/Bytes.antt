@@ -1,4 +1,4 @@
--- A step that is lent bytes leaves bytes, of the lengths that it was lent: `step-bytes`. Below it the same for a call that is carried out
+-- A step that is lent bytes leaves bytes, of the lengths that it was lent: `bytes-step`. Below it the same for a call that is carried out
 -- (`call-bytes`), kind by kind.
 use mathlib.Core.Path.{_≡_, refl, sym, ap, subst, _∙_}
 use mathlib.Core.Bool.{Bool, true, false, cond, _&&_}
@@ -13,7 +13,7 @@ use Rattle.lists.proofs.Tests.{and-left, and-right, either, same-or-not}
 use Rattle.lists.proofs.Parts.{all-append, all-zeros}
 use Rattle.bitset.specs.Set.{restricted}
 use Rattle.bitset.specs.Row.{rowsOf}
-use Rattle.bitset.proofs.Rows.{rows-bytes}
+use Rattle.bitset.proofs.Laws.{bytes-rows}
 use Rattle.settings.specs.Valid.{Coded}
 use Rattle.polynomial.specs.Polynomial.{Bytes}
 use Rattle.wire.specs.declared.Call.{Call}
@@ -24,20 +24,20 @@ use Rattle.wire.specs.Round.{callKind, roundKind}
 use Rattle.wire.specs.Length.{blockLength, rowLength, kindLayout, messageLength, inboxLength, outboxLength}
 use Rattle.wire.specs.declared.slot.Layout.{Layout}
 use Rattle.wire.specs.Slot.{layoutWith, width, Sent, bytes, slots, toAll}
-use Rattle.wire.proofs.Laws.{kind-length, Fact, call-fact, length-of, length-pos, outbox-of, inbox-of, round-block, round-pieces, round-marks, round-forward, round-rebuild, length-block, length-pieces, length-marks, length-forward, length-rebuild, Sized, sized-bytes, length-slots, content, slots-each}
+use Rattle.wire.proofs.Laws.{kind-length-is, Fact, call-fact, message-length-is, length-pos, outbox-is, inbox-is, round-block, round-pieces, round-marks, round-forward, round-rebuild, row-block, row-pieces, row-marks, row-forward, row-rebuild, Sized, sized-bytes, length-slots, content, slots-each}
 use Rattle.reed_solomon.specs.Encode.{pieceOf}
 use Rattle.reed_solomon.specs.Decode.{Decodes}
-use Rattle.reed_solomon.proofs.Laws.{piece-length, piece-bytes, valid-decode, decodes-or-not}
+use Rattle.reed_solomon.proofs.Laws.{length-piece, bytes-piece, 0-decode, decodes-or-not}
 use Rattle.dispersal.specs.Dispersal.{sentBlock, receivedBlock, twoPieces, sentPieces, marksOf, marksMessage, sentMarks}
-use Rattle.dispersal.proofs.Laws.{sent-block, sent-silence, received-length, received-all, sent-pieces, two-pieces-is, marks-length, marks-bytes, sent-marks}
+use Rattle.dispersal.proofs.Laws.{sent-block, sent-silence, length-received, received-all, sent-pieces, two-pieces-is, length-marks, bytes-marks, sent-marks}
 use Rattle.phase_king.specs.Matrix.{limit, sentByKing, zerosOf, onesOf, seenMessage}
-use Rattle.phase_king.proofs.Laws.{king-all, king-none, seen-bytes}
+use Rattle.phase_king.proofs.Laws.{king-all, king-none, bytes-seen}
 use Rattle.reconstruction.specs.Reconstruction.{Finished, inCore, forwarded, ownPiece, chosenPiece, shared, finished}
-use Rattle.reconstruction.proofs.Laws.{forward-length, rebuild-length, forwarded-member, forwarded-other, shared-sends, shared-none, own-member, own-other, chosen-length, chosen-each, finished-none, finished-agreed, finished-beyond}
+use Rattle.reconstruction.proofs.Laws.{kind-forward, kind-rebuild, forwarded-member, forwarded-other, shared-sends, shared-none, own-member, own-other, length-chosen, chosen-each, finished-none, finished-agreed, finished-beyond}
 use Rattle.protocol.specs.declared.State.{State}
 use Rattle.protocol.specs.Calls.{Carried, inboxLayout, outboxLayout, writePhase, callOf}
 use Rattle.protocol.specs.Step.{stepRefusal, After, stepOf, Ready}
-use Rattle.protocol.proofs.Laws.{refused, performed, ready-of, of-send, of-receive, of-compare, of-collect, of-tally, of-hold, of-settle, of-core, of-choose, of-finish, of-outside}
+use Rattle.protocol.proofs.Laws.{step-refused, step-carried, step-0, of-send, of-receive, of-compare, of-collect, of-tally, of-hold, of-settle, of-core, of-choose, of-finish, of-outside}
 
 -- m bytes
 pub record IsBytes (m : ℕ) (l : List ℕ) : Type 0 where
@@ -73,7 +73,7 @@ to-all-bytes layout n m o h g = go (eqb (length m) (layout .length) && eqb (leng
     go false e = record { size = refl; bytes = g }
 
 piece-of-bytes : (k t : ℕ) (b : List ℕ) (j : ℕ) → IsBytes k (pieceOf k t b j)
-piece-of-bytes k t b j = record { size = piece-length k t b j; bytes = piece-bytes k t b j }
+piece-of-bytes k t b j = record { size = length-piece k t b j; bytes = bytes-piece k t b j }
 
 -- ---- calls
 module _ (s : State) (b i o : List ℕ) (r : Ready s (length b) (length i) (length o)) (block : Bytes b) (inbox : Bytes i) (outbox : Bytes o) where
@@ -85,14 +85,14 @@ module _ (s : State) (b i o : List ℕ) (r : Ready s (length b) (length i) (leng
 
   -- the length of a message by the row of the table, and the layout of a round by its kind
   row : (c : ℕ) (k : Round) → roundKind (s .settings .t) c ≡ k → messageLength (s .settings .n) (s .settings .t) (s .settings .k) c ≡ rowLength k (s .settings .n) (s .settings .t) (s .settings .k)
-  row c k e = length-of coded c ∙ ap (λ (x : Round). rowLength x (s .settings .n) (s .settings .t) (s .settings .k)) e
+  row c k e = message-length-is coded c ∙ ap (λ (x : Round). rowLength x (s .settings .n) (s .settings .t) (s .settings .k)) e
 
   kind-is : (c : ℕ) (k : Round) → s .next ≡ c → roundKind (s .settings .t) c ≡ k → outboxLayout s ≡ kindLayout k (s .settings .n) (s .settings .t) (s .settings .k)
   kind-is c k at e = ap (λ (x : Round). kindLayout x (s .settings .n) (s .settings .t) (s .settings .k)) (ap (roundKind (s .settings .t)) at ∙ e)
 
   -- the outbox is n slots
   room : 1 ≤ s .next → s .next ≤ 3 * s .settings .t + 8 → length o ≡ s .settings .n * width (outboxLayout s)
-  room least most = r .outbox-length ∙ outbox-of (s .settings .n) (s .settings .t) (s .settings .k) (s .next) (length-pos coded (s .next) least most)
+  room least most = r .outbox-length ∙ outbox-is (s .settings .n) (s .settings .t) (s .settings .k) (s .next) (length-pos coded (s .next) least most)
 
   kind-room : (c : ℕ) (k : Round) → s .next ≡ c → roundKind (s .settings .t) c ≡ k → 1 ≤ c → c ≤ 3 * s .settings .t + 8
       → length o ≡ s .settings .n * width (kindLayout k (s .settings .n) (s .settings .t) (s .settings .k))
@@ -110,7 +110,7 @@ module _ (s : State) (b i o : List ℕ) (r : Ready s (length b) (length i) (leng
       let L = outboxLayout s in
       let l = room (omega arith) (omega arith) in
       let long : length b ≡ L .length =
-      r .block-length ∙ sym (ap (λ (x : Layout). x .length) (kind-is 1 Block at (round-block (s .settings .t))) ∙ kind-length coded Block ∙ length-block (s .settings .n) (s .settings .t) (s .settings .k)) in
+      r .block-length ∙ sym (ap (λ (x : Layout). x .length) (kind-is 1 Block at (round-block (s .settings .t))) ∙ kind-length-is coded Block ∙ row-block (s .settings .n) (s .settings .t) (s .settings .k)) in
       ⊎-elim
       (λ (e : s .own ≡ s .settings .sender).
       filled L _ (slots L (λ _. bytes b) (s .settings .n)) l (sent-block L (s .settings .n) (s .own) (s .settings .sender) b o e long l)
@@ -122,10 +122,10 @@ module _ (s : State) (b i o : List ℕ) (r : Ready s (length b) (length i) (leng
   receive at =
       let e : s .next - 1 ≡ 1 = omega arith in
       record {
-        size = received-length i (inboxLayout s) (s .settings .sender) b;
+        size = length-received i (inboxLayout s) (s .settings .sender) b;
         bytes =
             received-all i (inboxLayout s) (s .settings .sender) b Byte (lit< tt) inbox
-            (r .block-length ∙ sym (ap (λ (c : ℕ). messageLength (s .settings .n) (s .settings .t) (s .settings .k) c) e ∙ row 1 Block (round-block (s .settings .t)) ∙ length-block (s .settings .n) (s .settings .t) (s .settings .k)));
+            (r .block-length ∙ sym (ap (λ (c : ℕ). messageLength (s .settings .n) (s .settings .t) (s .settings .k) c) e ∙ row 1 Block (round-block (s .settings .t)) ∙ row-block (s .settings .n) (s .settings .t) (s .settings .k)));
       }
 
   pieces : s .next ≡ 2 → (b′ : List ℕ) → length b′ ≡ length b → IsBytes (length o) (sentPieces (s .settings .n) (s .settings .t) (s .settings .k) (s .own) b′ o)
@@ -133,26 +133,26 @@ module _ (s : State) (b i o : List ℕ) (r : Ready s (length b) (length i) (leng
       let L = kindLayout Pieces (s .settings .n) (s .settings .t) (s .settings .k) in
       let l = kind-room 2 Pieces at (round-pieces (s .settings .t)) (omega arith) (omega arith) in
       let p : ℕ → List ℕ = pieceOf (s .settings .k) (s .settings .t) b′ in
-      let two : L .length ≡ 2 * s .settings .k = kind-length coded Pieces ∙ length-pieces (s .settings .n) (s .settings .t) (s .settings .k) in
+      let two : L .length ≡ 2 * s .settings .k = kind-length-is coded Pieces ∙ row-pieces (s .settings .n) (s .settings .t) (s .settings .k) in
       filled L _ (slots L (twoPieces (s .settings .k) (s .settings .t) (s .own) b′) (s .settings .n)) l
       (sent-pieces (s .settings .n) (s .settings .t) (s .settings .k) (s .own) b′ coded (r .valid .number) (long ∙ r .block-length) o l)
       (slots-bytes L (twoPieces (s .settings .k) (s .settings .t) (s .own) b′) (s .settings .n)
       (λ j. subst (Sized L) (sym (two-pieces-is (s .settings .k) (s .settings .t) (s .own) b′ j))
       (sized-bytes L (p (s .own) ++ p j)
-      (length-append (p (s .own)) (p j) ∙ omega (arith, two, piece-length (s .settings .k) (s .settings .t) b′ (s .own), piece-length (s .settings .k) (s .settings .t) b′ j))))
+      (length-append (p (s .own)) (p j) ∙ omega (arith, two, length-piece (s .settings .k) (s .settings .t) b′ (s .own), length-piece (s .settings .k) (s .settings .t) b′ j))))
       (λ j. subst (λ (x : Sent). Bytes (content x)) (sym (two-pieces-is (s .settings .k) (s .settings .t) (s .own) b′ j))
-      (all-append Byte (lit< tt) (p (s .own)) (p j) (piece-bytes (s .settings .k) (s .settings .t) b′ (s .own)) (piece-bytes (s .settings .k) (s .settings .t) b′ j))))
+      (all-append Byte (lit< tt) (p (s .own)) (p j) (bytes-piece (s .settings .k) (s .settings .t) b′ (s .own)) (bytes-piece (s .settings .k) (s .settings .t) b′ j))))
 
   compare : s .next ≡ 3 → (m : ℕ) → IsBytes (length o) (sentMarks (outboxLayout s) (s .settings .n) m o)
   compare at m =
       let L = outboxLayout s in
       let l = room (omega arith) (omega arith) in
-      let two : L .length ≡ 2 = ap (λ (x : Layout). x .length) (kind-is 3 Marks at (round-marks (s .settings .t))) ∙ kind-length coded Marks ∙ length-marks (s .settings .n) (s .settings .t) (s .settings .k) in
+      let two : L .length ≡ 2 = ap (λ (x : Layout). x .length) (kind-is 3 Marks at (round-marks (s .settings .t))) ∙ kind-length-is coded Marks ∙ row-marks (s .settings .n) (s .settings .t) (s .settings .k) in
       filled L _ (slots L (λ _. bytes (marksMessage (s .settings .n) m)) (s .settings .n)) l (sent-marks L (s .settings .n) m o two l)
-      (one-bytes L (marksMessage (s .settings .n) m) (s .settings .n) (record { size = marks-length (s .settings .n) m ∙ sym two; bytes = marks-bytes (s .settings .n) m few }))
+      (one-bytes L (marksMessage (s .settings .n) m) (s .settings .n) (record { size = length-marks (s .settings .n) m ∙ sym two; bytes = bytes-marks (s .settings .n) m few }))
 
   matrix : (n : ℕ) (m : List ℕ) → IsBytes (length o) (toAll (outboxLayout s) n (rowsOf (s .settings .n) m) o)
-  matrix n m = to-all-bytes (outboxLayout s) n (rowsOf (s .settings .n) m) o (rows-bytes (s .settings .n) m few) outbox
+  matrix n m = to-all-bytes (outboxLayout s) n (rowsOf (s .settings .n) m) o (bytes-rows (s .settings .n) m few) outbox
 
   king : (p : ℕ) (m : List ℕ) → IsBytes (length o) (sentByKing (outboxLayout s) (s .own) p (s .settings .n) m o)
   king p m =
@@ -170,7 +170,7 @@ module _ (s : State) (b i o : List ℕ) (r : Ready s (length b) (length i) (leng
       (λ (y : inCore core (s .own) ≡ true).
       filled L _ (slots L (λ j. bytes (p j)) (s .settings .n)) l
       (forwarded-member (s .settings .n) (s .settings .t) (s .settings .k) (s .own) b coded (r .valid .number) (r .block-length) core o y l)
-      (slots-bytes L (λ j. bytes (p j)) (s .settings .n) (λ j. sized-bytes L (p j) (piece-length (s .settings .k) (s .settings .t) b j ∙ sym (forward-length coded))) (λ j. piece-bytes (s .settings .k) (s .settings .t) b j)))
+      (slots-bytes L (λ j. bytes (p j)) (s .settings .n) (λ j. sized-bytes L (p j) (length-piece (s .settings .k) (s .settings .t) b j ∙ sym (kind-forward coded))) (λ j. bytes-piece (s .settings .k) (s .settings .t) b j)))
       (λ (y : inCore core (s .own) ≡ false). silent _ (forwarded-other (s .settings .n) (s .settings .t) (s .settings .k) (s .own) core b o y))
       (either (inCore core (s .own)))
 
@@ -187,7 +187,7 @@ module _ (s : State) (b i o : List ℕ) (r : Ready s (length b) (length i) (leng
       (λ (z : length (chosenPiece (s .settings .n) (s .settings .t) core i layout) ≡ 0). inl (ap length q ∙ z))
       (λ (z : length (chosenPiece (s .settings .n) (s .settings .t) core i layout) ≡ 0 → ⊥).
       inr (subst (IsBytes (s .settings .k)) (sym q)
-      (record { size = chosen-length (s .settings .n) (s .settings .t) core i layout z ∙ e; bytes = chosen-each (s .settings .n) (s .settings .t) core i layout Byte (lit< tt) inbox })))
+      (record { size = length-chosen (s .settings .n) (s .settings .t) core i layout z ∙ e; bytes = chosen-each (s .settings .n) (s .settings .t) core i layout Byte (lit< tt) inbox })))
       (same-or-not (length (chosenPiece (s .settings .n) (s .settings .t) core i layout)) 0))
       (either (inCore core (s .own)))
 
@@ -202,21 +202,21 @@ module _ (s : State) (b i o : List ℕ) (r : Ready s (length b) (length i) (leng
       (λ (h : IsBytes (s .settings .k) m).
       filled L _ (slots L (λ _. bytes m) (s .settings .n)) l
       (shared-sends (s .settings .n) (s .settings .t) (s .settings .k) (s .own) b coded (r .valid .number) (r .block-length) core i (inboxLayout s) o l m refl (h .size))
-      (one-bytes L m (s .settings .n) (record { size = h .size ∙ sym (rebuild-length coded); bytes = h .bytes })))
-      (piece core (inboxLayout s) (ap (λ (c : ℕ). messageLength (s .settings .n) (s .settings .t) (s .settings .k) c) e ∙ row (3 * s .settings .t + 7) Forward (round-forward (s .settings .t)) ∙ length-forward (s .settings .n) (s .settings .t) (s .settings .k)))
+      (one-bytes L m (s .settings .n) (record { size = h .size ∙ sym (kind-rebuild coded); bytes = h .bytes })))
+      (piece core (inboxLayout s) (ap (λ (c : ℕ). messageLength (s .settings .n) (s .settings .t) (s .settings .k) c) e ∙ row (3 * s .settings .t + 7) Forward (round-forward (s .settings .t)) ∙ row-forward (s .settings .n) (s .settings .t) (s .settings .k)))
 
   finish : s .next ≡ 3 * s .settings .t + 9 → (core : ℕ) → IsBytes (length b) (finished (s .settings .n) (s .settings .t) (s .settings .k) core i b .block)
   finish at core =
       let long : length i ≡ s .settings .n * width (layoutWith (s .settings .k)) =
       r .inbox-length
       ∙ ap (inboxLength (s .settings .n) (s .settings .t) (s .settings .k)) (omega arith)
-      ∙ inbox-of (s .settings .n) (s .settings .t) (s .settings .k) (3 * s .settings .t + 8) (length-pos coded (3 * s .settings .t + 8) (omega arith) (omega arith))
-      ∙ ap (λ (x : ℕ). s .settings .n * width (layoutWith x)) (row (3 * s .settings .t + 8) Rebuild (round-rebuild (s .settings .t)) ∙ length-rebuild (s .settings .n) (s .settings .t) (s .settings .k)) in
+      ∙ inbox-is (s .settings .n) (s .settings .t) (s .settings .k) (3 * s .settings .t + 8) (length-pos coded (3 * s .settings .t + 8) (omega arith) (omega arith))
+      ∙ ap (λ (x : ℕ). s .settings .n * width (layoutWith x)) (row (3 * s .settings .t + 8) Rebuild (round-rebuild (s .settings .t)) ∙ row-rebuild (s .settings .n) (s .settings .t) (s .settings .k)) in
       ⊎-elim
       (λ (z : restricted core (s .settings .n) ≡ 0).
       subst (λ (x : Finished). IsBytes (length b) (x .block)) (sym (finished-none (s .settings .n) (s .settings .t) (s .settings .k) core i b z)) (zeros-bytes (length b)))
       (λ (z : restricted core (s .settings .n) ≡ 0 → ⊥).
-      let e = valid-decode (s .settings .n) (s .settings .t) (s .settings .k) i b coded long (r .block-length) in
+      let e = 0-decode (s .settings .n) (s .settings .t) (s .settings .k) i b coded long (r .block-length) in
       ⊎-elim
       (λ (d : (B : List ℕ) × Decodes (s .settings .n) (s .settings .t) (s .settings .k) i B).
       subst (λ (x : Finished). IsBytes (length b) (x .block)) (sym (finished-agreed (s .settings .n) (s .settings .t) (s .settings .k) core i b z e (d .0) (d .1)))
@@ -240,7 +240,7 @@ module _ (s : State) (b i o : List ℕ) (r : Ready s (length b) (length i) (leng
   by-kind Tally at =
       let z = zerosOf i (inboxLayout s) (s .settings .n) (s .settings .t) in
       let a = onesOf i (inboxLayout s) (s .settings .n) (s .settings .t) in
-      subst Left (sym (of-tally s b i o)) (same, to-all-bytes (outboxLayout s) (s .settings .n) (seenMessage (s .settings .n) z a) o (seen-bytes (s .settings .n) z a few) outbox)
+      subst Left (sym (of-tally s b i o)) (same, to-all-bytes (outboxLayout s) (s .settings .n) (seenMessage (s .settings .n) z a) o (bytes-seen (s .settings .n) z a few) outbox)
   by-kind Hold at = subst Left (sym (of-hold s b i o)) (same, king (writePhase s) _)
   by-kind Settle at = subst Left (sym (of-settle s b i o)) (same, matrix _ _)
   by-kind Core at = subst Left (sym (of-core s b i o)) (same, forward at _)
@@ -252,13 +252,13 @@ module _ (s : State) (b i o : List ℕ) (r : Ready s (length b) (length i) (leng
   call-bytes = by-kind (callKind (s .settings .t) (s .next)) (call-fact (s .settings .t) (s .next))
 
 -- ---- steps
-pub step-bytes : (s : State) (b i o : List ℕ) → Bytes b → Bytes i → Bytes o
+pub bytes-step : (s : State) (b i o : List ℕ) → Bytes b → Bytes i → Bytes o
     → IsBytes (length b) (stepOf s b i o .block) × IsBytes (length o) (stepOf s b i o .outbox)
-step-bytes s b i o hb hi ho =
+bytes-step s b i o hb hi ho =
     let Left : After → Type 0 = λ a. IsBytes (length b) (a .block) × IsBytes (length o) (a .outbox) in
     ⊎-elim
     (λ (z : stepRefusal s (length b) (length i) (length o) ≡ 0).
-    subst Left (sym (performed s b i o z)) (call-bytes s b i o (ready-of s (length b) (length i) (length o) z) hb hi ho))
+    subst Left (sym (step-carried s b i o z)) (call-bytes s b i o (step-0 s (length b) (length i) (length o) z) hb hi ho))
     (λ (z : stepRefusal s (length b) (length i) (length o) ≡ 0 → ⊥).
-    subst Left (sym (refused s b i o z)) (record { size = refl; bytes = hb }, record { size = refl; bytes = ho }))
+    subst Left (sym (step-refused s b i o z)) (record { size = refl; bytes = hb }, record { size = refl; bytes = ho }))
     (same-or-not (stepRefusal s (length b) (length i) (length o)) 0)

@@ -6,7 +6,7 @@ use native.Mathlib.Omega.{arith}
 use Rattle.lists.proofs.Sums.{count-not, count-member}
 use Rattle.protocol.specs.declared.State.{State}
 use Rattle.agreement.specs.Agreement.{Correct, outcomeOf, blockOf}
-use Rattle.agreement.proofs.Agreement.{agreement}
+use Rattle.agreement.proofs.Laws.{agreement}
 use Rattle.simulation.specs.Run.{Scenario, Proper, ended}
 use Rattle.simulation_agreement.specs.Simulation.{Tolerated, SimulationAgrees}
 use Rattle.simulation_agreement.proofs.Run.{systemOf, number-of, not-faulty, run-supposed, run-ends}

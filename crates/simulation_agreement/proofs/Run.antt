@@ -14,27 +14,27 @@ use Rattle.lists.proofs.Sums.{count-ext}
 use Rattle.lists.proofs.Fills.{length-tabulate, getD-tabulate}
 use Rattle.settings.specs.declared.Settings.{Settings}
 use Rattle.settings.specs.Valid.{Numbered, Valid}
-use Rattle.settings.proofs.Laws.{0-start}
+use Rattle.settings.proofs.Laws.{0-starting}
 use Rattle.wire.specs.Length.{blockLength, blockSize, messageLength, inboxLength, outboxLength}
 use Rattle.wire.specs.Slot.{slotOf}
-use Rattle.wire.proofs.Laws.{block-size}
+use Rattle.wire.proofs.Laws.{block-size-is}
 use Rattle.protocol.specs.declared.State.{State}
 use Rattle.protocol.specs.Step.{startOf}
-use Rattle.protocol.proofs.Laws.{start-number, start-state, start-length, step-number, of-ready}
-use Rattle.agreement.specs.Run.{Lent, Held, Made, stepped, left, ends, made, calls}
+use Rattle.protocol.proofs.Laws.{start-number, start-state, start-by-size, step-number, 0-step}
+use Rattle.agreement.specs.Run.{Lent, Local, Made, stepped, left, leftAfter, made, calls}
 use Rattle.agreement.specs.Agreement.{System, Correct, Supposed, atStart, callsOf, atEnd, noCall, call, Arrives}
-use Rattle.agreement.proofs.Run.{numberOf, At, step-at, valid-at}
+use Rattle.agreement.proofs.Laws.{stepNumber, At, step-at, valid-at}
 use Rattle.simulation.specs.Run.{layoutAt, Scenario, Proper, Playing, inboxOf, outboxOf, played, last, ended}
 use Rattle.simulation.proofs.Laws.{began-is, called-is, slot-correct, played-start, played-correct}
 use Rattle.simulation_agreement.specs.Simulation.{Tolerated}
-use Rattle.simulation_agreement.proofs.Boxes.{kept, inbox-bytes, lent-bytes, inbox-size, in-slot}
+use Rattle.simulation_agreement.proofs.Boxes.{holds-bytes, inbox-bytes, lent-bytes, inbox-size, in-slot}
 use Rattle.simulation_agreement.proofs.Steps.{Goes, calls-made, ends-with}
 
-abbrev holding : Playing → Held
+abbrev holding : Playing → Local
 holding x = record { state = x .state; block = x .block }
 
 -- what controller i holds after c calls, and what is lent to its next one
-abbrev pub heldBy : Scenario → (i c : ℕ) → Held
+abbrev pub heldBy : Scenario → (i c : ℕ) → Local
 heldBy F i c = holding (played F c i)
 
 abbrev pub lentTo : (F : Scenario) → Proper F → (i c : ℕ) → Lent
@@ -57,9 +57,9 @@ module _ (F : Scenario) (p : Proper F) (i : ℕ) (v : Numbered (F .settings .n) 
   pub start-carried : startOf (F .settings) i (length (F .block)) .number ≡ 0
   start-carried =
       start-number (F .settings) i (length (F .block))
-      ∙ sym (start-length (F .settings) i (length (F .block)))
-      ∙ 0-start (F .settings) i (eqb (length (F .block)) (blockSize (F .settings .n) (F .settings .t) (F .settings .k))) valid
-      (eq-eqb (length (F .block)) (blockSize (F .settings .n) (F .settings .t) (F .settings .k)) (p .block-length ∙ sym (block-size (p .coded))))
+      ∙ sym (start-by-size (F .settings) i (length (F .block)))
+      ∙ 0-starting (F .settings) i (eqb (length (F .block)) (blockSize (F .settings .n) (F .settings .t) (F .settings .k))) valid
+      (eq-eqb (length (F .block)) (blockSize (F .settings .n) (F .settings .t) (F .settings .k)) (p .block-length ∙ sym (block-size-is (p .coded))))
 
   -- the run's call is a step on what is held, with what is lent
   goes-on : (c : ℕ) → left (heldBy F i c) (lentTo F p i c) ≡ heldBy F i (suc c)
@@ -72,14 +72,14 @@ module _ (F : Scenario) (p : Proper F) (i : ℕ) (v : Numbered (F .settings .n) 
   begins = sym (ap holding (played-start F i ∙ began-is F i))
 
   -- each call is carried out
-  carried : (c : ℕ) → c < last F → At (F .settings) i (c + 1) (heldBy F i c) → numberOf (heldBy F i c) (lentTo F p i c) ≡ 0
+  carried : (c : ℕ) → c < last F → At (F .settings) i (c + 1) (heldBy F i c) → stepNumber (heldBy F i c) (lentTo F p i c) ≡ 0
   carried c l a =
-      of-ready (played F c i .state) (length (played F c i .block)) (length (inboxOf F c (played F c) i)) (length (outboxOf F (c + 1)))
+      0-step (played F c i .state) (length (played F c i .block)) (length (inboxOf F c (played F c) i)) (length (outboxOf F (c + 1)))
       (record {
         valid = valid-at (heldBy F i c) a valid;
         next-least = omega arith;
         next-most = omega (arith, ap (λ (x : Settings). x .t) (a .settings-is));
-        block-length = kept F p c i .block-is .size ∙ sym (λ x. blockLength (a .settings-is x .k) (a .settings-is x .t));
+        block-length = holds-bytes F p c i .block-is .size ∙ sym (λ x. blockLength (a .settings-is x .k) (a .settings-is x .t));
         inbox-length = inbox-size F p c i (omega arith) v ∙ sym (λ x. inboxLength (a .settings-is x .n) (a .settings-is x .t) (a .settings-is x .k) (a .next-is x));
         outbox-length = lent-bytes F p (c + 1) .size ∙ sym (λ x. outboxLength (a .settings-is x .n) (a .settings-is x .t) (a .settings-is x .k) (a .next-is x));
       })
@@ -87,7 +87,7 @@ module _ (F : Scenario) (p : Proper F) (i : ℕ) (v : Numbered (F .settings .n) 
   -- after c calls the next one is c + 1
   at : (c : ℕ) → c ≤ last F → At (F .settings) i (c + 1) (heldBy F i c)
   at zero l =
-      let e = sym (ap (λ (h : Held). h .state) begins) ∙ start-state (F .settings) i (length (F .block)) start-carried in
+      let e = sym (ap (λ (h : Local). h .state) begins) ∙ start-state (F .settings) i (length (F .block)) start-carried in
       record {
         settings-is = ap (λ (s : State). s .settings) e;
         own-is = ap (λ (s : State). s .own) e;
@@ -110,7 +110,7 @@ module _ (F : Scenario) (p : Proper F) (i : ℕ) (v : Numbered (F .settings .n) 
 
   calls-are : callsOf (systemOf F p) i ≡ tabulate (λ c. made (heldBy F i c) (lentTo F p i c)) (last F)
   calls-are =
-      ap (λ (h : Held). calls h (tabulate (lentTo F p i) (last F))) begins
+      ap (λ (h : Local). calls h (tabulate (lentTo F p i) (last F))) begins
       ∙ calls-made (last F) (heldBy F i) (lentTo F p i) goes
 
   -- all calls are made
@@ -126,9 +126,9 @@ module _ (F : Scenario) (p : Proper F) (i : ℕ) (v : Numbered (F .settings .n) 
   pub run-ends : (atEnd (systemOf F p) i .state ≡ ended F i .state) × (atEnd (systemOf F p) i .block ≡ ended F i .block)
   run-ends =
       let e : atEnd (systemOf F p) i ≡ heldBy F i (last F) =
-      ap (λ (h : Held). ends h (tabulate (lentTo F p i) (last F))) begins
+      ap (λ (h : Local). leftAfter h (tabulate (lentTo F p i) (last F))) begins
       ∙ ends-with (last F) (heldBy F i) (lentTo F p i) goes in
-      (ap (λ (h : Held). h .state) e, ap (λ (h : Held). h .block) e)
+      (ap (λ (h : Local). h .state) e, ap (λ (h : Local). h .block) e)
 
 -- ---- all of them
 module _ (F : Scenario) (p : Proper F) where

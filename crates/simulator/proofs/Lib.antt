@@ -5,3 +5,4 @@ pub mod Turns
 pub mod Plays
 pub mod Laws
 pub mod Whole
+mod Outputs

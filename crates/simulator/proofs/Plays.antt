@@ -18,18 +18,18 @@ use Rattle.bitset.specs.Set.{member}
 use Rattle.settings.specs.declared.Settings.{Settings}
 use Rattle.wire.specs.Length.{blockLength, messageLength, inboxLength, outboxLength}
 use Rattle.wire.specs.Slot.{copied}
-use Rattle.wire.proofs.Laws.{length-pos, inbox-of, outbox-of, copied-all}
+use Rattle.wire.proofs.Laws.{length-pos, inbox-is, outbox-is, copied-all}
 use Rattle.protocol.specs.declared.State.{State}
 use Rattle.protocol.specs.State.{zeroState}
 use Rattle.protocol.specs.Step.{startOf}
 use Rattle.system_file.specs.Table.{textOf, placeIn}
 use Rattle.simulation.specs.Run.{Scenario, Playing, played}
 use Rattle.simulation.proofs.Laws.{called-ext, called-other, played-correct, played-faulty}
-use Rattle.simulator.specs.Steps.{Small, Rooms, Calling, Called, Held, tableScenario, nowOf}
-use Rattle.simulator.proofs.Running.{lent-length, inbox-most, outbox-most}
+use Rattle.simulator.specs.Steps.{FileSettings, Rooms, Calling, Called, AfterCalls, tableScenario, nowOf}
+use Rattle.simulator.proofs.Running.{lent-length, inbox-le, outbox-le}
 
 -- a run finds what each call finds
-pub playable-calling : (input places : List ℕ) (S : Settings) (c : ℕ) (blocks₀ blocks sent sending : List ℕ) → Small S → Rooms input places S
+pub playable-calling : (input places : List ℕ) (S : Settings) (c : ℕ) (blocks₀ blocks sent sending : List ℕ) → FileSettings S → Rooms input places S
     → S .n * blockLength (S .k) (S .t) ≤ length blocks₀ → length blocks ≡ length blocks₀ → length sent ≡ 49408 → length sending ≡ 49408 → c ≤ 3 * S .t + 8
     → Calling input places S c blocks sent sending
 playable-calling input places S c blocks₀ blocks sent sending v rooms room same is-sent is-sending most =
@@ -39,17 +39,17 @@ playable-calling input places S c blocks₀ blocks sent sending v rooms room sam
       rooms = rooms;
       calls-most = most;
       blocks-room = omega (arith, room, same);
-      sent-room = omega (arith, is-sent, mul-le-mul {n₁ = S .n} {m₁ = inboxLength (S .n) (S .t) (S .k) (c + 1)} {n₂ = 16} {m₂ = 3088} few (inbox-most v c most));
+      sent-room = omega (arith, is-sent, mul-le-mul {n₁ = S .n} {m₁ = inboxLength (S .n) (S .t) (S .k) (c + 1)} {n₂ = 16} {m₂ = 3088} few (inbox-le v c most));
       sent-most = omega (arith, is-sent);
-      sending-room = omega (arith, is-sending, mul-le-mul {n₁ = S .n} {m₁ = outboxLength (S .n) (S .t) (S .k) (c + 1)} {n₂ = 16} {m₂ = 3088} few (outbox-most v (c + 1) (omega arith) (omega arith)));
+      sending-room = omega (arith, is-sending, mul-le-mul {n₁ = S .n} {m₁ = outboxLength (S .n) (S .t) (S .k) (c + 1)} {n₂ = 16} {m₂ = 3088} few (outbox-le v (c + 1) (omega arith) (omega arith)));
     }
 
-module _ (S : Settings) (block : List ℕ) (faulty : ℕ) (places input : List ℕ) (v : Small S) where
+module _ (S : Settings) (block : List ℕ) (faulty : ℕ) (places input : List ℕ) (v : FileSettings S) where
   F : Scenario
   F = tableScenario S block faulty places input
 
   module _ (c : ℕ) (states next : List State) (blocks blocks′ sent sending : List ℕ) (most : c ≤ 3 * S .t + 8)
-      (H : Held (tableScenario S block faulty places input) c states blocks (blockLength (S .k) (S .t)) sent (inboxLength (S .n) (S .t) (S .k) (c + 1)))
+      (H : AfterCalls (tableScenario S block faulty places input) c states blocks (blockLength (S .k) (S .t)) sent (inboxLength (S .n) (S .t) (S .k) (c + 1)))
       (C : Called (tableScenario S [] faulty places input) c (nowOf states blocks (blockLength (S .k) (S .t)) sent (inboxLength (S .n) (S .t) (S .k) (c + 1)))
       (nowOf next blocks′ (blockLength (S .k) (S .t)) sending (outboxLength (S .n) (S .t) (S .k) (c + 1)))) where
     now : ℕ → Playing
@@ -68,9 +68,9 @@ module _ (S : Settings) (block : List ℕ) (faulty : ℕ) (places input : List �
 
     -- one call more
     pub held-next : (sent′ : List ℕ) → sent′ ≡ sending
-        → Held (tableScenario S block faulty places input) (c + 1) next blocks′ (blockLength (S .k) (S .t)) sent′ (inboxLength (S .n) (S .t) (S .k) (c + 1 + 1))
+        → AfterCalls (tableScenario S block faulty places input) (c + 1) next blocks′ (blockLength (S .k) (S .t)) sent′ (inboxLength (S .n) (S .t) (S .k) (c + 1 + 1))
     unfolding F now after
-    held-next sent′ is-sent = subst (λ (d : ℕ). Held F d next blocks′ (blockLength (S .k) (S .t)) sent′ (inboxLength (S .n) (S .t) (S .k) (c + 1 + 1))) (sym (add-one c)) (record {
+    held-next sent′ is-sent = subst (λ (d : ℕ). AfterCalls F d next blocks′ (blockLength (S .k) (S .t)) sent′ (inboxLength (S .n) (S .t) (S .k) (c + 1 + 1))) (sym (add-one c)) (record {
       state = λ i a b. ⊎-elim
           (λ (f : member faulty (i - 1) ≡ true).
           C .state i a b f ∙ H .state i a b ∙ ap (λ (p : Playing). p .state) (sym (played-faulty F c i f)))
@@ -84,7 +84,7 @@ module _ (S : Settings) (block : List ℕ) (faulty : ℕ) (places input : List �
       outbox = λ i a b l f.
           let pos = length-pos (v .coded) (c + 1) (omega arith) (omega arith) in
           ap (λ (x : List ℕ). part (inboxLength (S .n) (S .t) (S .k) (c + 1 + 1)) x (i - 1)) is-sent
-          ∙ ap (λ (w : ℕ). part w sending (i - 1)) (inbox-of (S .n) (S .t) (S .k) (c + 1) pos ∙ sym (outbox-of (S .n) (S .t) (S .k) (c + 1) pos))
+          ∙ ap (λ (w : ℕ). part w sending (i - 1)) (inbox-is (S .n) (S .t) (S .k) (c + 1) pos ∙ sym (outbox-is (S .n) (S .t) (S .k) (c + 1) pos))
           ∙ ap (λ (p : Playing). p .outbox) (correct-is i a b f);
     })
 

@@ -25,13 +25,13 @@ use Rattle.wire.specs.declared.Round.the-variants.{Block, Pieces, Marks, Matrix
 use Rattle.wire.specs.Round.{roundKind}
 use Rattle.wire.specs.Length.{blockLength, rowLength, messageLength, inboxLength, outboxLength}
 use Rattle.wire.specs.Slot.{width, slotOf, bytes, written, putSlot, relayed}
-use Rattle.wire.proofs.Laws.{width-most, length-of, block-length, length-block, length-pieces, length-marks, length-matrix, length-seen, length-king, length-forward, length-rebuild, length-outside, length-pos, outbox-of, inbox-of, first-inbox, last-outbox, sized-bytes, slot-length, silent-slot, put-into, relay-into}
+use Rattle.wire.proofs.Laws.{width-le, message-length-is, block-length-is, row-block, row-pieces, row-marks, row-matrix, row-seen, row-king, row-forward, row-rebuild, row-outside, length-pos, outbox-is, inbox-is, first-inbox, last-outbox, sized-bytes, length-slot, silent-slot, put-into, relay-into}
 use Rattle.protocol.specs.declared.State.{State}
 use Rattle.system_file.specs.Table.{textOf, placeIn}
 use Rattle.system_file.proofs.Laws.{text-none, text-some}
 use Rattle.simulation.specs.Run.{Scenario, Playing, sentAs, slotTo, inboxOf}
 use Rattle.simulation.proofs.Laws.{slot-faulty, slot-correct, inbox-first, inbox-later}
-use Rattle.simulator.specs.Steps.{layoutIn, Small, Filling, Making, Parted, tableScenario, sentBy}
+use Rattle.simulator.specs.Steps.{layoutIn, FileSettings, Filling, Making, Parted, tableScenario, sentBy}
 
 -- the digits of a message that stands in the file, read into m
 pub read-text : (input m : List ℕ) (len place : ℕ) → (place ≡ 0 → ⊥) → length m ≡ len → place + 2 * len ≤ length input
@@ -132,7 +132,7 @@ module _ (input places : List ℕ) (faulty : ℕ) (S : Settings) (c i o : ℕ) (
       (λ (z : placeIn places c (x + 1) i ≡ 0). ap length (at-silent x f z) ∙ length-zeros (width (layoutIn S c)))
       (λ (z : placeIn places c (x + 1) i ≡ 0 → ⊥). ap length (at-said x f z) ∙ sized-bytes (layoutIn S c) (said x) (said-length x z))
       (same-or-not (placeIn places c (x + 1) i) 0))
-      (λ (f : member faulty x ≡ false). ap length (at-correct x f) ∙ slot-length (part o sent x) (layoutIn S c) i (h .number-least) (room-of x l))
+      (λ (f : member faulty x ≡ false). ap length (at-correct x f) ∙ length-slot (part o sent x) (layoutIn S c) i (h .number-least) (room-of x l))
       (either (member faulty x))
 
   module _ (j : ℕ) (l : j < S .n) where
@@ -217,39 +217,39 @@ module _ (input places : List ℕ) (faulty : ℕ) (S : Settings) (c i o : ℕ) (
 
 -- ---- sizes
 small-row : (r : Round) (n t k : ℕ) → n ≤ 16 → t ≤ 5 → k ≤ 32 → rowLength r n t k ≤ 192
-small-row Block n t k a b c = omega (arith, length-block n t k, block-length k t, mul-le-mul {n₁ = k} {m₁ = t + 1} {n₂ = 32} {m₂ = 6} c (omega arith))
-small-row Pieces n t k a b c = omega (arith, length-pieces n t k)
-small-row Marks n t k a b c = omega (arith, length-marks n t k)
-small-row Matrix n t k a b c = omega (arith, length-matrix n t k)
-small-row Seen n t k a b c = omega (arith, length-seen n t k)
-small-row King n t k a b c = omega (arith, length-king n t k)
-small-row Forward n t k a b c = omega (arith, length-forward n t k)
-small-row Rebuild n t k a b c = omega (arith, length-rebuild n t k)
-small-row Outside n t k a b c = omega (arith, length-outside n t k)
+small-row Block n t k a b c = omega (arith, row-block n t k, block-length-is k t, mul-le-mul {n₁ = k} {m₁ = t + 1} {n₂ = 32} {m₂ = 6} c (omega arith))
+small-row Pieces n t k a b c = omega (arith, row-pieces n t k)
+small-row Marks n t k a b c = omega (arith, row-marks n t k)
+small-row Matrix n t k a b c = omega (arith, row-matrix n t k)
+small-row Seen n t k a b c = omega (arith, row-seen n t k)
+small-row King n t k a b c = omega (arith, row-king n t k)
+small-row Forward n t k a b c = omega (arith, row-forward n t k)
+small-row Rebuild n t k a b c = omega (arith, row-rebuild n t k)
+small-row Outside n t k a b c = omega (arith, row-outside n t k)
 
-module _ {S : Settings} (v : Small S) where
-  pub message-most : (c : ℕ) → messageLength (S .n) (S .t) (S .k) c ≤ 192
-  message-most c =
-      omega (arith, length-of (v .coded) c, small-row (roundKind (S .t) c) (S .n) (S .t) (S .k) (v .coded .quorum .n-most) (omega (arith, v .coded .quorum .t-most, v .coded .quorum .n-most)) (v .few-stripes))
+module _ {S : Settings} (v : FileSettings S) where
+  pub message-le : (c : ℕ) → messageLength (S .n) (S .t) (S .k) c ≤ 192
+  message-le c =
+      omega (arith, message-length-is (v .coded) c, small-row (roundKind (S .t) c) (S .n) (S .t) (S .k) (v .coded .quorum .n-most) (omega (arith, v .coded .quorum .t-most, v .coded .quorum .n-most)) (v .few-stripes))
 
-  pub block-most : blockLength (S .k) (S .t) ≤ 192
-  block-most = omega (arith, length-block (S .n) (S .t) (S .k), small-row Block (S .n) (S .t) (S .k) (v .coded .quorum .n-most) (omega (arith, v .coded .quorum .t-most, v .coded .quorum .n-most)) (v .few-stripes))
+  pub block-le : blockLength (S .k) (S .t) ≤ 192
+  block-le = omega (arith, row-block (S .n) (S .t) (S .k), small-row Block (S .n) (S .t) (S .k) (v .coded .quorum .n-most) (omega (arith, v .coded .quorum .t-most, v .coded .quorum .n-most)) (v .few-stripes))
 
   box-most : (layout : Layout) → layout .length ≤ 192 → S .n * width layout ≤ 3088
   box-most layout l =
-      omega (arith, mul-le-mul {n₁ = S .n} {m₁ = width layout} {n₂ = 16} {m₂ = 193} (v .coded .quorum .n-most) (omega (arith, width-most layout)))
+      omega (arith, mul-le-mul {n₁ = S .n} {m₁ = width layout} {n₂ = 16} {m₂ = 193} (v .coded .quorum .n-most) (omega (arith, width-le layout)))
 
-  pub inbox-most : (c : ℕ) → c ≤ 3 * S .t + 8 → inboxLength (S .n) (S .t) (S .k) (c + 1) ≤ 3088
-  inbox-most zero l = omega (arith, first-inbox (S .n) (S .t) (S .k))
-  inbox-most (suc c) l =
-      omega (arith, inbox-of (S .n) (S .t) (S .k) (suc c) (length-pos (v .coded) (suc c) (omega arith) l), box-most (layoutIn S (suc c)) (message-most (suc c)))
+  pub inbox-le : (c : ℕ) → c ≤ 3 * S .t + 8 → inboxLength (S .n) (S .t) (S .k) (c + 1) ≤ 3088
+  inbox-le zero l = omega (arith, first-inbox (S .n) (S .t) (S .k))
+  inbox-le (suc c) l =
+      omega (arith, inbox-is (S .n) (S .t) (S .k) (suc c) (length-pos (v .coded) (suc c) (omega arith) l), box-most (layoutIn S (suc c)) (message-le (suc c)))
 
-  pub outbox-most : (c : ℕ) → 1 ≤ c → c ≤ 3 * S .t + 9 → outboxLength (S .n) (S .t) (S .k) c ≤ 3088
-  outbox-most c least most =
+  pub outbox-le : (c : ℕ) → 1 ≤ c → c ≤ 3 * S .t + 9 → outboxLength (S .n) (S .t) (S .k) c ≤ 3088
+  outbox-le c least most =
       ⊎-elim
       (λ (e : c ≡ 3 * S .t + 9). omega (arith, ap (outboxLength (S .n) (S .t) (S .k)) e, last-outbox (S .n) (S .t) (S .k)))
       (λ (d : c ≡ 3 * S .t + 9 → ⊥).
-      omega (arith, outbox-of (S .n) (S .t) (S .k) c (length-pos (v .coded) c least (omega arith)), box-most (layoutIn S c) (message-most c)))
+      omega (arith, outbox-is (S .n) (S .t) (S .k) c (length-pos (v .coded) c least (omega arith)), box-most (layoutIn S c) (message-le c)))
       (same-or-not c (3 * S .t + 9))
 
 -- ---- the inbox of a call
@@ -279,7 +279,7 @@ making-filling input places S c i sent m inbox h some =
       number-least = h .number-least;
       number-most = h .number-most;
       some = omega (arith, pos);
-      outbox-is = size ∙ inbox-of (S .n) (S .t) (S .k) c pos;
+      outbox-is = size ∙ inbox-is (S .n) (S .t) (S .k) c pos;
       sent-room = subst (λ (x : ℕ). S .n * x ≤ length sent) (sym size) (h .sent-room);
       sent-most = h .sent-most;
       message-is = h .message-is;

@@ -13,7 +13,7 @@ use Rattle.text.specs.Write.{padded}
 use Rattle.text.proofs.Laws.{length-padded}
 use Rattle.settings.specs.declared.Settings.{Settings}
 use Rattle.wire.specs.Length.{blockLength, blockSize, inboxLength}
-use Rattle.wire.proofs.Laws.{first-inbox, block-size}
+use Rattle.wire.proofs.Laws.{first-inbox, block-size-is}
 use Rattle.protocol.specs.declared.State.{State}
 use Rattle.protocol.specs.State.{zeroState}
 use Rattle.protocol.specs.Step.{startOf}
@@ -25,13 +25,13 @@ use Rattle.system_file.proofs.Laws.{read-right, table-room, file-right}
 use Rattle.simulation.specs.Run.{Playing, ended, played}
 use Rattle.simulation.proofs.Laws.{began-is, played-start}
 use Rattle.simulator.specs.Output.{namesLine, results, outputOf, simulated}
-use Rattle.simulator.specs.Steps.{Small, Held, Playable, Runnable, Wrote, tableScenario}
-use Rattle.simulator.proofs.Running.{block-most}
+use Rattle.simulator.specs.Steps.{FileSettings, AfterCalls, Playable, Runnable, Wrote, tableScenario}
+use Rattle.simulator.proofs.Running.{block-le}
 use Rattle.simulator.proofs.Writing.{take-padded, zeros-wrote}
-use Rattle.simulator.proofs.Laws.{results-alike, output-is, simulated-right, table-output}
+use Rattle.simulator.proofs.Outputs.{results-alike, output-is, simulated-right, table-output}
 
-blocks-fit : {S : Settings} → Small S → S .n * blockLength (S .k) (S .t) ≤ 3072
-blocks-fit {S} v = omega (arith, mul-le-mul {n₁ = S .n} {m₁ = blockLength (S .k) (S .t)} {n₂ = 16} {m₂ = 192} (v .coded .quorum .n-most) (block-most v))
+blocks-fit : {S : Settings} → FileSettings S → S .n * blockLength (S .k) (S .t) ≤ 3072
+blocks-fit {S} v = omega (arith, mul-le-mul {n₁ = S .n} {m₁ = blockLength (S .k) (S .t)} {n₂ = 16} {m₂ = 192} (v .coded .quorum .n-most) (block-le v))
 
 module _ {input places : List ℕ} {S : Settings} {block blocks sent sending out : List ℕ} (h : Runnable input places S block blocks sent sending out) where
   pub fill-room : S .n * length block ≤ length blocks
@@ -50,7 +50,7 @@ module _ {input places : List ℕ} {S : Settings} {block blocks sent sending out
 pub held-start : (S : Settings) (block : List ℕ) (faulty : ℕ) (places input : List ℕ) (states : List State) (blocks sent : List ℕ) → length block ≡ blockLength (S .k) (S .t)
     → ((x : ℕ) → x < S .n → getD states x zeroState ≡ startOf S (x + 1) (length block) .state)
     → ((x : ℕ) → x < S .n → part (length block) blocks x ≡ block)
-    → Held (tableScenario S block faulty places input) 0 states blocks (blockLength (S .k) (S .t)) sent (inboxLength (S .n) (S .t) (S .k) 1)
+    → AfterCalls (tableScenario S block faulty places input) 0 states blocks (blockLength (S .k) (S .t)) sent (inboxLength (S .n) (S .t) (S .k) 1)
 held-start S block faulty places input states blocks sent size s b =
     let F = tableScenario S block faulty places input in
     let is : (i : ℕ) → played F 0 i ≡ record { state = startOf S i (length block) .state; block = block; outbox = [] } = λ i. played-start F i ∙ began-is F i in
@@ -65,7 +65,7 @@ held-start S block faulty places input states blocks sent size s b =
 
 -- what it ends with
 pub held-output : (S : Settings) (block : List ℕ) (faulty : ℕ) (places input : List ℕ) (states : List State) (blocks : List ℕ) (b : ℕ) (sent : List ℕ) (o : ℕ) → b ≡ blockLength (S .k) (S .t)
-    → Held (tableScenario S block faulty places input) (3 * S .t + 9) states blocks (blockLength (S .k) (S .t)) sent o
+    → AfterCalls (tableScenario S block faulty places input) (3 * S .t + 9) states blocks (blockLength (S .k) (S .t)) sent o
     → namesLine ++ results (λ i. member faulty (i - 1)) (λ i. getD states (i - 1) zeroState .outcome) (λ i. part b blocks (i - 1)) (S .n)
     ≡ outputOf (tableScenario S block faulty places input)
 held-output S block faulty places input states blocks b sent o e H =
@@ -83,7 +83,7 @@ cleared-wrote {out} {s} {out′} {r} e w = zeros-wrote 6400 (subst (λ (o : List
 -- ---- a file that was read
 -- what it says can be run, and its output is that of the run
 pub record FileRun (input : List ℕ) (file : SystemFile) (b : ℕ) : Type 0 where
-  pub block-most : b ≤ length (file .block)
+  pub block-le : b ≤ length (file .block)
   pub block-long : length (take b (file .block)) ≡ b
   pub runnable : Runnable input (file .places) (file .settings) (take b (file .block)) (replicate 3072 0) (replicate 49408 0) (replicate 49408 0) (replicate 6400 0)
   pub output : outputOf (tableScenario (file .settings) (take b (file .block)) (file .faulty) (file .places) input) ≡ simulated input
@@ -92,21 +92,21 @@ module _ (input : List ℕ) (c : Contents) (e : readOf input ≡ right c) (b : �
   proper : Properly input c
   proper = read-right input c e
 
-  small : Small (c .settings)
+  small : FileSettings (c .settings)
   small = record { coded = proper .coded; few-stripes = proper .stripes }
 
   size : b ≡ length (c .block)
-  size = is-b ∙ block-size (proper .coded) ∙ sym (proper .block-length)
+  size = is-b ∙ block-size-is (proper .coded) ∙ sym (proper .block-length)
 
   most : length (c .block) ≤ 192
-  most = omega (arith, proper .block-length, block-most small)
+  most = omega (arith, proper .block-length, block-le small)
 
   block-is : take b (padded 192 (c .block)) ≡ c .block
   block-is = take-padded 192 (c .block) b most size
 
   right-run : FileRun input (fileOf (right c)) b
   right-run = record {
-    block-most = omega (arith, size, most, length-padded 192 (c .block) most);
+    block-le = omega (arith, size, most, length-padded 192 (c .block) most);
     block-long = ap length block-is ∙ sym size;
     runnable = record {
       small = small;

@@ -108,20 +108,20 @@ pub zeros-wrote : (n : ℕ) {s out : List ℕ} {r : ℕ} → Wrote (replicate n 
 zeros-wrote n {s} w = (w .text ∙ ap (λ (k : ℕ). padded k s) (length-replicate {A = ℕ} n 0), omega (arith, w .end))
 
 -- ---- how long a line is
-pub word-most : (w : Outcome) → length (outcomeWord w) ≤ 6
-word-most Open = omega arith
-word-most Agreed = omega arith
-word-most None = omega arith
-word-most Beyond = omega arith
+pub word-le : (w : Outcome) → length (outcomeWord w) ≤ 6
+word-le Open = omega arith
+word-le Agreed = omega arith
+word-le None = omega arith
+word-le Beyond = omega arith
 
 -- the word of v, by a call, where the outcome is v
 pub wrote-word : {out : List ℕ} {at : ℕ} → Room out at 6 → {w : Outcome} (v : Outcome) → w ≡ v → {out′ : List ℕ} {r : ℕ}
     → (out′ ≡ appended at (outcomeWord v) out) × (r ≡ endOf at (outcomeWord v) out) → Wrote out at (outcomeWord w) out′ r
 wrote-word {out} {at} h v e {out′} {r} p =
-    subst (λ (u : Outcome). Wrote out at (outcomeWord u) out′ r) (sym e) (added h (outcomeWord v) (word-most v) p .wrote)
+    subst (λ (u : Outcome). Wrote out at (outcomeWord u) out′ r) (sym e) (added h (outcomeWord v) (word-le v) p .wrote)
 
-pub number-most : (i : ℕ) → i ≤ 16 → length (decimal i) ≤ 2
-number-most i h = decimal-short 2 i (omega arith) (omega arith)
+pub number-le : (i : ℕ) → i ≤ 16 → length (decimal i) ≤ 2
+number-le i h = decimal-short 2 i (omega arith) (omega arith)
 
 result-most : (i : ℕ) (w : Outcome) (b : List ℕ) → i ≤ 16 → length b ≤ 192 → length (resultLine i w b) ≤ 395
 unfolding resultLine
@@ -129,8 +129,8 @@ result-most i w b h l =
     let t = hexadecimal b ++ (newline ∷ []) in
     omega (
       arith,
-      number-most i h,
-      word-most w,
+      number-le i h,
+      word-le w,
       length-hexadecimal b,
       length-append (hexadecimal b) (newline ∷ []),
       length-append (outcomeWord w) (comma ∷ t),
@@ -185,8 +185,8 @@ module _ (faulty : ℕ) (states : List State) (blocks : List ℕ) (b : ℕ) wher
   abbrev pub lines : ℕ → List ℕ
   lines n = results faults outcomes held n
 
-  pub lines-most : (n i : ℕ) → n ≤ 16 → b ≤ 192 → n * b ≤ length blocks → i ≤ n → length (lines i) ≤ i * 395
-  lines-most n i h k l m =
+  pub lines-le : (n i : ℕ) → n ≤ 16 → b ≤ 192 → n * b ≤ length blocks → i ≤ n → length (lines i) ≤ i * 395
+  lines-le n i h k l m =
       results-most faults outcomes held i (omega arith) (λ j p q. omega (arith, length-part b blocks n (j - 1) (omega arith) l))
 
   lines-correct : (i : ℕ) → member faulty i ≡ false → lines (i + 1) ≡ lines i ++ resultLine (i + 1) (getD states i zeroState .outcome) (part b blocks i)

@@ -1,6 +1,6 @@
--- What the functions of the simulator do, on the way to `simulated`.
+-- For the contracts of private functions; a reader of the public contracts needs none of it.
 --   layoutIn S c               the layout of the slots of round c
---   Small S                    the settings of a system file
+--   FileSettings S                    the settings of a system file
 --   Rooms input len places     each message of the table stands in the file
 --   Filling ..                 what filling an inbox finds: lengths, and a cleared inbox
 --   putPart w l i y            l with part i, counted from 0, replaced by y
@@ -12,7 +12,7 @@
 --   taken a                    what is held after a step
 --   Parted ..                  a step of one controller, whose block and outbox stand among those of all
 --   Called F c now ..          each correct controller made call c + 1, and the others stay
---   Held F c ..                each controller holds what it holds after c calls
+--   AfterCalls F c ..                each controller holds what it holds after c calls
 --   Playable ..                what the run finds: settings, lengths, and messages that stand in the file
 --   Runnable ..                what the whole run finds: settings, a block, room for all blocks and boxes, a cleared output
 --   Room out at m              the text ends at `at`, zeros follow, and m more bytes fit
@@ -39,7 +39,7 @@ use Rattle.simulation.specs.Run.{Scenario, Playing, called, played}
 abbrev pub layoutIn : Settings → ℕ → Layout
 layoutIn S c = roundLayout (S .n) (S .t) (S .k) c
 
-pub record Small (S : Settings) : Type 0 where
+pub record FileSettings (S : Settings) : Type 0 where
   pub coded : Coded (S .n) (S .t) (S .k)
   pub few-stripes : S .k ≤ 32
 
@@ -84,7 +84,7 @@ nowOf states blocks b sent o i = record {
 
 -- what making the inbox of a call finds: c calls were made
 pub record Making (input places : List ℕ) (S : Settings) (c i : ℕ) (sent m inbox : List ℕ) : Type 0 where
-  pub small : Small S
+  pub small : FileSettings S
   pub rooms : Rooms input places S
   pub calls-most : c ≤ 3 * S .t + 8
   pub number-least : 1 ≤ i
@@ -96,7 +96,7 @@ pub record Making (input places : List ℕ) (S : Settings) (c i : ℕ) (sent m i
 
 -- what a call finds: c calls were made
 pub record Calling (input places : List ℕ) (S : Settings) (c : ℕ) (blocks sent sending : List ℕ) : Type 0 where
-  pub small : Small S
+  pub small : FileSettings S
   pub rooms : Rooms input places S
   pub calls-most : c ≤ 3 * S .t + 8
   pub blocks-room : S .n * blockLength (S .k) (S .t) ≤ length blocks
@@ -123,20 +123,20 @@ pub record Called (F : Scenario) (c : ℕ) (now after : ℕ → Playing) : Type 
   pub state : (i : ℕ) → 1 ≤ i → i ≤ F .settings .n → F .faulty i ≡ true → after i .state ≡ now i .state
   pub block : (i : ℕ) → 1 ≤ i → i ≤ F .settings .n → F .faulty i ≡ true → after i .block ≡ now i .block
 
-pub record Held (F : Scenario) (c : ℕ) (states : List State) (blocks : List ℕ) (b : ℕ) (sent : List ℕ) (o : ℕ) : Type 0 where
+pub record AfterCalls (F : Scenario) (c : ℕ) (states : List State) (blocks : List ℕ) (b : ℕ) (sent : List ℕ) (o : ℕ) : Type 0 where
   pub state : (i : ℕ) → 1 ≤ i → i ≤ F .settings .n → getD states (i - 1) zeroState ≡ played F c i .state
   pub block : (i : ℕ) → 1 ≤ i → i ≤ F .settings .n → part b blocks (i - 1) ≡ played F c i .block
   pub outbox : (i : ℕ) → 1 ≤ i → i ≤ F .settings .n → c ≤ 3 * F .settings .t + 8 → F .faulty i ≡ false → part o sent (i - 1) ≡ played F c i .outbox
 
 pub record Playable (input places : List ℕ) (S : Settings) (blocks sent sending : List ℕ) : Type 0 where
-  pub small : Small S
+  pub small : FileSettings S
   pub rooms : Rooms input places S
   pub blocks-room : S .n * blockLength (S .k) (S .t) ≤ length blocks
   pub sent-is : length sent ≡ 49408
   pub sending-is : length sending ≡ 49408
 
 pub record Runnable (input places : List ℕ) (S : Settings) (block blocks sent sending out : List ℕ) : Type 0 where
-  pub small : Small S
+  pub small : FileSettings S
   pub rooms : Rooms input places S
   pub block-is : length block ≡ blockLength (S .k) (S .t)
   pub blocks-is : length blocks ≡ 3072

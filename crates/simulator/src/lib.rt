@@ -81,7 +81,7 @@ fn play_file(input: &[u8], file: SystemFile) -> Output
 }
 
 // The output for a file.
-// Shut out: bad,0 for every wrong file; a faulty controller played as a correct one (must-fail edit).
+// Shut out: bad,0 for every wrong file; must-fail/faulty_played_as_correct.
 pub fn simulate(input: &[u8]) -> Output
     ensures { λ r. ⌜ (r .bytes ≡ padded 6400 (simulated (now (input .entry)))) × (r .length ≡ length (simulated (now (input .entry)))) ⌝ }
 {

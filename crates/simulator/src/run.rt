@@ -8,7 +8,7 @@ ghost use Rattle.wire.specs.Length.{blockLength, messageLength, inboxLength, ou
 ghost use Rattle.protocol.specs.State.{zeroState};
 ghost use Rattle.protocol.specs.Step.{startOf, stepOf};
 ghost use Rattle.simulation.specs.Run.{inboxOf};
-ghost use Rattle.simulator.specs.Steps.{Calling, Held, Playable, Parted, tableScenario, sentBy, nowOf, taken, Called};
+ghost use Rattle.simulator.specs.Steps.{Calling, AfterCalls, Playable, Parted, tableScenario, sentBy, nowOf, taken, Called};
 use crate::inbox;
 use protocol::State;
 use settings::Settings;
@@ -155,8 +155,8 @@ pub(crate) fn play(
     sent: &mut [u8],
     sending: &mut [u8],
 ) -> [State; 16]
-    requires { ⌜ Playable (now input) (now places) settings (now blocks) (now sent) (now sending) × Held (tableScenario settings (now block) faulty (now places) (now input)) 0 states (now blocks) (blockLength (settings .k) (settings .t)) (now sent) (inboxLength (settings .n) (settings .t) (settings .k) 1) ⌝ }
-    ensures { λ r. ⌜ Held (tableScenario settings (now (block .entry)) faulty (now (places .entry)) (now (input .entry))) (3 * settings .t + 9) r (now (blocks .exit)) (blockLength (settings .k) (settings .t)) (now (sent .exit)) (inboxLength (settings .n) (settings .t) (settings .k) (3 * settings .t + 9 + 1)) ⌝ }
+    requires { ⌜ Playable (now input) (now places) settings (now blocks) (now sent) (now sending) × AfterCalls (tableScenario settings (now block) faulty (now places) (now input)) 0 states (now blocks) (blockLength (settings .k) (settings .t)) (now sent) (inboxLength (settings .n) (settings .t) (settings .k) 1) ⌝ }
+    ensures { λ r. ⌜ AfterCalls (tableScenario settings (now (block .entry)) faulty (now (places .entry)) (now (input .entry))) (3 * settings .t + 9) r (now (blocks .exit)) (blockLength (settings .k) (settings .t)) (now (sent .exit)) (inboxLength (settings .n) (settings .t) (settings .k) (3 * settings .t + 9 + 1)) ⌝ }
 {
     let t = settings.t;
     let mut held = states;

@@ -17,7 +17,7 @@ use Rattle.matching.specs.Answer.{pairsOf, IsFirstLargest}
 use Rattle.matching.proofs.Laws.{matching-half, count-pairs, pair-at-index, pair-at, each-map}
 use Rattle.star.specs.declared.Sets.{Sets}
 use Rattle.star.specs.Star.{setsFrom, noSets, isLarge, starWith, refusalFor, IsStar}
-use Rattle.star.specs.Parts.{Ends}
+use Rattle.star.specs.Steps.{Ends}
 
 module _ (n t : ℕ) where
   pub refusal-0 : refusalFor n t ≡ 0 → Quorum n t

@@ -1,5 +1,5 @@
--- What a crate above may know of the star: the relation and the function, then the sets C, D, F and E that `starOf rows n t` answers, with no
--- word of the matching.
+-- What a crate above may know of the star besides the contracts and the definitions: the relation and the function, then the sets C, D, F and E
+-- that `starOf rows n t` answers, with no word of the matching.
 --   star-is-one         `IsStar` holds of what the function answers and of nothing else (`StarIsOne`); star-of: so for rows; star-of-pairs: and
 --                       for bits
 --   star-refusal        the number answered is that of the refusal

@@ -20,7 +20,7 @@ ghost use Rattle.graph.specs.Bits.{adjacent};
 ghost use Rattle.matching.specs.Matching.{matched};
 ghost use Rattle.matching.specs.Answer.{pairsOf};
 ghost use Rattle.star.specs.Star.{setC, lacks, atLeast, setsFrom, noSets, isLarge, IsStar};
-ghost use Rattle.star.specs.Parts.{Ends};
+ghost use Rattle.star.specs.Steps.{Ends};
 
 // The number of a refusal, or 0, and the sets C, D, F and E, of which E is the core. All four are empty where the star is refused or
 // no core is found.
@@ -169,7 +169,7 @@ fn sets_of(bits: [u8; 15], n: usize, t: usize, m: Matching) -> Sets
 }
 
 // The star of a graph given as 120 bits, of which those of pairs below n are read. The relation holds of one answer (`star-is-one`).
-// Shut out: a struck controller kept in C; t for t + 1 in F; another threshold in E; members past n (must-fail edits).
+// Shut out: must-fail/struck_kept; must-fail/f_threshold; must-fail/e_threshold; must-fail/matched_past_n.
 pub fn of_bits(bits: [u8; 15], n: usize, t: usize) -> Sets
     ensures { λ r. ⌜ IsStar n t (adjacent bits) r ⌝ }
 {

@@ -19,28 +19,28 @@ use Rattle.lists.proofs.Parts.{put-next}
 use Rattle.lists.proofs.Table.{below-at}
 use Rattle.lists.proofs.Tests.{lt-or-le}
 use Rattle.bitset.specs.Row.{rowByte, rowOf, rowsOf}
-use Rattle.bitset.proofs.Rows.{length-rows, rows-written}
+use Rattle.bitset.proofs.Laws.{length-rows-few, rows-written}
 use Rattle.reconstruction.specs.declared.Outcome.{Outcome}
 use Rattle.reconstruction.specs.Outcomes.{outcomeNumber}
 use Rattle.settings.specs.declared.Settings.{Settings}
 use Rattle.protocol.specs.declared.State.{State}
 use Rattle.protocol.specs.State.{initial, withCall, withVotes, withCore}
-use Rattle.state_bytes.specs.State.{littleEndian, widths, widthOf, offset, stateLength, numbersOf, fieldBytes, bytesOf, fieldIn, numberIn, rowsIn, outcomeFrom, stateIn}
+use Rattle.state_bytes.specs.State.{littleEndian, widths, widthOf, offset, stateLength, numbersOf, fieldBytes, stateBytes, fieldIn, fieldNumber, fieldRows, outcomeFrom, stateIn}
 use Rattle.state_bytes.proofs.Digits.{length-digits}
 
 -- ---- widths and offsets
-pub width-most : (i : ℕ) → widthOf i ≤ 255
+pub width-le : (i : ℕ) → widthOf i ≤ 255
 unfolding widthOf
-width-most i =
+width-le i =
     ⊎-elim
     (λ (h : i < length widths). leb→le (getD widths i 0) 255 (below-at (length widths) (λ j. leb (getD widths j 0) 255) tt i h))
     (λ (h : length widths ≤ i). rw (List·getD-eq-default widths 0 {n = i} h) (omega arith))
     (lt-or-le i (length widths))
 
 -- the first seven fields fit a number of 64 bits
-pub number-most : (i : ℕ) → i < 7 → widthOf i ≤ 8
+pub number-width-le : (i : ℕ) → i < 7 → widthOf i ≤ 8
 unfolding widthOf
-number-most i h = leb→le (getD widths i 0) 8 (below-at 7 (λ j. leb (getD widths j 0) 8) tt i h)
+number-width-le i h = leb→le (getD widths i 0) 8 (below-at 7 (λ j. leb (getD widths j 0) 8) tt i h)
 
 pub offset-none : offset 0 ≡ 0
 unfolding offset
@@ -54,9 +54,9 @@ offset-suc : (i : ℕ) → offset (suc i) ≡ offset i + widthOf i
 unfolding offset
 offset-suc i = sum-suc i widthOf
 
-pub offset-most : (i : ℕ) → offset i ≤ i * 255
+pub offset-le : (i : ℕ) → offset i ≤ i * 255
 unfolding offset
-offset-most i = omega (arith, sum-le i widthOf (λ _. 255) (λ j _. width-most j), sum-const i 255)
+offset-le i = omega (arith, sum-le i widthOf (λ _. 255) (λ j _. width-le j), sum-const i 255)
 
 -- a field ends where the next one starts, or before
 pub field-within : (n i : ℕ) → i < n → offset i + widthOf i ≤ offset n
@@ -69,19 +69,19 @@ field-within (suc n) i h =
 
 -- ---- the bytes of a field
 -- as many as its width
-pub field-length : (s : State) (i : ℕ) → length (fieldBytes s i) ≡ widthOf i
+pub length-field-bytes : (s : State) (i : ℕ) → length (fieldBytes s i) ≡ widthOf i
 unfolding fieldBytes widthOf
-field-length s zero = length-digits (widthOf 0) (s .settings .n)
-field-length s (suc zero) = length-digits (widthOf 1) (s .settings .t)
-field-length s (suc (suc zero)) = length-digits (widthOf 2) (s .settings .k)
-field-length s (suc (suc (suc zero))) = length-digits (widthOf 3) (s .own)
-field-length s (suc (suc (suc (suc zero)))) = length-digits (widthOf 4) (s .settings .sender)
-field-length s (suc (suc (suc (suc (suc zero))))) = length-digits (widthOf 5) (s .next)
-field-length s (suc (suc (suc (suc (suc (suc zero)))))) = length-digits (widthOf 6) (outcomeNumber (s .outcome))
-field-length s (suc (suc (suc (suc (suc (suc (suc zero))))))) = length-rows 16 (s .matrix) (omega arith)
-field-length s (suc (suc (suc (suc (suc (suc (suc (suc zero)))))))) = length-rows 16 (s .weak) (omega arith)
-field-length s (suc (suc (suc (suc (suc (suc (suc (suc (suc zero))))))))) = length-digits (widthOf 9) (s .core)
-field-length s (suc (suc (suc (suc (suc (suc (suc (suc (suc (suc i)))))))))) = refl
+length-field-bytes s zero = length-digits (widthOf 0) (s .settings .n)
+length-field-bytes s (suc zero) = length-digits (widthOf 1) (s .settings .t)
+length-field-bytes s (suc (suc zero)) = length-digits (widthOf 2) (s .settings .k)
+length-field-bytes s (suc (suc (suc zero))) = length-digits (widthOf 3) (s .own)
+length-field-bytes s (suc (suc (suc (suc zero)))) = length-digits (widthOf 4) (s .settings .sender)
+length-field-bytes s (suc (suc (suc (suc (suc zero))))) = length-digits (widthOf 5) (s .next)
+length-field-bytes s (suc (suc (suc (suc (suc (suc zero)))))) = length-digits (widthOf 6) (outcomeNumber (s .outcome))
+length-field-bytes s (suc (suc (suc (suc (suc (suc (suc zero))))))) = length-rows-few 16 (s .matrix) (omega arith)
+length-field-bytes s (suc (suc (suc (suc (suc (suc (suc (suc zero)))))))) = length-rows-few 16 (s .weak) (omega arith)
+length-field-bytes s (suc (suc (suc (suc (suc (suc (suc (suc (suc zero))))))))) = length-digits (widthOf 9) (s .core)
+length-field-bytes s (suc (suc (suc (suc (suc (suc (suc (suc (suc (suc i)))))))))) = refl
 
 -- the first six are numbers
 pub number-field : (s : State) (i : ℕ) → i < 6 → fieldBytes s i ≡ littleEndian (widthOf i) (getD (numbersOf s) i 0)
@@ -116,11 +116,11 @@ joined-suc : (f : ℕ → List ℕ) (n : ℕ) → joined f (suc n) ≡ joined f 
 joined-suc f n = ap (joined f) (sym (add-one n)) ∙ joined-more f n
 
 -- the fields before field n take as many bytes as its offset says
-pub fields-length : (s : State) (n : ℕ) → length (joined (fieldBytes s) n) ≡ offset n
-fields-length s zero = ap length (joined-none (fieldBytes s)) ∙ sym offset-none
-fields-length s (suc n) =
+pub length-fields : (s : State) (n : ℕ) → length (joined (fieldBytes s) n) ≡ offset n
+length-fields s zero = ap length (joined-none (fieldBytes s)) ∙ sym offset-none
+length-fields s (suc n) =
     ap length (joined-suc (fieldBytes s) n) ∙ length-append (joined (fieldBytes s) n) (fieldBytes s n)
-    ∙ omega (arith, fields-length s n, field-length s n, offset-suc n)
+    ∙ omega (arith, length-fields s n, length-field-bytes s n, offset-suc n)
 
 -- field i stands at its offset
 pub field-read : (s : State) (n i : ℕ) → i < n → take (widthOf i) (drop (offset i) (joined (fieldBytes s) n)) ≡ fieldBytes s i
@@ -131,10 +131,10 @@ field-read s (suc n) i h =
     ∙ ⊎-elim
     (λ (e : i ≡ n).
     subst (λ (x : ℕ). take (widthOf x) (drop (offset x) (joined f n ++ f n)) ≡ f x) (sym e)
-    (ap (take (widthOf n)) (drop-at (joined f n) (f n) (offset n) (fields-length s n)) ∙ take-all (widthOf n) (f n) (le-of-eq (field-length s n))))
+    (ap (take (widthOf n)) (drop-at (joined f n) (f n) (offset n) (length-fields s n)) ∙ take-all (widthOf n) (f n) (le-of-eq (length-field-bytes s n))))
     (λ (l : i < n).
     let w = field-within n i l in
-    let long = fields-length s n in
+    let long = length-fields s n in
     ap (take (widthOf i)) (drop-append-le (offset i) (joined f n) (f n) (omega (arith, w, long)))
     ∙ take-append-le (widthOf i) (drop (offset i) (joined f n)) (f n) (omega (arith, w, long, length-drop (offset i) (joined f n)))
     ∙ field-read s n i l)
@@ -150,7 +150,7 @@ module _ (s : State) (i : ℕ) (v : List ℕ) where
   pub rows-put : (rows out : List ℕ) → fieldBytes s i ≡ rowsOf 16 rows → length out ≡ widthOf i → v ≡ filled (rowByte 16 rows) (2 * min 16 16) out
       → v ≡ fieldBytes s i
   rows-put rows out is-field e is-v =
-      let long : length out ≡ 2 * 16 = e ∙ sym (field-length s i) ∙ ap length is-field ∙ length-rows 16 rows (omega arith) in
+      let long : length out ≡ 2 * 16 = e ∙ sym (length-field-bytes s i) ∙ ap length is-field ∙ length-rows-few 16 rows (omega arith) in
       is-v ∙ rows-written 16 rows out (omega arith) ∙ ap (λ (x : List ℕ). rowsOf 16 rows ++ x) (drop-of-length-le out {i = 2 * 16} (omega arith))
       ∙ append-nil (rowsOf 16 rows) ∙ sym is-field
 
@@ -158,7 +158,7 @@ module _ (s : State) (i : ℕ) (v : List ℕ) where
 module _ (s : State) (o : List ℕ) (size : length o ≡ stateLength) (i a w : ℕ) (h : i < length widths) (is-a : a ≡ offset i) (is-w : w ≡ widthOf i)
     (b : List ℕ) (is-b : b ≡ joined (fieldBytes s) i ++ drop a o) where
   front : length (joined (fieldBytes s) i) ≡ a
-  front = fields-length s i ∙ sym is-a
+  front = length-fields s i ∙ sym is-a
 
   -- as much as is lent is there
   pub lent : length (take (a + w - a) (drop a b)) ≡ widthOf i
@@ -179,8 +179,8 @@ pub first-field : (s : State) (o : List ℕ) → o ≡ joined (fieldBytes s) 0 +
 first-field s o = sym (ap (λ (x : List ℕ). x ++ o) (joined-none (fieldBytes s)))
 
 pub last-field : (s : State) (o : List ℕ) → length o ≡ stateLength → (i a : ℕ) → i ≡ length widths → a ≡ offset i → (b : List ℕ)
-    → b ≡ joined (fieldBytes s) i ++ drop a o → b ≡ bytesOf s
-unfolding bytesOf
+    → b ≡ joined (fieldBytes s) i ++ drop a o → b ≡ stateBytes s
+unfolding stateBytes
 last-field s o size i a e is-a b is-b =
     is-b
     ∙ ap (λ (x : List ℕ). joined (fieldBytes s) i ++ x) (drop-of-length-le o {i = a} (le-of-eq (size ∙ sym (is-a ∙ ap offset e))))
@@ -208,8 +208,8 @@ built {first} {told} {voted} {all} {s} {own} {next} {o} {m} {w} {c} e-first e-to
     e-all
     ∙ ap (λ (x : State). withCore x m c) (e-voted ∙ ap (λ (x : State). withVotes x m w) (e-told ∙ ap (λ (x : State). withCall x next o) e-first))
 
-pub made : (b : List ℕ) {n t k own sender next : ℕ} {o : Outcome} {m w : List ℕ} {c : ℕ} → n ≡ numberIn b 0 → t ≡ numberIn b 1 → k ≡ numberIn b 2
-    → own ≡ numberIn b 3 → sender ≡ numberIn b 4 → next ≡ numberIn b 5 → o ≡ outcomeFrom (numberIn b 6) → m ≡ rowsIn b 7 → w ≡ rowsIn b 8
+pub made : (b : List ℕ) {n t k own sender next : ℕ} {o : Outcome} {m w : List ℕ} {c : ℕ} → n ≡ fieldNumber b 0 → t ≡ fieldNumber b 1 → k ≡ fieldNumber b 2
+    → own ≡ fieldNumber b 3 → sender ≡ fieldNumber b 4 → next ≡ fieldNumber b 5 → o ≡ outcomeFrom (fieldNumber b 6) → m ≡ fieldRows b 7 → w ≡ fieldRows b 8
     → c ≡ rowOf 16 (fieldIn b 9) 0
     → _≡_ {A = State} (record { settings = record { n = n; t = t; k = k; sender = sender }; own = own; next = next; outcome = o; matrix = m; weak = w; core = c }) (stateIn b)
 unfolding stateIn

@@ -2,3 +2,4 @@
 pub mod Laws
 mod Digits
 mod Fields
+mod ReadBack

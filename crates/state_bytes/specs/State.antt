@@ -9,10 +9,10 @@
 --   numbersOf s          the first six fields, which are numbers
 --   fieldsOf s           the bytes of the ten fields: numbers, and 16 rows of marks for each matrix
 --   fieldBytes s i       those of field i
---   bytesOf s            the bytes of a state
+--   stateBytes s            the bytes of a state
 --   fieldIn bytes i      field i in the bytes of a state
---   numberIn bytes i     the number in it
---   rowsIn bytes i       the 16 rows in it
+--   fieldNumber bytes i     the number in it
+--   fieldRows bytes i       the 16 rows in it
 --   outcomeFrom x        the outcome of a number (the listing is reconstruction's `outcomeNumber`); open where it is no outcome's
 --   stateIn bytes        the state whose fields stand in the bytes
 --   stateOf bytes        the state that the bytes stand for: every list of that length is a state; the zero state where it has another length
@@ -26,7 +26,7 @@ use lib.ListN.{length, getD, take, drop}
 use Rattle.lists.specs.Sum.{sum}
 use Rattle.lists.specs.Fill.{tabulate}
 use Rattle.lists.specs.Join.{joined}
-use Rattle.bitset.specs.Row.{rowOf, rowsOf}
+use Rattle.bitset.specs.Row.{rowOf, rowsIn, rowsOf}
 use Rattle.reconstruction.specs.declared.Outcome.{Outcome}
 use Rattle.reconstruction.specs.declared.Outcome.the-variants.{Open, Agreed, None, Beyond}
 use Rattle.reconstruction.specs.Outcomes.{outcomeNumber}
@@ -65,29 +65,29 @@ fieldsOf s =
 unfoldable pub fieldBytes : State → ℕ → List ℕ
 fieldBytes s i = getD (fieldsOf s) i []
 
-unfoldable pub bytesOf : State → List ℕ
-bytesOf s = joined (fieldBytes s) (length widths)
+unfoldable pub stateBytes : State → List ℕ
+stateBytes s = joined (fieldBytes s) (length widths)
 
 unfoldable pub fieldIn : List ℕ → ℕ → List ℕ
 fieldIn bytes i = take (widthOf i) (drop (offset i) bytes)
 
-abbrev pub numberIn : List ℕ → ℕ → ℕ
-numberIn bytes i = numberOf (fieldIn bytes i)
+abbrev pub fieldNumber : List ℕ → ℕ → ℕ
+fieldNumber bytes i = numberOf (fieldIn bytes i)
 
-abbrev pub rowsIn : List ℕ → ℕ → List ℕ
-rowsIn bytes i = tabulate (rowOf 16 (fieldIn bytes i)) 16
+abbrev pub fieldRows : List ℕ → ℕ → List ℕ
+fieldRows bytes i = rowsIn (fieldIn bytes i)
 
 unfoldable pub outcomeFrom : ℕ → Outcome
 outcomeFrom x = cond (eqb x 1) Agreed (cond (eqb x 2) None (cond (eqb x 3) Beyond Open))
 
 unfoldable pub stateIn : List ℕ → State
 stateIn bytes = record {
-  settings = record { n = numberIn bytes 0; t = numberIn bytes 1; k = numberIn bytes 2; sender = numberIn bytes 4 };
-  own = numberIn bytes 3;
-  next = numberIn bytes 5;
-  outcome = outcomeFrom (numberIn bytes 6);
-  matrix = rowsIn bytes 7;
-  weak = rowsIn bytes 8;
+  settings = record { n = fieldNumber bytes 0; t = fieldNumber bytes 1; k = fieldNumber bytes 2; sender = fieldNumber bytes 4 };
+  own = fieldNumber bytes 3;
+  next = fieldNumber bytes 5;
+  outcome = outcomeFrom (fieldNumber bytes 6);
+  matrix = fieldRows bytes 7;
+  weak = fieldRows bytes 8;
   core = rowOf 16 (fieldIn bytes 9) 0;
 }
 

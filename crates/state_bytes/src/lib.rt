@@ -4,10 +4,9 @@ ghost use mathlib.Core.Bool.{cond};
 ghost use Prim.Native.Nat.{_<_, _≤_};
 ghost use lib.Dec.{eqb};
 ghost use lib.ListN.{length, getD};
-ghost use Rattle.lists.specs.Fill.{tabulate};
-ghost use Rattle.bitset.specs.Row.{rowOf};
+ghost use Rattle.bitset.specs.Row.{rowsIn};
 ghost use Rattle.reconstruction.specs.Outcomes.{outcomeNumber};
-ghost use Rattle.state_bytes.specs.State.{littleEndian, numberOf, widths, widthOf, offset, stateLength, numbersOf, fieldBytes, bytesOf, fieldIn, numberIn, outcomeFrom, stateIn, stateOf};
+ghost use Rattle.state_bytes.specs.State.{littleEndian, numberOf, widths, widthOf, offset, stateLength, numbersOf, fieldBytes, stateBytes, fieldIn, fieldNumber, outcomeFrom, stateIn, stateOf};
 use protocol::State;
 use reconstruction::Outcome;
 use settings::Settings;
@@ -41,7 +40,7 @@ fn offset(i: usize) -> usize
 }
 
 // How many bytes a state takes: the sum of all widths.
-// Shut out: without the last field; and must-fail/wrong_width.
+// Shut out: without the last field; must-fail/wrong_width.
 pub fn length() -> usize
     ensures { λ r. ⌜ r ≡ stateLength ⌝ }
 {
@@ -120,7 +119,7 @@ fn put_field(bytes: &mut [u8], s: State, i: usize)
 // Writes the fields one behind the other.
 fn put_fields(bytes: &mut [u8], s: State)
     requires { ⌜ length (now bytes) ≡ stateLength ⌝ }
-    ensures { λ _. ⌜ now (bytes .exit) ≡ bytesOf s ⌝ }
+    ensures { λ _. ⌜ now (bytes .exit) ≡ stateBytes s ⌝ }
 {
     let mut a: usize = 0;
     let mut i: usize = 0;
@@ -135,7 +134,7 @@ fn put_fields(bytes: &mut [u8], s: State)
 // Writes a state to a buffer of its length; nothing is written to one of another length.
 // Shut out: the weak matrix for the matrix; own number and sender the other way round; the last field not written.
 pub fn write(s: State, bytes: &mut [u8])
-    ensures { λ _. ⌜ now (bytes .exit) ≡ cond (eqb (length (now (bytes .entry))) stateLength) (bytesOf s) (now (bytes .entry)) ⌝ }
+    ensures { λ _. ⌜ now (bytes .exit) ≡ cond (eqb (length (now (bytes .entry))) stateLength) (stateBytes s) (now (bytes .entry)) ⌝ }
 {
     if bytes.len() != length() {
         return;
@@ -175,9 +174,9 @@ fn field(bytes: &[u8], i: usize) -> &[u8]
 }
 
 // The number in field i, one of the first seven.
-fn number_in(bytes: &[u8], i: usize) -> usize
+fn field_number(bytes: &[u8], i: usize) -> usize
     requires { ⌜ (length (now bytes) ≡ stateLength) × (i < 7) ⌝ }
-    ensures { λ r. ⌜ r ≡ numberIn (now (bytes .entry)) i ⌝ }
+    ensures { λ r. ⌜ r ≡ fieldNumber (now (bytes .entry)) i ⌝ }
 {
     get(field(bytes, i))
 }
@@ -201,7 +200,7 @@ fn outcome_from(x: usize) -> Outcome
 // 16 rows of marks; empty ones where the bytes do not hold them.
 // Shut out: the last row left empty; rows of 15 marks.
 pub fn get_rows(bytes: &[u8]) -> [u16; 16]
-    ensures { λ r. ⌜ r ≡ tabulate (rowOf 16 (now (bytes .entry))) 16 ⌝ }
+    ensures { λ r. ⌜ r ≡ rowsIn (now (bytes .entry)) ⌝ }
 {
     let mut rows = [0u16; 16];
     let mut i: usize = 0;
@@ -217,13 +216,13 @@ fn state_in(bytes: &[u8]) -> State
     requires { ⌜ length (now bytes) ≡ stateLength ⌝ }
     ensures { λ r. ⌜ r ≡ stateIn (now (bytes .entry)) ⌝ }
 {
-    let n = number_in(bytes, 0);
-    let t = number_in(bytes, 1);
-    let k = number_in(bytes, 2);
-    let own = number_in(bytes, 3);
-    let sender = number_in(bytes, 4);
-    let next = number_in(bytes, 5);
-    let outcome = outcome_from(number_in(bytes, 6));
+    let n = field_number(bytes, 0);
+    let t = field_number(bytes, 1);
+    let k = field_number(bytes, 2);
+    let own = field_number(bytes, 3);
+    let sender = field_number(bytes, 4);
+    let next = field_number(bytes, 5);
+    let outcome = outcome_from(field_number(bytes, 6));
     let matrix = get_rows(field(bytes, 7));
     let weak = get_rows(field(bytes, 8));
     let core = bitset::read_row(field(bytes, 9), 16, 0);
@@ -235,7 +234,7 @@ fn state_in(bytes: &[u8]) -> State
 }
 
 // The state that a buffer holds; the zero state where the buffer has another length.
-// Shut out: beyond for every outcome byte past 3; n 1 where the buffer has another length; and must-fail/outcome_from_another_field.
+// Shut out: beyond for every outcome byte past 3; n 1 where the buffer has another length; must-fail/outcome_from_another_field.
 pub fn read(bytes: &[u8]) -> State
     ensures { λ r. ⌜ r ≡ stateOf (now (bytes .entry)) ⌝ }
 {

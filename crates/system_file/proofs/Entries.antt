@@ -10,7 +10,7 @@ use native.Mathlib.Omega.{arith}
 use lib.ListN.{length}
 use Rattle.lists.proofs.Tests.{either, fails, and-left, and-right, and-both, and-no-left, and-no-right, cond-yes, cond-no}
 use Rattle.text.specs.Lines.{lineAt, isEnded, nextAt}
-use Rattle.text.proofs.Laws.{ended-lt, next-is, held-ended, held-short, held-next}
+use Rattle.text.proofs.Laws.{ended-yes, next-is, held-ended, held-short, held-next}
 use Rattle.bitset.specs.Set.{setOf, inserted}
 use Rattle.bitset.proofs.Laws.{set-empty}
 use Rattle.settings.specs.Valid.{Coded}
@@ -227,7 +227,7 @@ module _ (input : List ℕ) (σ : Settings) (start : ℕ) (v : Coded (σ .n) (σ
       sofar-step = (
         omega (arith, made .1, new .from .least),
         omega (arith, made .2, next-is input at),
-        omega (arith, made .2, next-is input at, ended-lt input at (entry-ended σ input at places (made .0))),
+        omega (arith, made .2, next-is input at, ended-yes input at (entry-ended σ input at places (made .0))),
       )
 
       pub sofar-more : (qs : List ℕ) (x : ℕ) → qs ≡ tableAt σ input at places → x ≡ inserted faulty (f - 1) → Sofar input σ start qs b (line + 1) x

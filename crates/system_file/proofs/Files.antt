@@ -16,17 +16,17 @@ use Rattle.bitset.specs.Set.{member, setOf}
 use Rattle.bitset.proofs.Laws.{member-set}
 use Rattle.text.specs.Read.{valueOf, bytesOf}
 use Rattle.text.specs.Lines.{lineAt, nextAt, rest, field}
-use Rattle.text.proofs.Laws.{next-is, number-range, length-bytesOf, bytes-length, bytes-small}
+use Rattle.text.proofs.Laws.{next-is, length-bytesOf, length-bytes, bytes-lt}
 use Rattle.settings.specs.declared.Settings.{Settings}
 use Rattle.settings.specs.Valid.{Numbered}
 use Rattle.wire.specs.Length.{blockLength, messageLength}
-use Rattle.system_file.specs.Form.{Message, Contents, Read, wrong, right, settingsIn, settingsOf, readOf}
+use Rattle.system_file.specs.Form.{Message, Contents, Read, wrong, right, settingsIn, contentsOf, readOf}
 use Rattle.system_file.specs.Table.{isFaulty, reaches, placeOf, textOf, saidOf, tableSize, tableIndex, tableOf, placeIn, fileOf, Properly}
 use Rattle.system_file.specs.declared.Form.{Form}
 use Rattle.system_file.specs.declared.Form.the-variants.{Right, Wrong}
 use Rattle.system_file.proofs.Rows.{All, none, more, at-index, place-more, place-same, reach-parts}
 use Rattle.system_file.proofs.Places.{place-inside, place-ranges}
-use Rattle.system_file.proofs.Heads.{Settled, settings-parts, settled-coded}
+use Rattle.system_file.proofs.Heads.{Settled, settings-parts, settled-stripes}
 use Rattle.system_file.proofs.MessageLine.{Placed}
 use Rattle.system_file.proofs.Reading.{withAll, read-keeps, read-passed}
 
@@ -68,7 +68,7 @@ text-bytes input len p i =
     ⊎-elim
     (λ (e : p ≡ 0). subst (λ (x : ℕ). getD (textOf input len x) i 0 < 256) (sym e)
     (subst (λ (x : List ℕ). getD x i 0 < 256) (sym (text-none input len)) (omega arith)))
-    (λ (n : p ≡ 0 → ⊥). subst (λ (x : List ℕ). getD x i 0 < 256) (sym (text-some input len p n)) (bytes-small (take (2 * len) (drop p input)) i))
+    (λ (n : p ≡ 0 → ⊥). subst (λ (x : List ℕ). getD x i 0 < 256) (sym (text-some input len p n)) (bytes-lt (take (2 * len) (drop p input)) i))
     (same-or-not p 0)
 
 -- ---- a file that was read
@@ -97,29 +97,28 @@ all-faulty {σ} (more {m = m} {ms = ms} p a) i e =
     (or-cases (eqb (m .from) i) (isFaulty ms i) e)
 
 settled-properly : (input l : List ℕ) (ms : List Message) → length input ≤ 65536 → Settled l
-    → All (Placed (settingsIn l) (length input)) ms → Properly input (withAll (settingsOf l) ms)
-unfolding settingsOf settingsIn
+    → All (Placed (settingsIn l) (length input)) ms → Properly input (withAll (contentsOf l) ms)
+unfolding contentsOf settingsIn
 settled-properly input l ms h s a =
-    let rs = number-range 1 (valueOf (field 0 l)) (field 3 l) (s .sender) in
     record {
-      coded = settled-coded l s;
-      stripes = number-range 1 32 (field 2 l) (s .k) .1;
-      sender = record { least = rs .0; most = rs .1 };
-      block-length = bytes-length (blockLength (valueOf (field 2 l)) (valueOf (field 1 l))) (rest 4 l) (s .block);
-      block-bytes = λ i. bytes-small (rest 4 l) i;
+      coded = s .valid .coded;
+      stripes = settled-stripes l s;
+      sender = s .valid .sender;
+      block-length = length-bytes (blockLength (valueOf (field 2 l)) (valueOf (field 1 l))) (rest 4 l) (s .block);
+      block-bytes = λ i. bytes-lt (rest 4 l) i;
       size = h;
       room = λ r f j n. all-room a r f j n;
       faulty = λ i e. all-faulty a i e;
     }
 
 pub read-right : (input : List ℕ) (c : Contents) → readOf input ≡ right c → Properly input c
-unfolding settingsOf settingsIn
+unfolding contentsOf settingsIn
 read-right input c e =
     let p = read-passed input c e in
     let l = lineAt input (nextAt input 0) in
     let s = settings-parts l (p .settings) in
     let a = nextAt input (nextAt input (nextAt input 0)) in
-    let q = read-keeps (length input) input (settingsOf l) a 4 c (omega (arith, next-is input (nextAt input (nextAt input 0)))) none (p .messages) in
+    let q = read-keeps (length input) input (contentsOf l) a 4 c (omega (arith, next-is input (nextAt input (nextAt input 0)))) none (p .messages) in
     subst (Properly input) (q .0) (settled-properly input l (c .messages) (p .size) s (q .1))
 
 pub place-room : (input : List ℕ) (c : Contents) → readOf input ≡ right c → (r f j : ℕ) → (placeOf (c .messages) r f j ≡ 0 → ⊥)

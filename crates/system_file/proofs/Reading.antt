@@ -13,7 +13,7 @@ use Rattle.lists.proofs.Tests.{either, and-left, and-right, cond-yes, cond-no, 
 use Rattle.text.specs.Lines.{lineAt, isEnded, nextAt, isNames}
 use Rattle.text.proofs.Laws.{next-is}
 use Rattle.system_file.specs.Form.{
-  limit,
+  fileLimit,
   settingsNames,
   messageNames,
   isSettings,
@@ -27,7 +27,7 @@ use Rattle.system_file.specs.Form.{
   right,
   withMessage,
   readFrom,
-  settingsOf,
+  contentsOf,
   readOf,
 }
 use Rattle.system_file.specs.Steps.{bare, restored}
@@ -136,7 +136,7 @@ module _ (input : List ℕ) where
   isSet = isEnded input A && isSettings (lineAt input A)
 
   last : Read
-  last = readFrom (length input) input (settingsOf (lineAt input A)) (nextAt input B) 4
+  last = readFrom (length input) input (contentsOf (lineAt input A)) (nextAt input B) 4
 
   third : Read
   third = cond (not (isNames messageNames input B)) (wrong 3) last
@@ -147,16 +147,16 @@ module _ (input : List ℕ) where
   first : Read
   first = cond (not (isNames settingsNames input 0)) (wrong 1) second
 
-  rows : readOf input ≡ cond (ltb limit (length input)) (wrong 0) first
+  rows : readOf input ≡ cond (ltb fileLimit (length input)) (wrong 0) first
   unfolding readOf A B isSet last third second first
   rows = refl
 
-  pub read-long : limit < length input → readOf input ≡ wrong 0
-  read-long h = rows ∙ cond-yes (ltb limit (length input)) (wrong 0) first (lt-ltb limit (length input) h)
+  pub read-long : fileLimit < length input → readOf input ≡ wrong 0
+  read-long h = rows ∙ cond-yes (ltb fileLimit (length input)) (wrong 0) first (lt-ltb fileLimit (length input) h)
 
-  module _ (h : length input ≤ limit) where
+  module _ (h : length input ≤ fileLimit) where
     to-first : readOf input ≡ first
-    to-first = rows ∙ cond-no (ltb limit (length input)) (wrong 0) first (le-ltb limit (length input) h)
+    to-first = rows ∙ cond-no (ltb fileLimit (length input)) (wrong 0) first (le-ltb fileLimit (length input) h)
 
     pub read-unnamed : isNames settingsNames input 0 ≡ false → readOf input ≡ wrong 1
     unfolding first
@@ -181,22 +181,22 @@ module _ (input : List ℕ) where
         read-untold n = to-third ∙ cond-yes (not (isNames messageNames input B)) (wrong 3) last (ap not n)
 
         pub read-all : isNames messageNames input (nextAt input (nextAt input 0)) ≡ true
-            → readOf input ≡ readFrom (length input) input (settingsOf (lineAt input (nextAt input 0))) (nextAt input (nextAt input (nextAt input 0))) 4
+            → readOf input ≡ readFrom (length input) input (contentsOf (lineAt input (nextAt input 0))) (nextAt input (nextAt input (nextAt input 0))) 4
         unfolding A B last third
         read-all n = to-third ∙ cond-no (not (isNames messageNames input B)) (wrong 3) last (ap not n)
 
   -- a file that was read passed each test
   pub record Passed (c : Contents) : Type 0 where
-    pub size : length input ≤ limit
+    pub size : length input ≤ fileLimit
     pub ended : isEnded input (nextAt input 0) ≡ true
     pub settings : isSettings (lineAt input (nextAt input 0)) ≡ true
-    pub messages : readFrom (length input) input (settingsOf (lineAt input (nextAt input 0))) (nextAt input (nextAt input (nextAt input 0))) 4 ≡ right c
+    pub messages : readFrom (length input) input (contentsOf (lineAt input (nextAt input 0))) (nextAt input (nextAt input (nextAt input 0))) 4 ≡ right c
 
   pub read-passed : (c : Contents) → readOf input ≡ right c → Passed c
   read-passed c e =
       ⊎-elim
-      (λ (h : limit < length input). absurd (wrong-right 0 c (sym (read-long h) ∙ e)))
-      (λ (h : length input ≤ limit). ⊎-elim
+      (λ (h : fileLimit < length input). absurd (wrong-right 0 c (sym (read-long h) ∙ e)))
+      (λ (h : length input ≤ fileLimit). ⊎-elim
       (λ (n : isNames settingsNames input 0 ≡ true). ⊎-elim
       (λ (s : (isEnded input (nextAt input 0) && isSettings (lineAt input (nextAt input 0))) ≡ true). ⊎-elim
       (λ (m : isNames messageNames input (nextAt input (nextAt input 0)) ≡ true). record {
@@ -211,4 +211,4 @@ module _ (input : List ℕ) where
       (either (isEnded input (nextAt input 0) && isSettings (lineAt input (nextAt input 0)))))
       (λ (n : isNames settingsNames input 0 ≡ false). absurd (wrong-right 1 c (sym (read-unnamed h n) ∙ e)))
       (either (isNames settingsNames input 0)))
-      (lt-or-le limit (length input))
+      (lt-or-le fileLimit (length input))

@@ -48,9 +48,9 @@ pub row-lt : (r f : ℕ) → 1 ≤ r → r ≤ 23 → 1 ≤ f → f ≤ 16 → (
 row-lt r f hr lr hf lf = omega arith
 
 -- ---- rows
-pub table-length : (ms : List Message) → length (tableOf ms) ≡ tableSize
+pub length-table : (ms : List Message) → length (tableOf ms) ≡ tableSize
 unfolding tableOf
-table-length ms = length-tabulate (λ x. placeOf ms (x / 256 + 1) (x / 16 % 16 + 1) (x % 16 + 1)) tableSize
+length-table ms = length-tabulate (λ x. placeOf ms (x / 256 + 1) (x / 16 % 16 + 1) (x % 16 + 1)) tableSize
 
 pub row-of : (ms : List Message) (r f : ℕ) → 1 ≤ r → r ≤ 23 → 1 ≤ f → f ≤ 16 → rowAt (tableOf ms) r f ≡ tabulate (λ j. placeOf ms r f (j + 1)) 16
 unfolding rowAt tableOf
@@ -78,9 +78,9 @@ table-more m ms =
     (λ x h. ap (cond (s x) (m .place)) (getD-tabulate g tableSize x 0 h))
 
 -- ---- receivers
-pub to-all : (j : ℕ) (to : ℕ) → to ≡ 0 → isTo to j ≡ true
+pub row-to-all : (j : ℕ) (to : ℕ) → to ≡ 0 → isTo to j ≡ true
 unfolding isTo
-to-all j to e = or-left (eqb to 0) (eqb to j) (eq-eqb to 0 e)
+row-to-all j to e = or-left (eqb to 0) (eqb to j) (eq-eqb to 0 e)
 
 pub to-one : (j : ℕ) (to : ℕ) → to ≡ j → isTo to j ≡ true
 unfolding isTo
@@ -165,8 +165,8 @@ module _ (x m : Message) where
       (j, l, parts-reach x (m .round) (m .from) (j + 1) (p .0) (p .1) a, b) in
       ⊎-elim
       (λ (z : m .to ≡ 0). ⊎-elim
-      (λ (y : x .to ≡ 0). give 0 (omega arith) (to-all 1 (x .to) y) (to-all 1 (m .to) z))
-      (λ (y : x .to ≡ 0 → ⊥). give (x .to - 1) (omega arith) (to-one (x .to - 1 + 1) (x .to) (omega arith)) (to-all (x .to - 1 + 1) (m .to) z))
+      (λ (y : x .to ≡ 0). give 0 (omega arith) (row-to-all 1 (x .to) y) (row-to-all 1 (m .to) z))
+      (λ (y : x .to ≡ 0 → ⊥). give (x .to - 1) (omega arith) (to-one (x .to - 1 + 1) (x .to) (omega arith)) (row-to-all (x .to - 1 + 1) (m .to) z))
       (same-or-not (x .to) 0))
       (λ (z : m .to ≡ 0 → ⊥).
       let u : isTo (m .to) (m .to - 1 + 1) ≡ true = to-one (m .to - 1 + 1) (m .to) (omega arith) in
@@ -175,7 +175,7 @@ module _ (x m : Message) where
       let q = eqb-true (x .to) (m .to) y in
       give (m .to - 1) (omega arith) (to-one (m .to - 1 + 1) (x .to) (omega arith)) u)
       (λ (y : (eqb (x .to) 0 || eqb (m .to) 0) ≡ true). ⊎-elim
-      (λ (w : eqb (x .to) 0 ≡ true). give (m .to - 1) (omega arith) (to-all (m .to - 1 + 1) (x .to) (eqb-true (x .to) 0 w)) u)
+      (λ (w : eqb (x .to) 0 ≡ true). give (m .to - 1) (omega arith) (row-to-all (m .to - 1 + 1) (x .to) (eqb-true (x .to) 0 w)) u)
       (λ (w : eqb (m .to) 0 ≡ true). absurd (z (eqb-true (m .to) 0 w)))
       (or-cases (eqb (x .to) 0) (eqb (m .to) 0) y))
       (or-cases (eqb (x .to) (m .to)) (eqb (x .to) 0 || eqb (m .to) 0) (p .2)))

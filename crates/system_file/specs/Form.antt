@@ -1,5 +1,5 @@
 -- The form of a system file, and what a file of that form says (document 01, 'The house program': it calls a system a house).
---   limit                          the most bytes that a file has
+--   fileLimit                          the most bytes that a file has
 --   settingsNames, messageNames    the two lines of names
 --   isSettings l                   n 4 to 16; t at least 1, 3t + 1 at most n; k 1 to 32; the sender 1 to n; a block of k(t + 1) bytes
 --   isMessage s l                  a round of the run; from 1 to n; to 0 to n; a message of its round's length
@@ -12,7 +12,7 @@
 --   Read                           the first wrong or missing line, 0 for a file that is too long; or what the file says
 --   readFrom fuel input c a line   the message lines from byte a on, the first of which is line number `line`, after the contents c
 --   settingsIn l                   the settings that the settings line says
---   settingsOf l                   what a file with this settings line says before its first message
+--   contentsOf l                   what a file with this settings line says before its first message
 --   readOf input                   the whole file
 use mathlib.Core.Bool.{Bool, false, cond, not, _&&_, _||_}
 use mathlib.Core.List.{List, [], _∷_}
@@ -24,8 +24,8 @@ use Rattle.text.specs.Lines.{lineAt, isEnded, nextAt, isNames, rest, field}
 use Rattle.settings.specs.declared.Settings.{Settings}
 use Rattle.wire.specs.Length.{blockLength, messageLength}
 
-abbrev pub limit : ℕ
-limit = 65536
+abbrev pub fileLimit : ℕ
+fileLimit = 65536
 
 -- controllers,tolerance,stripes,sender,block
 abbrev pub settingsNames : List ℕ
@@ -113,15 +113,15 @@ readFrom (suc fuel) input c a line =
 unfoldable pub settingsIn : List ℕ → Settings
 settingsIn l = record { n = valueOf (field 0 l); t = valueOf (field 1 l); k = valueOf (field 2 l); sender = valueOf (field 3 l) }
 
-unfoldable pub settingsOf : List ℕ → Contents
-settingsOf l = record { settings = settingsIn l; block = bytesOf (rest 4 l); messages = [] }
+unfoldable pub contentsOf : List ℕ → Contents
+contentsOf l = record { settings = settingsIn l; block = bytesOf (rest 4 l); messages = [] }
 
 unfoldable pub readOf : List ℕ → Read
 readOf input =
     let a = nextAt input 0 in
     let b = nextAt input a in
-    cond (ltb limit (length input)) (wrong 0)
+    cond (ltb fileLimit (length input)) (wrong 0)
     (cond (not (isNames settingsNames input 0)) (wrong 1)
     (cond (not (isEnded input a && isSettings (lineAt input a))) (wrong 2)
     (cond (not (isNames messageNames input b)) (wrong 3)
-    (readFrom (length input) input (settingsOf (lineAt input a)) (nextAt input b) 4))))
+    (readFrom (length input) input (contentsOf (lineAt input a)) (nextAt input b) 4))))

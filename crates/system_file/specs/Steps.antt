@@ -1,6 +1,7 @@
--- For the contracts of the private functions; a reader of the public contracts needs none of it.
+-- For the contracts of private functions; a reader of the public contracts needs none of it.
 --   headIn l a               what the settings line l that starts at byte a says
 --   headAt input a           what the line at byte a says as the settings line
+--   messageRanges s          the ranges of round, from and to in the settings s
 --   lineIn s l a             what the message line l that starts at byte a says in the settings s
 --   isTo to j                a message to `to` is for j
 --   isTaken x to j           j is a receiver, and x is no empty place
@@ -20,7 +21,7 @@
 --   Enters m                 m is in range for the table
 --   Started, Opened          what the readers of the message lines and of the contents ask
 use mathlib.Core.Bool.{Bool, cond, not, _&&_, _||_}
-use mathlib.Core.List.{List, []}
+use mathlib.Core.List.{List, [], _∷_}
 use Prim.Native.Nat.{ℕ, _+_, _-_, _*_, _/_, _%_, _≤_, _<_}
 use lib.Dec.{eqb, ltb}
 use lib.ListN.{length, getD, take, drop}
@@ -40,7 +41,7 @@ use Rattle.system_file.specs.declared.messages.Entry.{Entry}
 use Rattle.system_file.specs.declared.messages.Entry.the-variants.{Made, Wrong as NoEntry}
 use Rattle.system_file.specs.declared.messages.Lines.{Lines}
 use Rattle.system_file.specs.declared.messages.Lines.the-variants.{Right, Wrong}
-use Rattle.system_file.specs.Form.{limit, isSettings, isMessage, Message, messageAt, Contents, Read, wrong, right, settingsIn}
+use Rattle.system_file.specs.Form.{fileLimit, isSettings, isMessage, Message, messageAt, Contents, Read, wrong, right, settingsIn}
 use Rattle.system_file.specs.Table.{isFaulty, reaches, tableSize, tableOf}
 
 -- ---- lines
@@ -49,6 +50,9 @@ headIn l a = cond (isSettings l) (HeadSaid (settingsIn l) (a + (length l - lengt
 
 unfoldable pub headAt : List ℕ → ℕ → Head
 headAt input a = cond (isEnded input a) (headIn (lineAt input a) a) NoHead
+
+abbrev pub messageRanges : Settings → List ℕ
+messageRanges s = 1 ∷ (3 * s .t + 8) ∷ 1 ∷ s .n ∷ 0 ∷ s .n ∷ []
 
 unfoldable pub lineIn : Settings → List ℕ → ℕ → Line
 lineIn s l a =
@@ -88,7 +92,7 @@ pub record Enters (m : Message) : Type 0 where
   pub from-most : m .from ≤ 16
   pub to-most : m .to ≤ 16
   pub place-least : 1 ≤ m .place
-  pub place-most : m .place < limit
+  pub place-most : m .place < fileLimit
 
 -- ---- message lines
 unfoldable pub isEntry : Settings → List ℕ → ℕ → List ℕ → Bool
@@ -123,7 +127,7 @@ opened s block = record { settings = s; block = block; messages = [] }
 
 pub record Started (input : List ℕ) (s : Settings) (at : ℕ) : Type 0 where
   pub coded : Coded (s .n) (s .t) (s .k)
-  pub size : length input ≤ limit
+  pub size : length input ≤ fileLimit
   pub at-least : 1 ≤ at
   pub at-most : at ≤ length input
 

@@ -25,7 +25,7 @@ use Rattle.settings.specs.Valid.{Coded, Numbered}
 use Rattle.wire.specs.Length.{blockLength, messageLength}
 use Rattle.system_file.specs.declared.SystemFile.{SystemFile}
 use Rattle.system_file.specs.declared.Form.the-variants.{Right, Wrong}
-use Rattle.system_file.specs.Form.{limit, Message, Contents, Read, wrong, right}
+use Rattle.system_file.specs.Form.{fileLimit, Message, Contents, Read, wrong, right}
 
 unfoldable pub isFaulty : List Message → ℕ → Bool
 isFaulty [] i = false
@@ -81,7 +81,7 @@ pub record Properly (input : List ℕ) (c : Contents) : Type 0 where
   pub sender : Numbered (c .settings .n) (c .settings .sender)
   pub block-length : length (c .block) ≡ blockLength (c .settings .k) (c .settings .t)
   pub block-bytes : (i : ℕ) → getD (c .block) i 0 < 256
-  pub size : length input ≤ limit
+  pub size : length input ≤ fileLimit
   pub room : (r f j : ℕ) → (placeOf (c .messages) r f j ≡ 0 → ⊥)
       → placeOf (c .messages) r f j + 2 * messageLength (c .settings .n) (c .settings .t) (c .settings .k) r ≤ length input
   pub faulty : (i : ℕ) → isFaulty (c .messages) i ≡ true → Numbered (c .settings .n) i

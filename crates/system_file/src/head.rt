@@ -5,7 +5,6 @@ ghost use lib.ListN.{length};
 ghost use Rattle.system_file.specs.Steps.{headIn, headAt};
 use settings::Settings;
 use text::lines;
-use text::lines::Field;
 
 // What the settings line says, with the bytes of the file where its block starts and ends.
 pub(crate) enum Head {
@@ -34,34 +33,31 @@ fn settings_line(l: &[u8], at: usize) -> Head
     requires { ⌜ at + length (now l) < 2 ^ 64 ⌝ }
     ensures { λ r. ⌜ r ≡ headIn (now (l .entry)) at ⌝ }
 {
-    let Field::Said(n, a1) = lines::number(l, 0, 4, 16) else {
-        return Head::Wrong;
-    };
-    let Field::Said(t, a2) = lines::number(l, a1, 1, n) else {
-        return Head::Wrong;
-    };
-    if n < 3 * t + 1 {
+    // n, t, k and the sender, each in its range
+    let numbers = lines::read_numbers(l, &[4, 16, 1, 5, 1, 32, 1, 16]);
+    if !numbers.found {
         return Head::Wrong;
     }
-    let Field::Said(k, a3) = lines::number(l, a2, 1, 32) else {
-        return Head::Wrong;
-    };
-    let Field::Said(sender, a4) = lines::number(l, a3, 1, n) else {
-        return Head::Wrong;
-    };
-    let block = lines::tail(l, a4);
-    if !text::is_bytes(block, (k * (t + 1)) as usize) {
+    let v = numbers.values;
+    let n = v[0];
+    let t = v[1];
+    let k = v[2];
+    let sender = v[3];
+    let settings = Settings { n, t, k, sender };
+    // 3t + 1 is at most n, and so is the sender: controller 1 could be started with them
+    if settings::state_refusal(settings, 1) != 0 {
         return Head::Wrong;
     }
-    let settings = Settings {
-        n: n as usize,
-        t: t as usize,
-        k: k as usize,
-        sender: sender as usize,
-    };
+    let block = lines::tail(l, numbers.end);
+    let len = wire::block_length(n, t, k);
+    if !text::is_bytes(block, len) {
+        return Head::Wrong;
+    }
+    let start = at + numbers.end;
+    let end = at + l.len();
     Head::Said {
         settings,
-        start: at + (l.len() - block.len()),
-        end: at + l.len(),
+        start,
+        end,
     }
 }

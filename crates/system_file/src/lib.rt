@@ -35,7 +35,7 @@ pub struct SystemFile {
 }
 
 // Reads a system file.
-// Shut out: a message that is given twice accepted; a line number off by one (must-fail edits).
+// Shut out: must-fail/duplicate_accepted; must-fail/line_number_off_by_one.
 pub fn read(input: &[u8]) -> SystemFile
     ensures { λ r. ⌜ r ≡ fileOf (readOf (now (input .entry))) ⌝ }
 {

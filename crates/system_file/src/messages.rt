@@ -6,11 +6,10 @@ ghost use lib.ListN.{length};
 ghost use Rattle.settings.specs.Valid.{Coded};
 ghost use Rattle.system_file.specs.Form.{readFrom};
 ghost use Rattle.system_file.specs.Table.{tableSize, tableOf};
-ghost use Rattle.system_file.specs.Steps.{lineIn, entryAt, tableAt, bare, linesOf, tableIn, Started};
+ghost use Rattle.system_file.specs.Steps.{lineIn, messageRanges, entryAt, tableAt, bare, linesOf, tableIn, Started};
 use crate::table;
 use settings::Settings;
 use text::lines;
-use text::lines::Field;
 
 // What a message line says, with the byte of the file where its message starts.
 enum Line {
@@ -94,24 +93,33 @@ fn message_line(l: &[u8], at: usize, s: Settings) -> Line
     requires { ⌜ Coded (s .n) (s .t) (s .k) × (at + length (now l) < 2 ^ 64) ⌝ }
     ensures { λ r. ⌜ r ≡ lineIn s (now (l .entry)) at ⌝ }
 {
-    let Field::Said(round, a1) = lines::number(l, 0, 1, 3 * s.t as u32 + 8) else {
+    let numbers = lines::read_numbers(l, &ranges(s));
+    if !numbers.found {
         return Line::Wrong;
-    };
-    let Field::Said(from, a2) = lines::number(l, a1, 1, s.n as u32) else {
-        return Line::Wrong;
-    };
-    let Field::Said(to, a3) = lines::number(l, a2, 0, s.n as u32) else {
-        return Line::Wrong;
-    };
-    let message = lines::tail(l, a3);
-    let len = wire::message_length(s.n, s.t, s.k, round as usize);
+    }
+    let v = numbers.values;
+    let round = v[0];
+    let from = v[1];
+    let to = v[2];
+    let message = lines::tail(l, numbers.end);
+    let len = wire::message_length(s.n, s.t, s.k, round);
     if !text::is_bytes(message, len) {
         return Line::Wrong;
     }
+    let place = at + numbers.end;
     Line::Said {
-        round: round as usize,
-        from: from as usize,
-        to: to as usize,
-        place: at + (l.len() - message.len()),
+        round,
+        from,
+        to,
+        place,
     }
+}
+
+// The ranges of the numbers in a message line: round, from, to.
+fn ranges(s: Settings) -> [u32; 6]
+    requires { ⌜ Coded (s .n) (s .t) (s .k) ⌝ }
+    ensures { λ r. ⌜ r ≡ messageRanges s ⌝ }
+{
+    let n = s.n as u32;
+    [1, 3 * s.t as u32 + 8, 1, n, 0, n]
 }

@@ -1,4 +1,4 @@
--- Laws of hexadecimal bytes as they are read. The main ones: `length-bytesOf`, `bytes-length` and `bytes-small`, and the turn of the loop that
+-- Laws of hexadecimal bytes as they are read. The main ones: `length-bytesOf`, `length-bytes` and `bytes-lt`, and the turn of the loop that
 -- reads a byte.
 use mathlib.Core.Path.{_≡_, refl, sym, ap, ap₂, _∙_}
 use mathlib.Core.Bool.{true, false, cond, _&&_}
@@ -51,8 +51,8 @@ module _ (b : ℕ) where
   value-none e h = other e ∙ cond-no (isHex b) (b - 0x57) 0 h
 
   -- the value is below 16
-  pub hex-small : hexOf b < 16
-  hex-small =
+  pub hex-lt : hexOf b < 16
+  hex-lt =
       ⊎-elim (λ (e : isDigit b ≡ true). omega (arith, value-digit e, digit-high b e))
       (λ (e : isDigit b ≡ false).
       ⊎-elim (λ (h : isHex b ≡ true). omega (arith, value-letter e h, letter-high e h)) (λ (h : isHex b ≡ false). omega (arith, value-none e h))
@@ -91,14 +91,14 @@ getD-bytes (a ∷ (b ∷ f)) (suc i) l =
 
 -- each is below 256
 pub byte-small : (a b : ℕ) → hexOf a * 16 + hexOf b < 256
-byte-small a b = omega (arith, hex-small a, hex-small b)
+byte-small a b = omega (arith, hex-lt a, hex-lt b)
 
-pub bytes-small : (f : List ℕ) (i : ℕ) → getD (bytesOf f) i 0 < 256
+pub bytes-lt : (f : List ℕ) (i : ℕ) → getD (bytesOf f) i 0 < 256
 unfolding bytesOf
-bytes-small [] i = omega arith
-bytes-small (a ∷ []) i = omega arith
-bytes-small (a ∷ (b ∷ f)) zero = byte-small a b
-bytes-small (a ∷ (b ∷ f)) (suc i) = bytes-small f i
+bytes-lt [] i = omega arith
+bytes-lt (a ∷ []) i = omega arith
+bytes-lt (a ∷ (b ∷ f)) zero = byte-small a b
+bytes-lt (a ∷ (b ∷ f)) (suc i) = bytes-lt f i
 
 -- ---- a field of whole bytes: the cases of the code
 module _ (len : ℕ) (f : List ℕ) where
@@ -119,8 +119,8 @@ module _ (len : ℕ) (f : List ℕ) where
   unfolding isBytes
   bytes-digits e = eqb-true (length f) (2 * len) (and-left (eqb (length f) (2 * len)) (every isHex f) e)
 
-  pub bytes-length : isBytes len f ≡ true → length (bytesOf f) ≡ len
-  bytes-length e = length-bytesOf len f (bytes-digits e)
+  pub length-bytes : isBytes len f ≡ true → length (bytesOf f) ≡ len
+  length-bytes e = length-bytesOf len f (bytes-digits e)
 
 -- ---- the loop's end: all of the shorter one
 pub read-end : (s d : List ℕ) (n : ℕ) → n ≡ min (length s) (length d) → take n s ++ drop n d ≡ take (length d) s ++ drop (length s) d

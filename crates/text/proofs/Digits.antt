@@ -1,4 +1,4 @@
--- Laws of decimal and hexadecimal digits as they are written. The main ones: `decimal-length`, `decimal-short` and `length-hexadecimal`, and the
+-- Laws of decimal and hexadecimal digits as they are written. The main ones: `decimal-le`, `decimal-short` and `length-hexadecimal`, and the
 -- turns of the loop that writes decimal digits from the last one.
 use mathlib.Core.Path.{_≡_, refl, sym, ap, _∙_}
 use mathlib.Core.List.{List, [], _∷_, _++_, append-nil, append-assoc}
@@ -69,18 +69,18 @@ places-turn m y k h =
     rw p (omega (arith, q))
 
 -- ---- how many digits
-pub digits-length : (m x : ℕ) → length (digits m x) ≤ m
+pub digits-le : (m x : ℕ) → length (digits m x) ≤ m
 unfolding digits
-digits-length zero x = omega arith
-digits-length (suc m) x =
+digits-le zero x = omega arith
+digits-le (suc m) x =
     ⊎-elim (λ (l : x < 10). omega (arith, ap length (digits-one m x l)))
-    (λ (l : 10 ≤ x). omega (arith, ap length (digits-more m x l), length-append (digits m (x / 10)) (digitByte (x % 10) ∷ []), digits-length m (x / 10)))
+    (λ (l : 10 ≤ x). omega (arith, ap length (digits-more m x l), length-append (digits m (x / 10)) (digitByte (x % 10) ∷ []), digits-le m (x / 10)))
     (lt-or-le x 10)
 
 -- no number is written with more than 20
-pub decimal-length : (x : ℕ) → length (decimal x) ≤ 20
+pub decimal-le : (x : ℕ) → length (decimal x) ≤ 20
 unfolding decimal
-decimal-length x = digits-length 20 x
+decimal-le x = digits-le 20 x
 
 digits-short : (m k x : ℕ) → x < 10 ^ suc m → length (digits k x) ≤ suc m
 unfolding digits

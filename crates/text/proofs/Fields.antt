@@ -1,5 +1,5 @@
--- Laws of the bytes before a byte and after it. The main ones: `before-length` and `before-take` (a front part of the list), `before-text` and
--- `after-text` (a text, the byte and the rest, taken apart again), and the turns of the loop that looks for the byte.
+-- Laws of the bytes before a byte and behind it. The main ones: `before-le` and `before-take` (a front part of the list), `before-text` and
+-- `behind-text` (a text, the byte and the rest, taken apart again), and the turns of the loop that looks for the byte.
 use mathlib.Core.Path.{_≡_, refl, sym, ap, _∙_}
 use mathlib.Core.Bool.{Bool, true, false}
 use mathlib.Core.List.{List, [], _∷_, _++_}
@@ -13,7 +13,7 @@ use lib.Dec.{eqb}
 use lib.ListN.{length, getD, take, drop}
 use lib.Seq.{drop-cons, drop-append-add}
 use Rattle.lists.proofs.Tests.{true≢false, and-left, and-right, cond-yes, cond-no, same-or-not}
-use Rattle.text.specs.Read.{before, after, every}
+use Rattle.text.specs.Read.{before, behind, every}
 
 -- the list starts with the byte, or with another
 pub before-at : (c x : ℕ) (l : List ℕ) → x ≡ c → before c (x ∷ l) ≡ []
@@ -25,12 +25,12 @@ unfolding before
 before-past c x l n = cond-no (eqb x c) [] (x ∷ before c l) (ne-eqb x c n)
 
 -- no longer than the list
-pub before-length : (c : ℕ) (l : List ℕ) → length (before c l) ≤ length l
+pub before-le : (c : ℕ) (l : List ℕ) → length (before c l) ≤ length l
 unfolding before
-before-length c [] = le-refl 0
-before-length c (x ∷ l) =
+before-le c [] = le-refl 0
+before-le c (x ∷ l) =
     ⊎-elim (λ (e : x ≡ c). omega (arith, ap length (before-at c x l e)))
-    (λ (n : x ≡ c → ⊥). omega (arith, ap length (before-past c x l n), before-length c l))
+    (λ (n : x ≡ c → ⊥). omega (arith, ap length (before-past c x l n), before-le c l))
     (same-or-not x c)
 
 -- a front part of the list
@@ -62,9 +62,9 @@ module _ (p : ℕ → Bool) (c : ℕ) (n : p c ≡ false) where
       before-past c x (s ++ (c ∷ r)) (passes-other x (and-left (p x) (every p s) h))
       ∙ ap (λ (l : List ℕ). x ∷ l) (before-text s r (and-right (p x) (every p s) h))
 
-  pub after-text : (s r : List ℕ) → every p s ≡ true → after c (s ++ (c ∷ r)) ≡ r
-  unfolding after
-  after-text s r h = ap (λ (l : List ℕ). drop (length l + 1) (s ++ (c ∷ r))) (before-text s r h) ∙ drop-append-add s (c ∷ r) 1
+  pub behind-text : (s r : List ℕ) → every p s ≡ true → behind c (s ++ (c ∷ r)) ≡ r
+  unfolding behind
+  behind-text s r h = ap (λ (l : List ℕ). drop (length l + 1) (s ++ (c ∷ r))) (before-text s r h) ∙ drop-append-add s (c ∷ r) 1
 
 -- ---- the loop: the place is i and what stands before the byte in the rest
 -- it is i where the byte stands there
@@ -81,8 +81,8 @@ find-past c l i h n =
 
 -- the end
 pub find-end : (c : ℕ) (l : List ℕ) (i : ℕ) → length l ≤ i → i + length (before c (drop i l)) ≡ i
-find-end c l i h = omega (arith, before-length c (drop i l), lib.ListN.length-drop i l)
+find-end c l i h = omega (arith, before-le c (drop i l), lib.ListN.length-drop i l)
 
-pub after-drop : (c : ℕ) (l : List ℕ) → after c l ≡ drop (length (before c l) + 1) l
-unfolding after
-after-drop c l = refl
+pub behind-drop : (c : ℕ) (l : List ℕ) → behind c l ≡ drop (length (before c l) + 1) l
+unfolding behind
+behind-drop c l = refl

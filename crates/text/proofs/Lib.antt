@@ -6,4 +6,5 @@ pub mod Digits
 pub mod Buffers
 pub mod RoundTrips
 pub mod LineParts
+pub mod LineNumbers
 pub mod Laws

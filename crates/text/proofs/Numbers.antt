@@ -14,7 +14,7 @@ use lib.ListN.{length, getD, drop}
 use lib.Seq.{drop-cons}
 use Rattle.lists.proofs.Tests.{true≢false, either, fails, and-left, and-right, and-both, and-no-left, and-no-right, and-tail, or-left, or-tail, cond-yes, cond-no}
 use Rattle.text.specs.declared.Number.the-variants.{Value, Wrong}
-use Rattle.text.specs.Read.{every, isDigit, digitOf, isNumber, valueFrom, valueOf, numberIn, numberOf}
+use Rattle.text.specs.Read.{every, isDigit, digitOf, isNumber, valueFrom, valueOf, numberIn, numberRead}
 use Rattle.text.specs.Steps.{headed, capped}
 
 -- ---- digits
@@ -28,9 +28,9 @@ unfolding isDigit
 digit-high b e = leb-true b 0x39 (and-right (leb 0x30 b) (leb b 0x39) e)
 
 -- the value is below 10
-pub digit-small : (b : ℕ) → isDigit b ≡ true → digitOf b < 10
+pub digit-lt : (b : ℕ) → isDigit b ≡ true → digitOf b < 10
 unfolding digitOf
-digit-small b e = omega (arith, digit-low b e, digit-high b e)
+digit-lt b e = omega (arith, digit-low b e, digit-high b e)
 
 -- the two tests of the code
 pub digit-below : (b : ℕ) → b < 0x30 → isDigit b ≡ false
@@ -144,12 +144,12 @@ module _ (high : ℕ) where
 -- ---- a number in a range
 module _ (low high : ℕ) (f : List ℕ) where
   -- the answer, by the test
-  pub number-yes : numberIn low high f ≡ true → numberOf low high f ≡ Value (valueOf f)
-  unfolding numberOf
+  pub number-yes : numberIn low high f ≡ true → numberRead low high f ≡ Value (valueOf f)
+  unfolding numberRead
   number-yes e = cond-yes (numberIn low high f) (Value (valueOf f)) Wrong e
 
-  pub number-no : numberIn low high f ≡ false → numberOf low high f ≡ Wrong
-  unfolding numberOf
+  pub number-no : numberIn low high f ≡ false → numberRead low high f ≡ Wrong
+  unfolding numberRead
   number-no e = cond-no (numberIn low high f) (Value (valueOf f)) Wrong e
 
   -- what the test says: digits with no leading zero, and the range; and back
@@ -172,13 +172,13 @@ module _ (low high : ℕ) (f : List ℕ) where
       (and-both (leb low (valueOf f)) (leb (valueOf f) high) (le-leb low (valueOf f) l) (le-leb (valueOf f) high h))
 
   -- the test, by the answer
-  pub answer-value : (v : ℕ) → numberOf low high f ≡ Value v → (numberIn low high f ≡ true) × (v ≡ valueOf f)
+  pub answer-value : (v : ℕ) → numberRead low high f ≡ Value v → (numberIn low high f ≡ true) × (v ≡ valueOf f)
   answer-value v e =
       ⊎-elim (λ (y : numberIn low high f ≡ true). (y, let s = number-yes y in cc))
       (λ (y : numberIn low high f ≡ false). let s = number-no y in let z : _≡_ {A = ℕ} 0 1 = cc in absurd (omega arith))
       (either (numberIn low high f))
 
-  pub answer-wrong : numberOf low high f ≡ Wrong → numberIn low high f ≡ false
+  pub answer-wrong : numberRead low high f ≡ Wrong → numberIn low high f ≡ false
   answer-wrong e =
       ⊎-elim (λ (y : numberIn low high f ≡ true). let s = number-yes y in let z : _≡_ {A = ℕ} 0 1 = cc in absurd (omega arith))
       (λ (y : numberIn low high f ≡ false). y)
@@ -193,18 +193,18 @@ module _ (low high : ℕ) (f : List ℕ) where
       (and-left (every isDigit f) (headed f) (sym (number-headed f) ∙ number-is e))
       (le-leb (valueFrom 0 f) high (number-range e .1)))
 
-  pub wrong-head : headed f ≡ false → numberOf low high f ≡ Wrong
+  pub wrong-head : headed f ≡ false → numberRead low high f ≡ Wrong
   wrong-head h =
       number-no (fails (numberIn low high f)
       (λ e. true≢false (sym (and-right (every isDigit f) (headed f) (sym (number-headed f) ∙ number-is e)) ∙ h)))
 
-  pub wrong-low : capped high 0 f < low → numberOf low high f ≡ Wrong
+  pub wrong-low : capped high 0 f < low → numberRead low high f ≡ Wrong
   wrong-low h = number-no (fails (numberIn low high f) (λ e. omega (arith, in-capped e, number-range e .0)))
 
-  pub wrong-high : high < capped high 0 f → numberOf low high f ≡ Wrong
+  pub wrong-high : high < capped high 0 f → numberRead low high f ≡ Wrong
   wrong-high h = number-no (fails (numberIn low high f) (λ e. omega (arith, in-capped e, number-range e .1)))
 
-  pub value-read : headed f ≡ true → low ≤ capped high 0 f → capped high 0 f ≤ high → numberOf low high f ≡ Value (capped high 0 f)
+  pub value-read : headed f ≡ true → low ≤ capped high 0 f → capped high 0 f ≤ high → numberRead low high f ≡ Value (capped high 0 f)
   value-read h l m =
       let p = capped-fits high f m in
       number-yes (number-in (number-headed f ∙ and-both (every isDigit f) (headed f) (p .0) h) (omega (arith, p .1)) (omega (arith, p .1)))

@@ -4,16 +4,20 @@
 --   nextAt input a         where the line after it starts
 --   isNames names input a  the line at a has these names, and ends in a newline
 --   rest i l, field i l    what follows the first i commas of the line l, and the field there
---   fieldAt low high l a   the number from low to high in the field of l that starts at byte a, and where the next field starts
-use mathlib.Core.Bool.{Bool, cond, _&&_}
+--   inRange rs l i         field i of the line l is a number in range i; rs has the lowest and the highest number of each range in turn
+--   inRanges rs l n        each of the first n fields is
+--   isNumbers rs l         there are four ranges at most, and the first fields are numbers in them
+--   numbersIn rs l         the values of these fields, with zeros up to four, and where what follows these fields starts
+--   noNumbers, numbersOf   the answer where this test fails; the answer
+use mathlib.Core.Bool.{Bool, true, false, cond, _&&_}
 use mathlib.Core.List.{List}
-use Prim.Native.Nat.{ℕ, zero, suc, _+_}
-use lib.Dec.{ltb}
-use lib.ListN.{length, drop}
+use Prim.Native.Nat.{ℕ, zero, suc, _+_, _-_, _*_, _/_}
+use lib.Dec.{leb, ltb}
+use lib.ListN.{length, getD, drop, replicate}
+use Rattle.lists.specs.Fill.{filled}
 use Rattle.lists.specs.Same.{same}
-use Rattle.text.specs.Read.{newline, comma, before, after, valueOf, numberIn}
-use Rattle.text.specs.declared.lines.Field.{Field}
-use Rattle.text.specs.declared.lines.Field.the-variants.{Said, Wrong}
+use Rattle.text.specs.Read.{newline, comma, before, behind, valueOf, numberIn}
+use Rattle.text.specs.declared.lines.Numbers.{Numbers}
 
 unfoldable pub lineAt : List ℕ → ℕ → List ℕ
 lineAt input a = before newline (drop a input)
@@ -29,12 +33,30 @@ isNames names input a = isEnded input a && same (lineAt input a) names
 
 unfoldable pub rest : ℕ → List ℕ → List ℕ
 rest zero l = l
-rest (suc i) l = rest i (after comma l)
+rest (suc i) l = rest i (behind comma l)
 
 unfoldable pub field : ℕ → List ℕ → List ℕ
 field i l = before comma (rest i l)
 
-unfoldable pub fieldAt : (low high : ℕ) → List ℕ → ℕ → Field
-fieldAt low high l a =
-    let f = before comma (drop a l) in
-    cond (numberIn low high f) (Said (valueOf f) (a + length f + 1)) Wrong
+abbrev pub inRange : List ℕ → List ℕ → ℕ → Bool
+inRange rs l i = numberIn (getD rs (2 * i) 0) (getD rs (2 * i + 1) 0) (field i l)
+
+unfoldable pub inRanges : List ℕ → List ℕ → ℕ → Bool
+inRanges rs l zero = true
+inRanges rs l (suc n) = inRanges rs l n && inRange rs l n
+
+unfoldable pub isNumbers : List ℕ → List ℕ → Bool
+isNumbers rs l = leb (length rs / 2) 4 && inRanges rs l (length rs / 2)
+
+abbrev pub noNumbers : Numbers
+noNumbers = record { found = false; values = replicate 4 0; end = 0 }
+
+abbrev pub numbersIn : List ℕ → List ℕ → Numbers
+numbersIn rs l = record {
+  found = true;
+  values = filled (λ i. valueOf (field i l)) (length rs / 2) (replicate 4 0);
+  end = length l - length (rest (length rs / 2) l);
+}
+
+unfoldable pub numbersOf : List ℕ → List ℕ → Numbers
+numbersOf rs l = cond (isNumbers rs l) (numbersIn rs l) noNumbers

@@ -2,14 +2,14 @@
 -- leading zero, bytes are lower case, every line ends in a newline).
 --   newline, comma        the byte that ends a line, and the one between two fields
 --   before c l            the bytes of l before its first c; all of l where it has none
---   after c l             the bytes of l after its first c; none where it has none
+--   behind c l             the bytes of l behind its first c; none where it has none
 --   every p l             each byte of l passes the test p
 --   isDigit b, digitOf b  a decimal digit, and its value
 --   isNumber f            decimal digits, at least one, and no leading zero
 --   valueFrom x f         the number that the digits of x and then the digits f say
 --   valueOf f             the number that decimal digits say
 --   numberIn low high f   f is a number from low to high
---   numberOf low high f   that number, or that f is none
+--   numberRead low high f   that number, or that f is none
 --   isHex b, hexOf b      a lower-case hexadecimal digit, and its value; 0 for any other byte
 --   isBytes len f         exactly len bytes, each two lower-case hexadecimal digits
 --   bytesOf f             the bytes that hexadecimal digits say, two digits a byte, the high one first
@@ -31,8 +31,8 @@ unfoldable pub before : ℕ → List ℕ → List ℕ
 before c [] = []
 before c (x ∷ l) = cond (eqb x c) [] (x ∷ before c l)
 
-unfoldable pub after : ℕ → List ℕ → List ℕ
-after c l = drop (length (before c l) + 1) l
+unfoldable pub behind : ℕ → List ℕ → List ℕ
+behind c l = drop (length (before c l) + 1) l
 
 unfoldable pub every : (ℕ → Bool) → List ℕ → Bool
 every p [] = true
@@ -58,8 +58,8 @@ valueOf f = valueFrom 0 f
 unfoldable pub numberIn : (low high : ℕ) → List ℕ → Bool
 numberIn low high f = isNumber f && (leb low (valueOf f) && leb (valueOf f) high)
 
-unfoldable pub numberOf : (low high : ℕ) → List ℕ → Number
-numberOf low high f = cond (numberIn low high f) (Value (valueOf f)) Wrong
+unfoldable pub numberRead : (low high : ℕ) → List ℕ → Number
+numberRead low high f = cond (numberIn low high f) (Value (valueOf f)) Wrong
 
 unfoldable pub isHex : ℕ → Bool
 isHex b = isDigit b || (leb 0x61 b && leb b 0x66)

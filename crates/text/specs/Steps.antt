@@ -1,4 +1,4 @@
--- For the contracts of the private functions; a reader of the public contracts needs none of it.
+-- For the contracts of private functions; a reader of the public contracts needs none of it.
 --   headed f         f is not empty, and starts with no zero unless it is one byte long
 --   capped high x f  the number that the digits f say after x; high + 1 where it is above high, or where f is not all digits
 --   placed at s out  out with s at the place `at`, where it has room

@@ -6,7 +6,7 @@ ghost use mathlib.Core.Path.{_≡_};
 ghost use mathlib.Core.List.{_++_};
 ghost use Prim.Native.Nat.{_+_, _*_, _≤_, _<_, min};
 ghost use lib.ListN.{length, take, drop};
-ghost use Rattle.text.specs.Read.{before, every, isDigit, isHex, hexOf, numberOf, isBytes, bytesOf};
+ghost use Rattle.text.specs.Read.{before, every, isDigit, isHex, hexOf, numberRead, isBytes, bytesOf};
 ghost use Rattle.text.specs.Write.{digitByte, hexByte, decimal, hexadecimal, appended, endOf};
 ghost use Rattle.text.specs.Steps.{headed, capped, placed};
 
@@ -32,9 +32,9 @@ pub fn find(s: &[u8], c: u8) -> usize
 }
 
 // The decimal number from low to high that a field says.
-// Shut out: a leading zero; the number high refused.
+// Shut out: the number high refused; must-fail/leading_zero_accepted.
 pub fn read_number(f: &[u8], low: u32, high: u32) -> Number
-    ensures { λ r. ⌜ r ≡ numberOf low high (now (f .entry)) ⌝ }
+    ensures { λ r. ⌜ r ≡ numberRead low high (now (f .entry)) ⌝ }
 {
     if !has_head(f) {
         return Number::Wrong;

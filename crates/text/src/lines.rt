@@ -3,17 +3,18 @@ ghost use mathlib.Core.Path.{_≡_};
 ghost use mathlib.Core.Bool.{cond};
 ghost use lib.ListN.{drop};
 ghost use Rattle.text.specs.Read.{before};
-ghost use Rattle.text.specs.Lines.{lineAt, nextAt, isNames, fieldAt};
+ghost use Rattle.text.specs.Lines.{lineAt, nextAt, isNames, noNumbers, numbersOf};
 use crate::Number;
 
 const NEWLINE: u8 = 0x0a;
 
 const COMMA: u8 = 0x2c;
 
-// A number in a field, and where the next field starts; or that the field has none.
-pub enum Field {
-    Said(u32, usize),
-    Wrong,
+// The numbers in the first fields of a line, with zeros behind them, and where what follows these fields starts; zeros where they were not found.
+pub struct Numbers {
+    pub found: bool,
+    pub values: [usize; 4],
+    pub end: usize,
 }
 
 // What stands in s from `at` on.
@@ -64,14 +65,48 @@ pub fn after_names(input: &[u8], at: usize, names: &[u8]) -> usize
     0
 }
 
-// The number from low to high in the field of l that starts at `at`.
-// Shut out: the place of the comma; a number with bytes behind it.
-pub fn number(l: &[u8], at: usize, low: u32, high: u32) -> Field
-    ensures { λ r. ⌜ r ≡ fieldAt low high (now (l .entry)) at ⌝ }
+// The numbers in the first fields of l, each in a range of its own, and four at most. `ranges` has the lowest and the highest number of each range
+// in turn.
+// Shut out: the place of the comma as the end; the first range for each field.
+pub fn read_numbers(l: &[u8], ranges: &[u32]) -> Numbers
+    ensures { λ r. ⌜ r ≡ numbersOf (now (ranges .entry)) (now (l .entry)) ⌝ }
 {
-    let f = until(l, at, COMMA);
-    match crate::read_number(f, low, high) {
-        Number::Value(x) => Field::Said(x, at + f.len() + 1),
-        Number::Wrong => Field::Wrong,
+    let count = ranges.len() / 2;
+    if 4 < count {
+        return not_found();
+    }
+    let mut values = [0usize; 4];
+    let mut at: usize = 0;
+    let mut i: usize = 0;
+    while i < count {
+        let f = until(l, at, COMMA);
+        let k = 2 * i;
+        match crate::read_number(f, ranges[k], ranges[k + 1]) {
+            Number::Value(x) => {
+                values[i] = x as usize;
+                at += f.len() + 1;
+                i += 1;
+            }
+            Number::Wrong => {
+                return not_found();
+            }
+        }
+    }
+    let rest = tail(l, at);
+    Numbers {
+        found: true,
+        values,
+        end: l.len() - rest.len(),
+    }
+}
+
+// The answer to a line without these numbers.
+fn not_found() -> Numbers
+    ensures { λ r. ⌜ r ≡ noNumbers ⌝ }
+{
+    Numbers {
+        found: false,
+        values: [0; 4],
+        end: 0,
     }
 }

@@ -11,7 +11,7 @@ use native.Mathlib.Omega.{arith}
 use lib.Dec.{T, leb, leb→le}
 use lib.ListN.{length, getD, List·getD-eq-default, List·getD-map}
 use Rattle.lists.proofs.Tests.{lt-or-le}
-use Rattle.lists.proofs.Table.{every, at}
+use Rattle.lists.proofs.Table.{everyAt, at}
 use Rattle.settings.specs.Valid.{Coded}
 use Rattle.wire.specs.declared.Round.{Round}
 use Rattle.wire.specs.declared.Round.the-variants.{Block, Pieces, Marks, Matrix, Seen, King, Forward, Rebuild, Outside}
@@ -81,7 +81,7 @@ box-bound h g = mul-le-mul h g
 small : ℕ → ℕ → Bool
 small j x = leb x 4
 
-small-row : (r : Round) → T (every small 0 (factorsOf r))
+small-row : (r : Round) → T (everyAt small 0 (factorsOf r))
 unfolding small
 small-row Block = tt
 small-row Pieces = tt
@@ -125,14 +125,14 @@ small-sums r row n t k e v =
     })
 
 -- no message is longer than 768 bytes
-pub row-most : (r : Round) (n t k : ℕ) → n ≤ 16 → t ≤ 5 → k ≤ 128 → rowLength r n t k ≤ 768
+pub row-le : (r : Round) (n t k : ℕ) → n ≤ 16 → t ≤ 5 → k ≤ 128 → rowLength r n t k ≤ 768
 unfolding rowLength blockLength
-row-most Block n t k a b c = block-bound c b
-row-most Pieces n t k a b c = omega arith
-row-most Marks n t k a b c = omega arith
-row-most Matrix n t k a b c = omega arith
-row-most Seen n t k a b c = omega arith
-row-most King n t k a b c = omega arith
-row-most Forward n t k a b c = omega arith
-row-most Rebuild n t k a b c = omega arith
-row-most Outside n t k a b c = omega arith
+row-le Block n t k a b c = block-bound c b
+row-le Pieces n t k a b c = omega arith
+row-le Marks n t k a b c = omega arith
+row-le Matrix n t k a b c = omega arith
+row-le Seen n t k a b c = omega arith
+row-le King n t k a b c = omega arith
+row-le Forward n t k a b c = omega arith
+row-le Rebuild n t k a b c = omega arith
+row-le Outside n t k a b c = omega arith

@@ -3,3 +3,5 @@ pub mod Laws
 mod Numbers
 mod Factors
 mod Slots
+mod RoundKinds
+mod Lengths

@@ -1,4 +1,4 @@
--- The tests on numbers that the code makes, in the definitions' terms: of round and call numbers (`vote-yes`, `vote-no`), and of a box's
+-- The tests on numbers that the code makes, in the definitions' terms: of round and call numbers (`yes-vote`, `no-vote`), and of a box's
 -- length with no product (`whole-slots`).
 use mathlib.Core.Path.{_≡_, refl, sym, ap, _∙_}
 use mathlib.Core.Bool.{true, false}
@@ -10,11 +10,11 @@ use borrow.Author.Tests.{le-leb, lt-leb, ne-eqb, eq-eqb, eqb-true}
 use lib.Dec.{leb, eqb}
 
 -- round c, from 4 on, is of the vote exactly where (c - 4) / 3 is at most t
-pub vote-yes : (t c : ℕ) → 4 ≤ c → (c - 4) / 3 ≤ t → leb c (3 * t + 6) ≡ true
-vote-yes t c h l = le-leb c (3 * t + 6) (omega arith)
+pub yes-vote : (t c : ℕ) → 4 ≤ c → (c - 4) / 3 ≤ t → leb c (3 * t + 6) ≡ true
+yes-vote t c h l = le-leb c (3 * t + 6) (omega arith)
 
-pub vote-no : (t c : ℕ) → t < (c - 4) / 3 → leb c (3 * t + 6) ≡ false
-vote-no t c l = lt-leb c (3 * t + 6) (omega arith)
+pub no-vote : (t c : ℕ) → t < (c - 4) / 3 → leb c (3 * t + 6) ≡ false
+no-vote t c l = lt-leb c (3 * t + 6) (omega arith)
 
 -- a number that is none of 0 to 3
 pub from-four : (c : ℕ) → (c ≡ 0 → ⊥) → (c ≡ 1 → ⊥) → (c ≡ 2 → ⊥) → (c ≡ 3 → ⊥) → 4 ≤ c

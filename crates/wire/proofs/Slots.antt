@@ -31,9 +31,9 @@ slot-end j w h =
     sym (next-offset (j - 1) w) ∙ ap (λ (i : ℕ). i * w) e
 
 -- ---- what a box holds
-pub holds-yes : (box : List ℕ) (layout : Layout) (j : ℕ) → 1 ≤ j → j * width layout ≤ length box → holds box layout j ≡ true
+pub yes-holds : (box : List ℕ) (layout : Layout) (j : ℕ) → 1 ≤ j → j * width layout ≤ length box → holds box layout j ≡ true
 unfolding holds
-holds-yes box layout j h l = and-both (not (eqb j 0)) (leb (j * width layout) (length box)) (ap not (ne-eqb j 0 (λ e. omega arith))) (le-leb (j * width layout) (length box) l)
+yes-holds box layout j h l = and-both (not (eqb j 0)) (leb (j * width layout) (length box)) (ap not (ne-eqb j 0 (λ e. omega arith))) (le-leb (j * width layout) (length box) l)
 
 pub holds-zero : (box : List ℕ) (layout : Layout) (j : ℕ) → j ≡ 0 → holds box layout j ≡ false
 unfolding holds
@@ -43,9 +43,9 @@ pub holds-past : (box : List ℕ) (layout : Layout) (j : ℕ) → length box < j
 unfolding holds
 holds-past box layout j l = and-no-right (not (eqb j 0)) (leb (j * width layout) (length box)) (lt-leb (j * width layout) (length box) l)
 
-pub holds-fits : (box : List ℕ) (layout : Layout) (j : ℕ) → holds box layout j ≡ true → (1 ≤ j) × (j * width layout ≤ length box)
+pub holds-yes : (box : List ℕ) (layout : Layout) (j : ℕ) → holds box layout j ≡ true → (1 ≤ j) × (j * width layout ≤ length box)
 unfolding holds
-holds-fits box layout j e =
+holds-yes box layout j e =
     let z : j ≡ 0 → ⊥ = eqb-false j 0 (borrow.Author.Tests.not-true (eqb j 0) (and-left (not (eqb j 0)) (leb (j * width layout) (length box)) e)) in
     (omega arith, leb-true (j * width layout) (length box) (and-right (not (eqb j 0)) (leb (j * width layout) (length box)) e))
 
@@ -64,10 +64,10 @@ module _ (box : List ℕ) (layout : Layout) (j : ℕ) where
   message-held h e = cond-yes (holds box layout j && isPresent (slotOf box layout j)) (drop header (slotOf box layout j)) [] (and-both (holds box layout j) (isPresent (slotOf box layout j)) h e)
 
   -- a slot that is held is as wide as a slot
-  pub length-slot : holds box layout j ≡ true → length (slotOf box layout j) ≡ width layout
+  pub length-held : holds box layout j ≡ true → length (slotOf box layout j) ≡ width layout
   unfolding slotOf part
-  length-slot h =
-      let f = holds-fits box layout j h in
+  length-held h =
+      let f = holds-yes box layout j h in
       length-take-le (width layout) (drop ((j - 1) * width layout) box)
       (subst (λ (m : ℕ). width layout ≤ m) (sym (length-drop ((j - 1) * width layout) box)) (omega (arith, slot-end j (width layout) (f .0), f .1)))
 
@@ -77,13 +77,13 @@ module _ (box : List ℕ) (layout : Layout) (j : ℕ) where
       getD-take (width layout) (drop ((j - 1) * width layout) box) 0 0 (width-pos layout)
       ∙ getD-drop ((j - 1) * width layout) box 0 0 ∙ ap (λ (x : ℕ). getD box x 0) (add-zero ((j - 1) * width layout))
 
-  pub present-yes : getD box ((j - 1) * width layout) 0 ≡ 1 → isPresent (slotOf box layout j) ≡ true
+  pub yes-present : getD box ((j - 1) * width layout) 0 ≡ 1 → isPresent (slotOf box layout j) ≡ true
   unfolding isPresent
-  present-yes e = eq-eqb (getD (slotOf box layout j) 0 0) 1 (first-byte ∙ e)
+  yes-present e = eq-eqb (getD (slotOf box layout j) 0 0) 1 (first-byte ∙ e)
 
-  pub present-no : (getD box ((j - 1) * width layout) 0 ≡ 1 → ⊥) → isPresent (slotOf box layout j) ≡ false
+  pub no-present : (getD box ((j - 1) * width layout) 0 ≡ 1 → ⊥) → isPresent (slotOf box layout j) ≡ false
   unfolding isPresent
-  present-no n = ne-eqb (getD (slotOf box layout j) 0 0) 1 (λ e. n (sym first-byte ∙ e))
+  no-present n = ne-eqb (getD (slotOf box layout j) 0 0) 1 (λ e. n (sym first-byte ∙ e))
 
 -- ---- where a message starts
 module _ (box : List ℕ) (layout : Layout) (j : ℕ) where
@@ -112,7 +112,7 @@ placed-or-none box layout j =
     (λ (h : holds box layout j ≡ true).
     ⊎-elim
     (λ (p : isPresent (slotOf box layout j) ≡ true).
-    let f = holds-fits box layout j h in
+    let f = holds-yes box layout j h in
     let e : offsetOf box layout j ≡ (j - 1) * width layout + header = offset-held box layout j h p in
     let inner : width layout - header ≡ layout .length = omega arith in
     inl
@@ -161,7 +161,7 @@ length-message box layout j n =
     (λ (h : holds box layout j ≡ true).
     ⊎-elim
     (λ (p : isPresent (slotOf box layout j) ≡ true).
-    ap length (message-held box layout j h p) ∙ length-drop header (slotOf box layout j) ∙ omega (arith, length-slot box layout j h))
+    ap length (message-held box layout j h p) ∙ length-drop header (slotOf box layout j) ∙ omega (arith, length-held box layout j h))
     (λ (p : isPresent (slotOf box layout j) ≡ false). absurd (n (ap length (message-absent box layout j p))))
     (either (isPresent (slotOf box layout j))))
     (λ (h : holds box layout j ≡ false). absurd (n (ap length (message-none box layout j h))))
@@ -230,7 +230,7 @@ unfolding written isPresent
 message-of-slot box layout j silence least fits e =
     message-absent box layout j (ap isPresent e ∙ ne-eqb (getD (replicate (width layout) 0) 0 0) 1 (λ z. omega (arith, getD-replicate {A = ℕ} (width layout) 0 0 0 (width-pos layout))))
 message-of-slot box layout j (bytes m) least fits e =
-    message-held box layout j (holds-yes box layout j least fits) (ap isPresent e) ∙ ap (drop header) e
+    message-held box layout j (yes-holds box layout j least fits) (ap isPresent e) ∙ ap (drop header) e
 
 -- what holds of 0, of 1 and of each byte of what is sent holds of each byte of what is written
 module _ (P : ℕ → Type 0) (none : P 0) (mark : P 1) where
@@ -258,7 +258,7 @@ pub put-held : (box : List ℕ) (layout : Layout) (j : ℕ) (m : List ℕ) → 1
 unfolding putSlot
 put-held box layout j m h l e =
     cond-yes (holds box layout j && eqb (length m) (layout .length)) _ box
-    (and-both (holds box layout j) (eqb (length m) (layout .length)) (holds-yes box layout j h l) (eq-eqb (length m) (layout .length) e))
+    (and-both (holds box layout j) (eqb (length m) (layout .length)) (yes-holds box layout j h l) (eq-eqb (length m) (layout .length) e))
 
 -- ---- a slot passed on
 module _ (box : List ℕ) (layout : Layout) (j : ℕ) (src : List ℕ) (i : ℕ) where
@@ -275,7 +275,7 @@ module _ (box : List ℕ) (layout : Layout) (j : ℕ) (src : List ℕ) (i : ℕ)
   unfolding relayed
   relay-held a b c d =
       cond-yes (holds box layout j && holds src layout i) _ box
-      (and-both (holds box layout j) (holds src layout i) (holds-yes box layout j a b) (holds-yes src layout i c d))
+      (and-both (holds box layout j) (holds src layout i) (yes-holds box layout j a b) (yes-holds src layout i c d))
 
 -- one message to all, in an outbox that is as long as its slots
 pub to-all : (layout : Layout) (n : ℕ) (m o : List ℕ) → length m ≡ layout .length → length o ≡ n * width layout
@@ -372,10 +372,10 @@ module _ (box : List ℕ) (layout : Layout) (j : ℕ) where
       slot-fits = omega (arith, within, slot-end j (width layout) some)
 
       pub absent-slot : (getD box ((j - 1) * width layout) 0 ≡ 1 → ⊥) → 0 ≡ offsetOf box layout j
-      absent-slot n = sym (offset-absent box layout j (present-no box layout j n))
+      absent-slot n = sym (offset-absent box layout j (no-present box layout j n))
 
       pub present-slot : getD box ((j - 1) * width layout) 0 ≡ 1 → (j - 1) * width layout + header ≡ offsetOf box layout j
-      present-slot e = sym (offset-held box layout j (holds-yes box layout j some within) (present-yes box layout j e))
+      present-slot e = sym (offset-held box layout j (yes-holds box layout j some within) (yes-present box layout j e))
 
       -- slot j written with a message that was lent to it
       pub put-part : (m v : List ℕ) → length m ≡ layout .length → v ≡ written layout (bytes m)
@@ -433,16 +433,16 @@ length-rest layout f sized o box j h e =
 
 -- ---- a box as parts of one width
 -- how large boxes are, for those who hold them
-pub width-most : (layout : Layout) → width layout ≤ layout .length + 1
+pub width-le : (layout : Layout) → width layout ≤ layout .length + 1
 unfolding width
-width-most layout = omega arith
+width-le layout = omega arith
 
-pub slot-part : (box : List ℕ) (layout : Layout) (j : ℕ) → slotOf box layout j ≡ part (width layout) box (j - 1)
+pub slot-is : (box : List ℕ) (layout : Layout) (j : ℕ) → slotOf box layout j ≡ part (width layout) box (j - 1)
 unfolding slotOf
-slot-part box layout j = refl
+slot-is box layout j = refl
 
-pub slot-length : (box : List ℕ) (layout : Layout) (j : ℕ) → 1 ≤ j → j * width layout ≤ length box → length (slotOf box layout j) ≡ width layout
-slot-length box layout j some room = length-slot box layout j (holds-yes box layout j some room)
+pub length-slot : (box : List ℕ) (layout : Layout) (j : ℕ) → 1 ≤ j → j * width layout ≤ length box → length (slotOf box layout j) ≡ width layout
+length-slot box layout j some room = length-held box layout j (yes-holds box layout j some room)
 
 pub silent-slot : (layout : Layout) → written layout silence ≡ replicate (width layout) 0
 unfolding written
@@ -467,3 +467,16 @@ module _ (layout : Layout) (p r : List ℕ) (j : ℕ) (front : length p ≡ j * 
   pub relay-into : (src : List ℕ) (i : ℕ) → 1 ≤ i → i * width layout ≤ length src
       → relayed (p ++ r) layout (j + 1) src i ≡ p ++ (slotOf src layout i ++ drop (width layout) r)
   relay-into src i some held = relay-held (p ++ r) layout (j + 1) src i (omega arith) within-box some held ∙ behind (slotOf src layout i)
+
+-- ---- what arrives
+-- slot j of what was written, read back
+pub read-back : (layout : Layout) (f : ℕ → Sent) → ((i : ℕ) → Sized layout (f i)) → (n j : ℕ) → 1 ≤ j → j ≤ n → messageOf (slots layout f n) layout j ≡ content (f j)
+read-back layout f sized n j h l =
+    message-of-slot (slots layout f n) layout j (f j) h (subst (λ (m : ℕ). j * width layout ≤ m) (sym (length-slots layout f sized n)) (mul-le-mul-right (width layout) l))
+    (slot-of-slots layout f sized n j h l)
+
+-- a slot that arrived, byte for byte, as it was sent is read as what was sent
+pub arrived : (layout : Layout) (f : ℕ → Sent) → ((i : ℕ) → Sized layout (f i)) → (inbox outbox : List ℕ) (n i j : ℕ) → outbox ≡ slots layout f n
+    → 1 ≤ j → j ≤ n → 1 ≤ i → i * width layout ≤ length inbox → slotOf inbox layout i ≡ slotOf outbox layout j → messageOf inbox layout i ≡ content (f j)
+arrived layout f sized inbox outbox n i j e hj lj hi li same =
+    message-of-slot inbox layout i (f j) hi li (same ∙ ap (λ (o : List ℕ). slotOf o layout j) e ∙ slot-of-slots layout f sized n j hj lj)

@@ -67,7 +67,7 @@ fn in_settings(n: usize, t: usize, k: usize) -> bool
 }
 
 // The length of a block; 0 outside the settings.
-// Shut out: k × (t + 2); and must-fail/wrong_factor for the table.
+// Shut out: k × (t + 2); k outside the settings.
 pub fn block_length(n: usize, t: usize, k: usize) -> usize
     ensures { λ r. ⌜ r ≡ blockSize n t k ⌝ }
 {
@@ -78,7 +78,7 @@ pub fn block_length(n: usize, t: usize, k: usize) -> usize
 }
 
 // The layout of the slots of a kind of round; messages of length 0 outside the settings.
-// Shut out: TODO; a wrong factor (must-fail edit).
+// Shut out: messages of a block, whatever the kind; length 1 outside the settings; must-fail/wrong_factor.
 pub fn kind_layout(kind: Round, n: usize, t: usize, k: usize) -> Layout
     ensures { λ r. ⌜ r ≡ kindLayout kind n t k ⌝ }
 {
@@ -89,7 +89,7 @@ pub fn kind_layout(kind: Round, n: usize, t: usize, k: usize) -> Layout
 }
 
 // The layout of the slots of round c.
-// Shut out: that of round t; TODO.
+// Shut out: that of round t; k and t the other way round.
 pub fn round_layout(n: usize, t: usize, k: usize, c: usize) -> Layout
     ensures { λ r. ⌜ r ≡ roundLayout n t k c ⌝ }
 {
@@ -97,7 +97,7 @@ pub fn round_layout(n: usize, t: usize, k: usize, c: usize) -> Layout
 }
 
 // The length of a message of round c; 0 outside the settings and rounds.
-// Shut out: that of round t; a wrong factor (must-fail edit).
+// Shut out: that of round t; the width of a slot.
 pub fn message_length(n: usize, t: usize, k: usize, c: usize) -> usize
     ensures { λ r. ⌜ r ≡ messageLength n t k c ⌝ }
 {

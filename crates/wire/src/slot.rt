@@ -18,7 +18,7 @@ pub const HEADER: usize = 1;
 const PRESENT: u8 = 1;
 
 // Slots with messages of `len` bytes.
-// Shut out: TODO.
+// Shut out: messages of length 0; of the length of a slot.
 pub fn layout_with(len: usize) -> Layout
     ensures { λ r. ⌜ r ≡ layoutWith len ⌝ }
 {
@@ -27,7 +27,7 @@ pub fn layout_with(len: usize) -> Layout
 
 // Where in an inbox the message of slot j starts; 0 where there is none: the slot is absent, j is 0, or the inbox
 // does not hold the slot whole.
-// Shut out: an absent slot taken for a present one; a slot off by one (must-fail edits).
+// Shut out: must-fail/absent_as_present; must-fail/slot_off_by_one.
 pub fn offset(inbox: &[u8], layout: Layout, j: usize) -> usize
     ensures { λ r. ⌜ r ≡ offsetOf (now (inbox .entry)) layout j ⌝ }
 {

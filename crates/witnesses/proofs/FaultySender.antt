@@ -38,7 +38,7 @@ use Rattle.reconstruction.specs.Reconstruction.{inCore, forwarded, votes, isCho
 use Rattle.protocol.specs.Calls.{callOf}
 use Rattle.protocol.specs.Step.{startRefusal, startOf, lengthsFit, stepRefusal, stepOf}
 use Rattle.agreement.specs.Agreement.{System, Correct, Supposed, lastCore, lastInbox, Holds}
-use Rattle.agreement.proofs.Agreement.{agreement}
+use Rattle.agreement.proofs.Laws.{agreement}
 use Rattle.witnesses.proofs.Test.{Meets, meets-supposed, Step, small, small-bytes, smalls, lents, present, absent, rows, box}
 
 stepsOf : ℕ → List ℕ → List ℕ → ℕ → List Step

@@ -21,7 +21,7 @@ use Rattle.polynomial.specs.Polynomial.{Bytes}
 use Rattle.wire.specs.Length.{roundLayout}
 use Rattle.wire.specs.Slot.{slotOf}
 use Rattle.protocol.specs.Step.{startOf}
-use Rattle.agreement.specs.Run.{Lent, Held, Made, stepped, left}
+use Rattle.agreement.specs.Run.{Lent, Local, Made, stepped, left}
 use Rattle.agreement.specs.Agreement.{System, Supposed, callsOf, call, last, noCall}
 
 -- the test b, where a holds
@@ -133,6 +133,6 @@ rows a b c d = a ∷ 0 ∷ b ∷ 0 ∷ c ∷ 0 ∷ d ∷ 0 ∷ []
 abbrev pub box : (a b c d : List ℕ) → List ℕ
 box a b c d = a ++ (b ++ (c ++ d))
 
-unfoldable pub answers : Held → List Lent → List ℕ
+unfoldable pub answers : Local → List Lent → List ℕ
 answers h [] = []
 answers h (l ∷ ls) = stepped h l .answer .number ∷ answers (left h l) ls

@@ -33,7 +33,7 @@ use Rattle.reconstruction.specs.Reconstruction.{inCore, forwarded, votes, isCho
 use Rattle.protocol.specs.Calls.{callOf}
 use Rattle.protocol.specs.Step.{startRefusal, startOf, lengthsFit, stepRefusal, stepOf}
 use Rattle.agreement.specs.Agreement.{System, Correct, Supposed, Concluded, Holds, atStart}
-use Rattle.agreement.proofs.Agreement.{agreement}
+use Rattle.agreement.proofs.Laws.{agreement}
 use Rattle.witnesses.proofs.Test.{each, Meets, meets-supposed, answers, Step, small, small-bytes, smalls, lents, present, absent, rows, box}
 
 abbrev zeros : List ℕ

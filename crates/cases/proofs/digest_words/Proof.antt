@@ -5,7 +5,7 @@ use Prim.Native.Nat.{ℕ, _+_, _-_, _≤_, _<_, zero-le}
 use mathlib.Core.Path.{_≡_, refl, sym, ap, _∙_}
 use native.Mathlib.Omega.{arith}
 use Rattle.cases.specs.Random.{mixed, digested}
-use Rattle.cases.proofs.Laws.{digested-more, digested-all}
+use Rattle.cases.proofs.Digests.{digested-more, digested-all}
 use Rattle.cases.proofs.digest_words.Statement.{statement}
 use Rattle.cases.proofs.digest_words.Tie as tie
 

@@ -1,6 +1,6 @@
 -- `cases::mix` meets its contract.
 use mathlib.Core.Path.{ap, _∙_}
-use Rattle.cases.specs.Random.{next, mixed}
+use Rattle.cases.specs.Random.{nextRandom, mixed}
 use borrow.Author.Needs.{needs}
 use Rattle.cases.proofs.mix.Statement.{statement}
 use Rattle.cases.proofs.mix.Tie as tie
@@ -13,7 +13,7 @@ next-requires c κs = search needs
 
 returns : tie.Need-returns
 unfolding mixed
-returns c = c .next .ensures ∙ ap next (c .before .wrapping-add-u64 .ensures)
+returns c = c .next .ensures ∙ ap nextRandom (c .before .wrapping-add-u64 .ensures)
 
 pub mix-spec : {M : Type 1} → statement M
 mix-spec = tie.close (tie.spec wrapping-add-u64-requires next-requires returns)

@@ -1,6 +1,6 @@
 -- `cases::next` meets its contract.
 use mathlib.Core.Path.{refl}
-use Rattle.cases.specs.Random.{next}
+use Rattle.cases.specs.Random.{nextRandom}
 use borrow.Author.Needs.{needs}
 use Rattle.cases.proofs.next.Statement.{statement}
 use Rattle.cases.proofs.next.Tie as tie
@@ -12,7 +12,7 @@ add-result : tie.Need-add-result
 add-result c = search needs
 
 returns : tie.Need-returns
-unfolding next
+unfolding nextRandom
 returns c = refl
 
 pub next-spec : {M : Type 1} → statement M

@@ -1,5 +1,5 @@
 -- `controller::step` meets its contract: refused, everything comes back; else the call.
-use Rattle.protocol.proofs.Laws.{refused, performed, ready-of}
+use Rattle.protocol.proofs.Laws.{step-refused, step-carried, step-0}
 use Rattle.protocol.specs.Step.{after, done}
 use lib.ListN.{length}
 use denote.Ref.{now}
@@ -18,13 +18,13 @@ returns c =
     let a = c .before .before .before .before .before .args in
     let r = c .before .step-refusal in
     ap (λ (x : ℕ). after (record { number = x; state = a .s }) (now (a .block)) (now (a .outbox))) (r .ensures)
-    ∙ sym (refused (a .s) (now (a .block)) (now (a .inbox)) (now (a .outbox)) (λ z. c .if1 .taken (r .ensures ∙ z)))
+    ∙ sym (step-refused (a .s) (now (a .block)) (now (a .inbox)) (now (a .outbox)) (λ z. c .if1 .taken (r .ensures ∙ z)))
 
 perform-requires : tie.Need-perform-requires
 perform-requires c κs =
     let I = c .before .before in
     let a = I .before .before .before .before .before .args in
-    let r = ready-of (a .s) (length (now (a .block))) (length (now (a .inbox))) (length (now (a .outbox))) (sym (I .before .step-refusal .ensures) ∙ I .if1 .left) in
+    let r = step-0 (a .s) (length (now (a .block))) (length (now (a .inbox))) (length (now (a .outbox))) (sym (I .before .step-refusal .ensures) ∙ I .if1 .left) in
     record { few = r .valid .coded .quorum .n-most; least = r .next-least; most = omega (arith, r .next-most, r .valid .coded .quorum .t-most, r .valid .coded .quorum .n-most) }
 
 same-length : tie.Need-same-length
@@ -38,7 +38,7 @@ returns-2 c =
     let I = c .before .before .before .before .before .before .before in
     let a = I .before .before .before .before .before .args in
     ap done (c .before .before .before .before .perform .ensures)
-    ∙ sym (performed (a .s) (now (a .block)) (now (a .inbox)) (now (a .outbox)) (sym (I .before .step-refusal .ensures) ∙ I .if1 .left))
+    ∙ sym (step-carried (a .s) (now (a .block)) (now (a .inbox)) (now (a .outbox)) (sym (I .before .step-refusal .ensures) ∙ I .if1 .left))
 
 pub step-spec : {M : Type 1} → statement M
 step-spec =

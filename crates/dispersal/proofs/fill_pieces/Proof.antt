@@ -1,8 +1,8 @@
 -- `fill_pieces` meets its contract: m begins with the own piece, and the loop writes slot after slot.
 use Rattle.dispersal.proofs.Steps.{first-piece, paired, two-pieces-sized}
-use Rattle.dispersal.proofs.Laws.{two-pieces-is}
+use Rattle.dispersal.proofs.Calls.{two-pieces-is}
 use Rattle.dispersal.specs.Dispersal.{twoPieces}
-use Rattle.reed_solomon.proofs.Laws.{piece-length}
+use Rattle.reed_solomon.proofs.Laws.{length-piece}
 use Rattle.reed_solomon.specs.Encode.{pieceOf}
 use Rattle.wire.proofs.Laws.{slots-start, put-next-slot, slots-all, length-rest}
 use Rattle.wire.specs.Slot.{width, slots}
@@ -35,7 +35,7 @@ loop-holds c =
       omega arith,
       W .write-piece .kept .1 .1 .1 .1 .1 .0 ∙ S .pre .2,
       first-piece (a .k) (pieceOf (a .k) (a .t) (a .block .now) (a .own)) (a .m .now) (W .write-piece .last .1 .1 .1 .1 .1 .0)
-          (piece-length (a .k) (a .t) (a .block .now) (a .own)) (W .write-piece .ensures),
+          (length-piece (a .k) (a .t) (a .block .now) (a .own)) (W .write-piece .ensures),
       slots-start (a .layout) (twoPieces (a .k) (a .t) (a .own) (a .block .now)) (a .outbox .now) _ refl,
     )
 
@@ -70,7 +70,7 @@ loop-again c =
     let long : length m' ≡ a .layout .length = W .write-piece2 .kept .1 .1 .1 .1 .1 .0 ∙ L .loop .inv .1 in (
       omega (arith, T .loop-test .taken),
       long,
-      ap (take (a .k)) pair ∙ take-at p q (a .k) (piece-length (a .k) (a .t) (a .block .now) (a .own)),
+      ap (take (a .k)) pair ∙ take-at p q (a .k) (length-piece (a .k) (a .t) (a .block .now) (a .own)),
       c .before .before .send-one .ensures
           ∙ put-next-slot (a .layout) (twoPieces (a .k) (a .t) (a .own) (a .block .now)) (two-pieces-sized (a .k) (a .t) (a .own) (a .block .now) (a .layout) (S .pre .1)) (a .outbox .now) (L .loop .outbox) m' (L .loop .j)
           (omega (arith, slot-within (a .n) (width (a .layout)) (L .loop .j) (omega (arith, T .loop-test .taken)), next-offset (L .loop .j) (width (a .layout)), S .pre .3)) (L .loop .inv .3)

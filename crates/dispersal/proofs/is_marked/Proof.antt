@@ -1,6 +1,6 @@
 -- `is_marked` meets its contract.
 use Rattle.dispersal.proofs.Steps.{paired, marked-own, marked-absent, marked-present}
-use Rattle.reed_solomon.proofs.Laws.{piece-length}
+use Rattle.reed_solomon.proofs.Laws.{length-piece}
 use Rattle.reed_solomon.specs.Encode.{pieceOf}
 use Rattle.lists.specs.Same.{same}
 use lib.Seq.{take-at}
@@ -54,7 +54,7 @@ returns-3 c =
           ∙ ap (λ (x : List ℕ). same (take (a .k) x) (drop (a .k) m') && same (drop (a .k) x) (take (a .k) m')) (M .message .ensures)
           ∙ marked-present (a .k) (a .t) (a .own) (a .inbox .now) (a .layout) (a .block .now) (a .j) (M .before .if1 .left) m'
           (λ e. W .before .before .if2 .left (ap length (M .message .ensures) ∙ e)) pair,
-      ap (take (a .k)) pair ∙ take-at p q (a .k) (piece-length (a .k) (a .t) (a .block .now) (a .own)),
+      ap (take (a .k)) pair ∙ take-at p q (a .k) (length-piece (a .k) (a .t) (a .block .now) (a .own)),
     )
 
 pub is-marked-spec : {M : Type 1} → statement M

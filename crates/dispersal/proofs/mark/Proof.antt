@@ -1,5 +1,5 @@
 -- `mark` meets its contract.
-use Rattle.dispersal.proofs.Steps.{two-pieces-length, pair-room}
+use Rattle.dispersal.proofs.Steps.{kind-pieces, pair-room}
 use Rattle.wire.specs.declared.slot.Layout.{Layout}
 use native.Mathlib.Omega.{arith}
 use Prim.Native.Nat.{_*_}
@@ -12,7 +12,7 @@ kind-layout-requires : tie.Need-kind-layout-requires
 kind-layout-requires c κs = search needs
 
 two : (c : tie.After-kind-layout) → c .kind-layout .result .length ≡ 2 * c .before .before .before .args .k
-two c = ap (λ (l : Layout). l .length) (c .kind-layout .ensures) ∙ two-pieces-length (c .before .before .before .pre .coded)
+two c = ap (λ (l : Layout). l .length) (c .kind-layout .ensures) ∙ kind-pieces (c .before .before .before .pre .coded)
 
 array-borrow-prefix-m : tie.Need-array-borrow-prefix-m
 array-borrow-prefix-m c = omega (arith, two c, c .before .before .before .pre .coded .k-most)

@@ -1,7 +1,7 @@
 -- `mark_each` meets its contract: m begins with the own piece, and the loop makes the set of those marked.
 use Rattle.dispersal.proofs.Steps.{first-piece}
 use Rattle.dispersal.specs.Dispersal.{isMarked}
-use Rattle.reed_solomon.proofs.Laws.{piece-length}
+use Rattle.reed_solomon.proofs.Laws.{length-piece}
 use Rattle.reed_solomon.specs.Encode.{pieceOf}
 use Rattle.bitset.proofs.Laws.{set-none, insert-next, insert-skip}
 use Rattle.bitset.specs.Set.{setOf, inserted}
@@ -31,7 +31,7 @@ loop-holds c =
       omega arith,
       W .write-piece .kept .1 .1 .1 .1 .1 .0 ∙ S .pre .1,
       first-piece (a .k) (pieceOf (a .k) (a .t) (a .block .now) (a .own)) (a .m .now) (W .write-piece .last .1 .1 .1 .1 .1 .0)
-          (piece-length (a .k) (a .t) (a .block .now) (a .own)) (W .write-piece .ensures),
+          (length-piece (a .k) (a .t) (a .block .now) (a .own)) (W .write-piece .ensures),
       sym (set-none (λ j. isMarked (a .k) (a .t) (a .own) (a .inbox .now) (a .layout) (a .block .now) (j + 1))),
     )
 

@@ -1,6 +1,6 @@
 -- `marks` meets its contract.
 use Rattle.reed_solomon.specs.Encode.{isReady}
-use Rattle.reed_solomon.proofs.Laws.{ready-says}
+use Rattle.reed_solomon.proofs.Laws.{ready-yes}
 use Rattle.dispersal.specs.Dispersal.{isMarked, marksOf}
 use Rattle.bitset.specs.Set.{setOf}
 use Rattle.lists.proofs.Tests.{cond-yes, cond-no}
@@ -17,7 +17,7 @@ is-ready-requires c κs = search needs
 mark-requires : tie.Need-mark-requires
 mark-requires c κs =
     let a = c .before .before .before .before .args in
-    ready-says (a .n) (a .t) (a .k) (a .own) (a .block .now) true (sym (c .before .is-ready .ensures) ∙ c .if1 .taken) .0
+    ready-yes (a .n) (a .t) (a .k) (a .own) (a .block .now) true (sym (c .before .is-ready .ensures) ∙ c .if1 .taken) .0
 
 returns : tie.Need-returns
 unfolding marksOf

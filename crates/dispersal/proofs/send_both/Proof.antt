@@ -1,5 +1,5 @@
 -- `send_both` meets its contract.
-use Rattle.dispersal.proofs.Steps.{two-pieces-length, pair-room}
+use Rattle.dispersal.proofs.Steps.{kind-pieces, pair-room}
 use Rattle.wire.specs.declared.slot.Layout.{Layout}
 use native.Mathlib.Omega.{arith}
 use Prim.Native.Nat.{_*_}
@@ -9,7 +9,7 @@ use Rattle.dispersal.proofs.send_both.Statement.{statement}
 use Rattle.dispersal.proofs.send_both.Tie as tie
 
 two : (c : tie.Start) → c .args .layout .length ≡ 2 * c .args .k
-two c = ap (λ (l : Layout). l .length) (c .pre .1) ∙ two-pieces-length (c .pre .0 .coded)
+two c = ap (λ (l : Layout). l .length) (c .pre .1) ∙ kind-pieces (c .pre .0 .coded)
 
 array-borrow-prefix-m : tie.Need-array-borrow-prefix-m
 array-borrow-prefix-m c = let S = c .before .before in omega (arith, two S, S .pre .0 .coded .k-most)

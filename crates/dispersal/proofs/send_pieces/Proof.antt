@@ -1,6 +1,6 @@
 -- `send_pieces` meets its contract.
 use Rattle.reed_solomon.specs.Encode.{isReady}
-use Rattle.reed_solomon.proofs.Laws.{ready-says}
+use Rattle.reed_solomon.proofs.Laws.{ready-yes}
 use Rattle.dispersal.specs.Dispersal.{twoPieces, sentPieces}
 use Rattle.wire.specs.declared.slot.Layout.{Layout}
 use Rattle.wire.specs.declared.Round.the-variants.{Pieces}
@@ -32,7 +32,7 @@ send-both-requires c κs =
     let H = R .before in
     let K = H .before .before in
     let a = K .before .before .before .args in
-    let r = ready-says (a .n) (a .t) (a .k) (a .own) (a .block .now) (H .holds-exactly .result) (sym (R .is-ready .ensures) ∙ c .before .if1 .taken) in
+    let r = ready-yes (a .n) (a .t) (a .k) (a .own) (a .block .now) (H .holds-exactly .result) (sym (R .is-ready .ensures) ∙ c .before .if1 .taken) in
     (r .0, K .kind-layout .ensures, eqb-true (length (a .outbox .now)) (a .n * width (K .kind-layout .result)) (sym (H .holds-exactly .ensures) ∙ r .1))
 
 -- the test that is made is the one that the definition makes

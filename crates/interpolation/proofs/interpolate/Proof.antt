@@ -1,8 +1,8 @@
 -- `interpolate` meets its contract. The invariant: the state after the first i points.
 use Rattle.interpolation.proofs.Zeros.{set-constant, zeros-constant}
-use Rattle.interpolation.specs.Steps.{stateOf, Sized}
+use Rattle.interpolation.specs.Steps.{ratiosOf, SameWidth}
 use Rattle.interpolation.proofs.Laws.{start-state, run-none, run-more}
-use Rattle.interpolation.specs.Interpolation.{Pair, pair, state, constant, run, next}
+use Rattle.interpolation.specs.Interpolation.{Ratio, ratio, ratios, constant, run, next}
 use lib.ListN.{length, getD, set, length-replicate, length-set}
 use native.Mathlib.Omega.{arith}
 use Prim.Native.Nat.{ℕ, _+_, _-_, _≤_}
@@ -12,7 +12,7 @@ use Rattle.interpolation.proofs.interpolate.Statement.{statement}
 use Rattle.interpolation.proofs.interpolate.Tie as tie
 
 abbrev Inv-loop : tie.InvT-loop
-Inv-loop xs ys t qa₀ ea₀ qb₀ eb₀ u₀ v₀ i₀ qa ea qb eb u v i = (i ≤ length xs) × (u + v ≡ i + t) × Sized (length xs + t + 1) qa ea qb eb × (stateOf qa ea u qb eb v ≡ run t xs ys i)
+Inv-loop xs ys t qa₀ ea₀ qb₀ eb₀ u₀ v₀ i₀ qa ea qb eb u v i = (i ≤ length xs) × (u + v ≡ i + t) × SameWidth (length xs + t + 1) qa ea qb eb × (ratiosOf qa ea u qb eb v ≡ run t xs ys i)
 
 abbrev μ-loop : tie.MeasureT-loop
 μ-loop xs ys t qa₀ ea₀ qb₀ eb₀ u₀ v₀ i₀ qa ea qb eb u v i = length xs - i
@@ -28,10 +28,10 @@ loop-holds c =
     let a = c .before .before .before .before .before .before .args in
     let h = c .before .before .before .before .before .before .pre in
     let w = length (a .xs .now) + a .t + 1 in
-    let A : pair (set (a .qa .now) 0 1) (a .ea .now) ≡ pair (constant w 1) (constant w 0) =
-    ap₂ pair (ap (λ l. set l 0 1) (h .zero-qa) ∙ set-constant w 1 (omega arith)) (h .zero-ea ∙ zeros-constant w (omega arith)) in
-    let B : pair (a .qb .now) (set (a .eb .now) 0 1) ≡ pair (constant w 0) (constant w 1) =
-    ap₂ pair (h .zero-qb ∙ zeros-constant w (omega arith)) (ap (λ l. set l 0 1) (h .zero-eb) ∙ set-constant w 1 (omega arith)) in (
+    let A : ratio (set (a .qa .now) 0 1) (a .ea .now) ≡ ratio (constant w 1) (constant w 0) =
+    ap₂ ratio (ap (λ l. set l 0 1) (h .zero-qa) ∙ set-constant w 1 (omega arith)) (h .zero-ea ∙ zeros-constant w (omega arith)) in
+    let B : ratio (a .qb .now) (set (a .eb .now) 0 1) ≡ ratio (constant w 0) (constant w 1) =
+    ap₂ ratio (h .zero-qb ∙ zeros-constant w (omega arith)) (ap (λ l. set l 0 1) (h .zero-eb) ∙ set-constant w 1 (omega arith)) in (
       omega arith,
       refl,
       record {
@@ -40,7 +40,7 @@ loop-holds c =
         size-qb = ap length (h .zero-qb) ∙ length-replicate w 0;
         size-eb = length-set (a .eb .now) 0 1 ∙ ap length (h .zero-eb) ∙ length-replicate w 0;
       },
-      ap₂ (λ (P R : Pair). state P 0 R (a .t)) A B ∙ sym (run-none (a .t) (a .xs .now) (a .ys .now) ∙ start-state w (a .t)),
+      ap₂ (λ (P R : Ratio). ratios P 0 R (a .t)) A B ∙ sym (run-none (a .t) (a .xs .now) (a .ys .now) ∙ start-state w (a .t)),
     )
 
 shared-slice-read-next : tie.Need-shared-slice-read-next Inv-loop μ-loop

@@ -1,5 +1,5 @@
 -- `next` meets its contract.
-use Rattle.interpolation.specs.Steps.{stateOf}
+use Rattle.interpolation.specs.Steps.{ratiosOf}
 use Rattle.interpolation.proofs.Laws.{next-first, next-second}
 use Rattle.interpolation.specs.Interpolation.{swapped}
 use native.Mathlib.Omega.{arith}
@@ -26,7 +26,7 @@ same-length-4 c = search needs
 returns : tie.Need-returns
 returns c =
     let a = c .before .before .before .before .before .before .before .before .before .before .before .before .before .before .before .before .before .before .args in
-    let s = stateOf (a .qa .now) (a .ea .now) (a .u) (a .qb .now) (a .eb .now) (a .v) in
+    let s = ratiosOf (a .qa .now) (a .ea .now) (a .u) (a .qb .now) (a .eb .now) (a .v) in
     record {
       result = c .before .before .before .before .before .before .before .before .advance .ensures .result ∙ sym (next-first (a .x) (a .y) s (c .before .before .before .before .before .before .before .before .before .before .before .before .before .if1 .taken));
       total = c .before .before .before .before .before .before .before .before .advance .ensures .total;
@@ -50,7 +50,7 @@ same-length-8 c = search needs
 returns-2 : tie.Need-returns-2
 returns-2 c =
     let a = c .before .before .before .before .before .before .before .before .before .before .before .before .before .before .before .before .before .before .args in
-    let s = stateOf (a .qa .now) (a .ea .now) (a .u) (a .qb .now) (a .eb .now) (a .v) in
+    let s = ratiosOf (a .qa .now) (a .ea .now) (a .u) (a .qb .now) (a .eb .now) (a .v) in
     record {
       result = ap swapped (c .before .before .before .before .before .before .before .before .advance2 .ensures .result) ∙ sym (next-second (a .x) (a .y) s (c .before .before .before .before .before .before .before .before .before .before .before .before .before .if1 .left));
       total = omega (arith, c .before .before .before .before .before .before .before .before .advance2 .ensures .total);

@@ -1,8 +1,8 @@
 -- `solve` meets its contract.
-use Rattle.interpolation.specs.Steps.{stateOf}
+use Rattle.interpolation.specs.Steps.{ratiosOf}
 use Rattle.interpolation.proofs.Laws.{smaller-first, smaller-second, candidate-series}
 use Rattle.interpolation.proofs.Zeros.{length-kept}
-use Rattle.interpolation.specs.Interpolation.{pair, smaller, series}
+use Rattle.interpolation.specs.Interpolation.{ratio, smaller, series}
 use lib.ListN.{length}
 use native.Mathlib.Omega.{arith}
 use Prim.Native.Nat.{_+_}
@@ -55,9 +55,9 @@ returns c =
     let r = c .before .before .before .before .before .before .before .before .before .before .before .before .before .before .before .before .before .before .interpolate in
     let qa = r .last .1 .1 .1 .0 in
     let ea = r .last .1 .1 .1 .1 .0 in
-    let s = stateOf qa ea (r .result .u) (r .last .1 .1 .1 .1 .1 .0) (r .last .1 .1 .1 .1 .1 .1 .0) (r .result .v) in
+    let s = ratiosOf qa ea (r .result .u) (r .last .1 .1 .1 .1 .1 .0) (r .last .1 .1 .1 .1 .1 .1 .0) (r .result .v) in
     c .before .before .before .before .divide .ensures ∙ ap (λ n. series n qa ea) (c .before .before .before .before .before .before .before .before .before .before .before .before .before .before .before .before .before .before .before .before .before .before .before .before .before .before .before .before .before .before .pre .1)
-    ∙ sym (candidate-series (a .t) (a .xs .now) (a .ys .now) (pair qa ea) (ap smaller (sym (r .ensures)) ∙ smaller-first s (c .before .before .before .before .before .before .before .before .if1 .taken)))
+    ∙ sym (candidate-series (a .t) (a .xs .now) (a .ys .now) (ratio qa ea) (ap smaller (sym (r .ensures)) ∙ smaller-first s (c .before .before .before .before .before .before .before .before .if1 .taken)))
 
 same-length-6 : tie.Need-same-length-6
 same-length-6 c = search needs
@@ -80,9 +80,9 @@ returns-2 c =
     let r = c .before .before .before .before .before .before .before .before .before .before .before .before .before .before .before .before .before .before .interpolate in
     let qb = r .last .1 .1 .1 .1 .1 .0 in
     let eb = r .last .1 .1 .1 .1 .1 .1 .0 in
-    let s = stateOf (r .last .1 .1 .1 .0) (r .last .1 .1 .1 .1 .0) (r .result .u) qb eb (r .result .v) in
+    let s = ratiosOf (r .last .1 .1 .1 .0) (r .last .1 .1 .1 .1 .0) (r .result .u) qb eb (r .result .v) in
     c .before .before .before .before .divide2 .ensures ∙ ap (λ n. series n qb eb) (c .before .before .before .before .before .before .before .before .before .before .before .before .before .before .before .before .before .before .before .before .before .before .before .before .before .before .before .before .before .before .pre .1)
-    ∙ sym (candidate-series (a .t) (a .xs .now) (a .ys .now) (pair qb eb) (ap smaller (sym (r .ensures)) ∙ smaller-second s (c .before .before .before .before .before .before .before .before .if1 .left)))
+    ∙ sym (candidate-series (a .t) (a .xs .now) (a .ys .now) (ratio qb eb) (ap smaller (sym (r .ensures)) ∙ smaller-second s (c .before .before .before .before .before .before .before .before .if1 .left)))
 
 pub solve-spec : {M : Type 1} → statement M
 solve-spec =

@@ -1,5 +1,5 @@
 -- `is_equal` meets its contract. The invariant: the bytes before i are equal.
-use Rattle.lists.proofs.Sames.{same-all, same-length, same-differ}
+use Rattle.lists.proofs.Sames.{same-all, no-same, same-differ}
 use lib.ListN.{length, getD}
 use borrow.Author.Count.{below-more}
 use native.Mathlib.Omega.{arith}
@@ -15,7 +15,7 @@ abbrev μ-loop : tie.MeasureT-loop
 μ-loop a b i₀ i = length a - i
 
 returns : tie.Need-returns Inv-loop μ-loop
-returns c = let a = c .before .args in sym (same-length (a .a .now) (a .b .now) (c .if1 .taken))
+returns c = let a = c .before .args in sym (no-same (a .a .now) (a .b .now) (c .if1 .taken))
 
 loop-holds : tie.Need-loop-holds Inv-loop μ-loop
 loop-holds c = (omega arith, omega arith, λ j l. absurd (omega arith))

@@ -1,6 +1,6 @@
 -- `phase_king::king_row` meets its contract.
 use Rattle.phase_king.specs.Steps.{kingRow}
-use Rattle.bitset.proofs.Rows.{row-none}
+use Rattle.bitset.proofs.Laws.{row-none}
 use Rattle.bitset.specs.Row.{rowOf}
 use Rattle.lists.proofs.Tests.{cond-yes, cond-no}
 use borrow.Author.Tests.{le-leb, lt-leb}

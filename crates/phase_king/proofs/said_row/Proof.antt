@@ -1,6 +1,6 @@
 -- `phase_king::said_row` meets its contract: an absent slot says nothing but zeros.
 use native.Mathlib.Omega.{arith}
-use Rattle.bitset.proofs.Rows.{row-missing}
+use Rattle.bitset.proofs.Laws.{row-missing}
 use Rattle.bitset.specs.Row.{rowOf}
 use denote.Ref.{now}
 use mathlib.Core.Path.{sym, ap, _∙_}

@@ -1,5 +1,5 @@
 -- `finish` meets its contract.
-use Rattle.reconstruction.proofs.Laws.{finished-none, finished-answers}
+use Rattle.reconstruction.proofs.Rounds.{finished-none, finished-answers}
 use Rattle.reconstruction.specs.Reconstruction.{finish}
 use Rattle.reconstruction.specs.declared.Outcome.the-variants.{None}
 use mathlib.Core.Path.{sym, ap, _∙_}
@@ -26,8 +26,8 @@ returns c =
 decode-requires : tie.Need-decode-requires
 decode-requires c κs = search needs
 
-outcome-of-requires : tie.Need-outcome-of-requires
-outcome-of-requires c κs = search needs
+decoded-outcome-requires : tie.Need-decoded-outcome-requires
+decoded-outcome-requires c κs = search needs
 
 same-length-2 : tie.Need-same-length-2
 same-length-2 c = search needs
@@ -38,7 +38,7 @@ returns-2 c =
     let I = D .before .before in
     let a = I .before .before .before .before .args in
     let after = D .decode .last .1 .1 .1 .1 .0 in
-    ap (λ w. finish w after) (c .outcome-of .ensures)
+    ap (λ w. finish w after) (c .decoded-outcome .ensures)
     ∙ finished-answers (a .n) (a .t) (a .k) (a .core) (a .inbox .now) (a .block .now) (λ z. I .if1 .left (I .before .restrict .ensures ∙ z)) (D .decode .result) after
     (D .decode .ensures)
 
@@ -51,6 +51,6 @@ finish-spec =
     same-length
     returns
     decode-requires
-    outcome-of-requires
+    decoded-outcome-requires
     same-length-2
     returns-2)

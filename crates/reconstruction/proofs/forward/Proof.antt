@@ -1,9 +1,9 @@
 -- `forward` meets its contract.
 use Rattle.reconstruction.proofs.Calls.{forwarded-sent, forwarded-kept}
-use Rattle.reconstruction.proofs.Laws.{forwarded-other}
-use Rattle.reed_solomon.proofs.Laws.{ready-says}
+use Rattle.reconstruction.proofs.Rounds.{forwarded-other}
+use Rattle.reed_solomon.proofs.Laws.{ready-yes}
 use borrow.Author.Tests.{not-true, not-false, eqb-true}
-use Rattle.reconstruction.proofs.Laws.{forward-length}
+use Rattle.reconstruction.proofs.Rounds.{kind-forward}
 use Rattle.reconstruction.proofs.Pieces.{pieces}
 use Rattle.wire.specs.declared.slot.Layout.{Layout}
 use Rattle.wire.specs.declared.Round.the-variants.{Forward}
@@ -56,10 +56,10 @@ send-coding-requires c κs =
     let H = c .before .before .before in
     let K = H .before .before in
     let a = K .before .before .before .before .before .args in
-    let r = ready-says (a .n) (a .t) (a .k) (a .own) (a .block .now) (H .holds-exactly .result) (sym (c .before .before .is-ready .ensures) ∙ c .before .if2 .taken) in (
+    let r = ready-yes (a .n) (a .t) (a .k) (a .own) (a .block .now) (H .holds-exactly .result) (sym (c .before .before .is-ready .ensures) ∙ c .before .if2 .taken) in (
       r .0 .coded,
       r .0 .size,
-      ap (λ (l : Layout). l .length) (K .kind-layout .ensures) ∙ forward-length (r .0 .coded),
+      ap (λ (l : Layout). l .length) (K .kind-layout .ensures) ∙ kind-forward (r .0 .coded),
       eqb-true _ _ (sym (H .holds-exactly .ensures) ∙ r .1),
     )
 

@@ -1,5 +1,5 @@
 -- `in_core` meets its contract.
-use Rattle.reconstruction.proofs.Laws.{in-core}
+use Rattle.reconstruction.proofs.Rounds.{in-core}
 use Rattle.reconstruction.specs.Reconstruction.{inCore}
 use Rattle.bitset.specs.Set.{member}
 use Rattle.lists.proofs.Tests.{and-no-left}

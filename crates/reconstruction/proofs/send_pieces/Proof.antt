@@ -1,6 +1,6 @@
 -- `send_pieces` meets its contract: the loop writes slot after slot.
 use Rattle.reconstruction.proofs.Pieces.{pieces, sized-pieces}
-use Rattle.reed_solomon.proofs.Laws.{piece-length}
+use Rattle.reed_solomon.proofs.Laws.{length-piece}
 use Rattle.reed_solomon.specs.Encode.{pieceOf}
 use Rattle.wire.proofs.Laws.{slots-start, put-next-slot, slots-all, length-rest}
 use Rattle.wire.specs.Slot.{width, slots}
@@ -53,7 +53,7 @@ loop-again c =
       c .before .before .before .before .send-piece .ensures
           ∙ put-next-slot (a .layout) f (sized-pieces (a .layout) (a .k) (a .t) (a .block .now) (S .pre .2)) (a .outbox .now) (L .loop .outbox) (pieceOf (a .k) (a .t) (a .block .now) (j + 1)) j
           (omega (arith, slot-within (a .n) (width (a .layout)) j (omega arith), next-offset j (width (a .layout)), S .pre .4)) (L .loop .inv .2) refl
-          (piece-length (a .k) (a .t) (a .block .now) (j + 1) ∙ sym (S .pre .2)),
+          (length-piece (a .k) (a .t) (a .block .now) (j + 1) ∙ sym (S .pre .2)),
     )
 
 same-length : tie.Need-same-length Inv-loop μ-loop

@@ -1,9 +1,9 @@
 -- `share` meets its contract.
 use Rattle.reconstruction.proofs.Calls.{shared-kept, shared-own, shared-chosen}
-use Rattle.reed_solomon.proofs.Laws.{ready-says}
+use Rattle.reed_solomon.proofs.Laws.{ready-yes}
 use borrow.Author.Tests.{not-true, not-false}
 use Rattle.reconstruction.specs.Reconstruction.{chosenPiece, sentPiece}
-use Rattle.reconstruction.proofs.Laws.{rebuild-length}
+use Rattle.reconstruction.proofs.Rounds.{kind-rebuild}
 use Rattle.reed_solomon.specs.Encode.{pieceOf}
 use Rattle.wire.specs.declared.slot.Layout.{Layout}
 use Rattle.wire.specs.declared.Round.the-variants.{Rebuild}
@@ -53,11 +53,11 @@ share-own-requires c κs =
     let I = c .before .before .before in
     let H = I .before .before in
     let a = H .before .before .before .before .before .before .args in
-    let r = ready-says (a .n) (a .t) (a .k) (a .own) (a .block .now) (H .holds-exactly .result) (sym (I .before .is-ready .ensures) ∙ not-false _ (I .if1 .left)) in (
+    let r = ready-yes (a .n) (a .t) (a .k) (a .own) (a .block .now) (H .holds-exactly .result) (sym (I .before .is-ready .ensures) ∙ not-false _ (I .if1 .left)) in (
       r .0 .coded,
       r .0 .number,
       r .0 .size,
-      ap (λ (l : Layout). l .length) (H .before .before .kind-layout .ensures) ∙ rebuild-length (r .0 .coded),
+      ap (λ (l : Layout). l .length) (H .before .before .kind-layout .ensures) ∙ kind-rebuild (r .0 .coded),
     )
 
 same-length-2 : tie.Need-same-length-2
@@ -79,7 +79,7 @@ share-chosen-requires c κs =
     let I = c .before .before .before in
     let H = I .before .before in
     let a = H .before .before .before .before .before .before .args in
-    let r = ready-says (a .n) (a .t) (a .k) (a .own) (a .block .now) (H .holds-exactly .result) (sym (I .before .is-ready .ensures) ∙ not-false _ (I .if1 .left)) in
+    let r = ready-yes (a .n) (a .t) (a .k) (a .own) (a .block .now) (H .holds-exactly .result) (sym (I .before .is-ready .ensures) ∙ not-false _ (I .if1 .left)) in
     r .0 .coded .quorum
 
 same-length-3 : tie.Need-same-length-3

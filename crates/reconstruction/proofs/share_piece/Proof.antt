@@ -1,7 +1,7 @@
 -- `share_piece` meets its contract.
 use Rattle.reconstruction.proofs.Pieces.{coded-piece}
 use Rattle.reconstruction.proofs.Choice.{sent-some}
-use Rattle.reed_solomon.proofs.Laws.{piece-length}
+use Rattle.reed_solomon.proofs.Laws.{length-piece}
 use Rattle.reed_solomon.specs.Encode.{pieceOf}
 use Rattle.wire.specs.Slot.{toAll}
 use native.Mathlib.Omega.{arith}
@@ -32,7 +32,7 @@ returns c =
     let o = a .outbox .now in
     c .before .before .send-all .ensures
     ∙ ap (λ (m : List _). toAll (a .out) (a .n) m o) (coded-piece (a .n) (a .t) (a .k) (a .own) (a .block .now) (a .piece .now) (p .0) (p .1) (p .2) (p .3) (E .encode .ensures))
-    ∙ sent-some (a .out) (a .n) (pieceOf (a .k) (a .t) (a .block .now) (a .own)) o (λ z. omega (arith, piece-length (a .k) (a .t) (a .block .now) (a .own), p .0 .k-least))
+    ∙ sent-some (a .out) (a .n) (pieceOf (a .k) (a .t) (a .block .now) (a .own)) o (λ z. omega (arith, length-piece (a .k) (a .t) (a .block .now) (a .own), p .0 .k-least))
 
 pub share-piece-spec : {M : Type 1} → statement M
 share-piece-spec =

@@ -2,10 +2,10 @@
 use Rattle.wire.specs.Length.{blockLength}
 use lib.Seq.{take-length, drop-length}
 use mathlib.Core.List.{_++_, append-nil}
-use Rattle.reed_solomon.proofs.Rule.{decode-valid, found-block, found-none}
+use Rattle.reed_solomon.proofs.Rule.{decode-0, found-block, found-none}
 use Rattle.lists.proofs.Zeros.{length-front}
 use Rattle.reed_solomon.specs.Steps.{Found}
-use Rattle.wire.proofs.Laws.{block-length}
+use Rattle.wire.proofs.Laws.{block-length-is}
 use lib.ListN.{length, replicate}
 use native.Mathlib.Omega.{arith}
 use Prim.Native.Nat.{_+_, _*_, _≤_}
@@ -22,24 +22,24 @@ use Rattle.wire.proofs.silence.Reads as silence-reads
 array-borrow-prefix-xs : tie.Need-array-borrow-prefix-xs
 array-borrow-prefix-xs c =
     let I = c .before .before in
-    omega (arith, decode-valid (I .args .n) (I .args .t) (I .args .k) (I .args .slots .now) (I .args .block .now) (I .pre) .0 .quorum .n-most)
+    omega (arith, decode-0 (I .args .n) (I .args .t) (I .args .k) (I .args .slots .now) (I .args .block .now) (I .pre) .0 .quorum .n-most)
 
 slice-aggregate-decode-points : tie.Need-slice-aggregate-decode-points
 slice-aggregate-decode-points c =
     let I = c .before .before .before in
     let a = I .args in
-    sym (length-front 16 (a .n) (decode-valid (a .n) (a .t) (a .k) (a .slots .now) (a .block .now) (I .pre) .0 .quorum .n-most))
+    sym (length-front 16 (a .n) (decode-0 (a .n) (a .t) (a .k) (a .slots .now) (a .block .now) (I .pre) .0 .quorum .n-most))
 
 decode-points-requires : tie.Need-decode-points-requires
 decode-points-requires c κs =
     let I = c .before .before .before .before in
     let a = I .args in
-    let w = decode-valid (a .n) (a .t) (a .k) (a .slots .now) (a .block .now) (I .pre) in
+    let w = decode-0 (a .n) (a .t) (a .k) (a .slots .now) (a .block .now) (I .pre) in
     let v = w .0 in (
       subst (λ n. n ≤ 16) (sym (length-front 16 (a .n) (v .quorum .n-most))) (v .quorum .n-most),
       subst (λ n. 3 * a .t + 1 ≤ n) (sym (length-front 16 (a .n) (v .quorum .n-most))) (v .quorum .t-most),
       v .k-most,
-      w .2 ∙ block-length (a .k) (a .t),
+      w .2 ∙ block-length-is (a .k) (a .t),
     )
 
 same-length : tie.Need-same-length
@@ -49,7 +49,7 @@ returns : tie.Need-returns
 returns c =
     let I = c .before .before .before .before .before .before .before .before .before in
     let a = I .args in
-    let v = decode-valid (a .n) (a .t) (a .k) (a .slots .now) (a .block .now) (I .pre) .0 in
+    let v = decode-0 (a .n) (a .t) (a .k) (a .slots .now) (a .block .now) (I .pre) .0 in
     let d = c .before .before .before .before .decode-points in (
       I .pre,
       found-block (a .n) (a .t) (a .k) (a .slots .now) v (d .last .1 .1 .1 .1 .0)
@@ -73,7 +73,7 @@ returns-2 : tie.Need-returns-2
 returns-2 c =
     let I = c .before .before .before .before .before .before .before .before .before .before .before .before .before in
     let a = I .args in
-    let w = decode-valid (a .n) (a .t) (a .k) (a .slots .now) (a .block .now) (I .pre) in
+    let w = decode-0 (a .n) (a .t) (a .k) (a .slots .now) (a .block .now) (I .pre) in
     let d = c .before .before .before .before .before .before .before .before .decode-points in
     let b = d .last .1 .1 .1 .1 .0 in (
       I .pre,

@@ -17,7 +17,7 @@ slice-aggregate-write-run c = search needs
 array-share-prefix-block : tie.Need-array-share-prefix-block
 array-share-prefix-block c =
     let S = c .before .before .before .before .before in
-    file-run (now (S .before .args .input)) (S .before .args .file) (c .before .block-length .result) (S .before .pre .0) (S .before .pre .1) (c .before .block-length .ensures) .block-most
+    file-run (now (S .before .args .input)) (S .before .args .file) (c .before .block-length .result) (S .before .pre .0) (S .before .pre .1) (c .before .block-length .ensures) .block-le
 
 slice-aggregate-write-run-2 : tie.Need-slice-aggregate-write-run-2
 slice-aggregate-write-run-2 c =

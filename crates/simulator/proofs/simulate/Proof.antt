@@ -1,5 +1,5 @@
 -- `simulate` meets its contract.
-use Rattle.simulator.proofs.Laws.{simulated-wrong}
+use Rattle.simulator.proofs.Outputs.{simulated-wrong}
 use Rattle.system_file.specs.declared.SystemFile.{SystemFile}
 use Rattle.system_file.specs.Form.{readOf}
 use Rattle.system_file.proofs.Laws.{file-wrong}

@@ -1,6 +1,6 @@
 -- `run` meets its contract: blocks and states are made, all calls done, and the lines written.
 use Rattle.simulator.proofs.Writing.{added, after, chain, zeros-room}
-use Rattle.simulator.proofs.Running.{block-most}
+use Rattle.simulator.proofs.Running.{block-le}
 use Rattle.simulator.proofs.Whole.{fill-room, runnable-playable, held-start, held-output, cleared-wrote}
 use Rattle.simulator.specs.Output.{namesLine}
 use Rattle.simulator.specs.Steps.{Room}
@@ -19,7 +19,7 @@ use Rattle.simulator.proofs.write_run.Tie as tie
 fill-blocks-requires : tie.Need-fill-blocks-requires
 fill-blocks-requires c κs =
     let h = c .before .before .before .before .before .before .before .before .pre in
-    (h .small .coded .quorum .n-most, omega (arith, h .block-is, block-most (h .small)), fill-room h)
+    (h .small .coded .quorum .n-most, omega (arith, h .block-is, block-le (h .small)), fill-room h)
 
 start-all-requires : tie.Need-start-all-requires
 start-all-requires c κs = search needs
@@ -48,7 +48,7 @@ append-results-requires c κs =
     let room : S .args .settings .n * length (now (S .args .block)) ≤ length (c .before .before .before .before .before .before .before .before .before .before .before .before .before .play .last .1 .1 .1 .1 .1 .1 .0) = omega (arith, fill-room h, c .before .before .before .before .before .before .before .before .before .before .before .before .before .before .before .before .before .before .before .before .fill-blocks .kept .1 .1 .0, c .before .before .before .before .before .before .before .before .before .before .before .before .before .play .kept .1 .1 .1 .1 .1 .1 .0) in
     let out = subst (λ (o : List ℕ). Room o 0 6400) (sym (h .out-is)) (zeros-room 6400 6400 (omega arith)) in
     let names = added out namesLine (omega arith) (c .before .before .before .before .append .ensures) in
-    (h .small .coded .quorum .n-most, omega (arith, h .block-is, block-most (h .small)), room, after names (S .args .settings .n * 395) (omega (arith, h .small .coded .quorum .n-most)))
+    (h .small .coded .quorum .n-most, omega (arith, h .block-is, block-le (h .small)), room, after names (S .args .settings .n * 395) (omega (arith, h .small .coded .quorum .n-most)))
 
 same-length : tie.Need-same-length
 same-length c = search needs

@@ -1,5 +1,5 @@
 -- `state_bytes::field` meets its contract: the part that starts at the field's offset.
-use Rattle.state_bytes.proofs.Fields.{width-most, offset-most, field-within, part-field}
+use Rattle.state_bytes.proofs.Fields.{width-le, offset-le, field-within, part-field}
 use Rattle.state_bytes.specs.State.{widths}
 use lib.ListN.{length}
 use denote.Ref.{now}
@@ -17,7 +17,7 @@ width-requires c κs = search needs
 add-e : tie.Need-add-e
 add-e c =
     let i = c .before .before .before .args .i in
-    omega (arith, c .before .offset .ensures, c .width .ensures, offset-most i, width-most i)
+    omega (arith, c .before .offset .ensures, c .width .ensures, offset-le i, width-le i)
 
 sub-result : tie.Need-sub-result
 sub-result c = search needs

@@ -1,5 +1,5 @@
 -- `state_bytes::offset` meets its contract: the loop adds width after width.
-use Rattle.state_bytes.proofs.Fields.{width-most, offset-none, offset-more, offset-most}
+use Rattle.state_bytes.proofs.Fields.{width-le, offset-none, offset-more, offset-le}
 use Rattle.state_bytes.specs.State.{widths, offset}
 use lib.ListN.{length}
 use native.Mathlib.Omega.{arith}
@@ -23,7 +23,7 @@ width-requires c κs = omega arith
 add-a : tie.Need-add-a Inv-loop μ-loop
 add-a c =
     let j = c .before .before .loop .j in
-    omega (arith, c .width .ensures, offset-most j, width-most j)
+    omega (arith, c .width .ensures, offset-le j, width-le j)
 
 add-j : tie.Need-add-j Inv-loop μ-loop
 add-j c = omega arith

@@ -1,5 +1,5 @@
 -- `state_bytes::put_fields` meets its contract: the loop writes field after field.
-use Rattle.state_bytes.proofs.Fields.{width-most, offset-none, offset-more, offset-most, field-within, lent, next-field, first-field, last-field}
+use Rattle.state_bytes.proofs.Fields.{width-le, offset-none, offset-more, offset-le, field-within, lent, next-field, first-field, last-field}
 use Rattle.state_bytes.specs.State.{widths, offset, stateLength, fieldBytes}
 use Rattle.lists.specs.Join.{joined}
 use lib.ListN.{length, drop}
@@ -30,7 +30,7 @@ width-requires c κs = omega arith
 add-e : tie.Need-add-e Inv-loop μ-loop
 add-e c =
     let i = c .before .before .loop .i in
-    omega (arith, c .width .ensures, offset-most i, width-most i)
+    omega (arith, c .width .ensures, offset-le i, width-le i)
 
 sub-put-field : tie.Need-sub-put-field Inv-loop μ-loop
 sub-put-field c = omega arith

@@ -1,8 +1,7 @@
 -- `state_bytes::state_in` meets its contract, field by field.
 use Rattle.state_bytes.proofs.Fields.{built, made}
 use Rattle.state_bytes.specs.State.{outcomeFrom}
-use Rattle.lists.specs.Fill.{tabulate}
-use Rattle.bitset.specs.Row.{rowOf}
+use Rattle.bitset.specs.Row.{rowOf, rowsIn}
 use denote.Ref.{now}
 use mathlib.Core.List.{List}
 use mathlib.Core.Path.{ap, _∙_}
@@ -11,26 +10,26 @@ use borrow.Author.Needs.{needs}
 use Rattle.state_bytes.proofs.state_in.Statement.{statement}
 use Rattle.state_bytes.proofs.state_in.Tie as tie
 
-number-in-requires : tie.Need-number-in-requires
-number-in-requires c κs = search needs
+field-number-requires : tie.Need-field-number-requires
+field-number-requires c κs = search needs
 
-number-in-requires-2 : tie.Need-number-in-requires-2
-number-in-requires-2 c κs = search needs
+field-number-requires-2 : tie.Need-field-number-requires-2
+field-number-requires-2 c κs = search needs
 
-number-in-requires-3 : tie.Need-number-in-requires-3
-number-in-requires-3 c κs = search needs
+field-number-requires-3 : tie.Need-field-number-requires-3
+field-number-requires-3 c κs = search needs
 
-number-in-requires-4 : tie.Need-number-in-requires-4
-number-in-requires-4 c κs = search needs
+field-number-requires-4 : tie.Need-field-number-requires-4
+field-number-requires-4 c κs = search needs
 
-number-in-requires-5 : tie.Need-number-in-requires-5
-number-in-requires-5 c κs = search needs
+field-number-requires-5 : tie.Need-field-number-requires-5
+field-number-requires-5 c κs = search needs
 
-number-in-requires-6 : tie.Need-number-in-requires-6
-number-in-requires-6 c κs = search needs
+field-number-requires-6 : tie.Need-field-number-requires-6
+field-number-requires-6 c κs = search needs
 
-number-in-requires-7 : tie.Need-number-in-requires-7
-number-in-requires-7 c κs = search needs
+field-number-requires-7 : tie.Need-field-number-requires-7
+field-number-requires-7 c κs = search needs
 
 outcome-from-requires : tie.Need-outcome-from-requires
 outcome-from-requires c κs = search needs
@@ -74,27 +73,26 @@ returns c =
     let M = W .before .before in
     let O = M .before .before in
     let N = O .before .before in
-    let rows : List ℕ → List ℕ = λ l. tabulate (rowOf 16 l) 16 in
     built (I .initial .ensures) (c .before .before .with-call .ensures) (c .before .with-votes .ensures) (c .with-core .ensures)
     ∙ made (now (N .before .before .before .before .before .before .before .args .bytes))
-    (N .before .before .before .before .before .number-in .ensures) (N .before .before .before .before .number-in2 .ensures)
-    (N .before .before .before .number-in3 .ensures)
-    (N .before .before .number-in4 .ensures) (N .before .number-in5 .ensures) (N .number-in6 .ensures)
-    (O .outcome-from .ensures ∙ ap outcomeFrom (O .before .number-in7 .ensures))
-    (M .get-rows .ensures ∙ ap rows (M .before .field .ensures)) (W .get-rows2 .ensures ∙ ap rows (W .before .field2 .ensures))
+    (N .before .before .before .before .before .field-number .ensures) (N .before .before .before .before .field-number2 .ensures)
+    (N .before .before .before .field-number3 .ensures)
+    (N .before .before .field-number4 .ensures) (N .before .field-number5 .ensures) (N .field-number6 .ensures)
+    (O .outcome-from .ensures ∙ ap outcomeFrom (O .before .field-number7 .ensures))
+    (M .get-rows .ensures ∙ ap rowsIn (M .before .field .ensures)) (W .get-rows2 .ensures ∙ ap rowsIn (W .before .field2 .ensures))
     (C .read-row .ensures ∙ ap (λ (l : List ℕ). rowOf 16 l 0) (F .field3 .ensures))
 
 pub state-in-spec : {M : Type 1} → statement M
 state-in-spec =
     tie.close
     (tie.spec
-    number-in-requires
-    number-in-requires-2
-    number-in-requires-3
-    number-in-requires-4
-    number-in-requires-5
-    number-in-requires-6
-    number-in-requires-7
+    field-number-requires
+    field-number-requires-2
+    field-number-requires-3
+    field-number-requires-4
+    field-number-requires-5
+    field-number-requires-6
+    field-number-requires-7
     outcome-from-requires
     field-requires
     get-rows-requires

@@ -6,7 +6,7 @@ use native.Mathlib.Omega.{arith}
 use lib.ListN.{length}
 use Rattle.text.specs.Lines.{lineAt, isEnded, nextAt, isNames}
 use Rattle.text.proofs.Laws.{Named, names-said, names-none}
-use Rattle.system_file.specs.Form.{limit, settingsNames, messageNames, isSettings}
+use Rattle.system_file.specs.Form.{fileLimit, settingsNames, messageNames, isSettings}
 use Rattle.system_file.specs.Table.{fileOf}
 use Rattle.system_file.proofs.Reading.{read-long, read-unnamed, read-unset, read-untold}
 use Rattle.system_file.proofs.Heads.{Headed, head-none, head-said, head-end, head-next, head-both, head-opened, read-contents}
@@ -18,7 +18,7 @@ use Rattle.system_file.proofs.read.Tie as tie
 abbrev s1 : tie.Else2 → tie.Start
 s1 c = c .before .before .before .before .before
 
-short : (c : tie.Else2) → length (s1 c .args .input .now) ≤ limit
+short : (c : tie.Else2) → length (s1 c .args .input .now) ≤ fileLimit
 short c = c .before .before .before .if1 .left
 
 first : (c : tie.Else2) → Named settingsNames (s1 c .args .input .now) 0 (c .before .after-names .result)
@@ -47,15 +47,10 @@ settled : (c : tie.After-settings)
     && isSettings (lineAt (s2 c .args .input .now) (nextAt (s2 c .args .input .now) 0))) ≡ true
 settled c =
     let input = s2 c .args .input .now in
-    let v = c .settings .given .0 in
-    subst (λ (x : ℕ). (isEnded input x && isSettings (lineAt input x)) ≡ true) (first (e2 c) .next)
-    (head-both input (a2 c) (v .0) (v .1 .0) (e-of c) (headed c))
+    subst (λ (x : ℕ). (isEnded input x && isSettings (lineAt input x)) ≡ true) (first (e2 c) .next) (head-both (headed c))
 
 second : (c : tie.After-settings) → e-of c + 1 ≡ nextAt (s2 c .args .input .now) (nextAt (s2 c .args .input .now) 0)
-second c =
-    let input = s2 c .args .input .now in
-    let v = c .settings .given .0 in
-    head-next input (a2 c) (v .0) (v .1 .0) (e-of c) (headed c) ∙ ap (nextAt input) (first (e2 c) .next)
+second c = head-next (headed c) ∙ ap (nextAt (s2 c .args .input .now)) (first (e2 c) .next)
 
 -- ---- after the second line of names
 abbrev f3 : tie.Else3 → tie.After-settings
@@ -118,8 +113,7 @@ returns-3 c =
 add-after-names : tie.Need-add-after-names
 add-after-names c =
     let F = c .before in
-    let v = F .settings .given .0 in
-    omega (arith, head-end (s2 F .args .input .now) (a2 F) (v .0) (v .1 .0) (e-of F) (headed F), short (e2 F))
+    omega (arith, head-end (headed F), short (e2 F))
 
 slice-aggregate-after-names-2 : tie.Need-slice-aggregate-after-names-2
 slice-aggregate-after-names-2 c = search needs
@@ -142,16 +136,13 @@ returns-4 c =
 contents-requires : tie.Need-contents-requires
 contents-requires c κs =
     let F = f3 c in
-    let v = F .settings .given .0 in
-    head-opened (s2 F .args .input .now) (a2 F) (v .0) (v .1 .0) (e-of F) (headed F) (short (e2 F))
-    (c .before .after-names2 .result) (third c .least) (third c .most)
+    head-opened (headed F) (short (e2 F)) (c .before .after-names2 .result) (third c .least) (third c .most)
 
 returns-5 : tie.Need-returns-5
 returns-5 c =
     let N = c .before in
     let F = f3 N in
-    let v = F .settings .given .0 in
-    read-contents (s2 F .args .input .now) (a2 F) (v .0) (v .1 .0) (e-of F) (headed F) (short (e2 F)) (first (e2 F) .named) (first (e2 F) .next)
+    read-contents (headed F) (short (e2 F)) (first (e2 F) .named) (first (e2 F) .next)
     (third N .named) (N .before .after-names2 .result) (third N .next) (c .contents .result) (c .contents .ensures)
 
 pub read-spec : {M : Type 1} → statement M

@@ -1,5 +1,5 @@
 -- `text::byte` meets its contract: each digit is below 16.
-use Rattle.text.proofs.Bytes.{hex-small}
+use Rattle.text.proofs.Bytes.{hex-lt}
 use native.Mathlib.Omega.{arith}
 use borrow.Author.Needs.{needs}
 use Rattle.text.proofs.byte.Statement.{statement}
@@ -9,7 +9,7 @@ hex-requires : tie.Need-hex-requires
 hex-requires c κs = search needs
 
 mul-result : tie.Need-mul-result
-mul-result c = omega (arith, c .hex .ensures, hex-small (c .before .args .a))
+mul-result c = omega (arith, c .hex .ensures, hex-lt (c .before .args .a))
 
 hex-requires-2 : tie.Need-hex-requires-2
 hex-requires-2 c κs = search needs
@@ -17,7 +17,7 @@ hex-requires-2 c κs = search needs
 add-result : tie.Need-add-result
 add-result c =
     let a = c .before .before .args in
-    omega (arith, c .hex2 .ensures, c .before .hex .ensures, hex-small (a .a), hex-small (a .b))
+    omega (arith, c .hex2 .ensures, c .before .hex .ensures, hex-lt (a .a), hex-lt (a .b))
 
 returns : tie.Need-returns
 returns c = search needs

@@ -1,5 +1,5 @@
 -- `wire::call_kind` meets its contract.
-use Rattle.wire.proofs.Numbers.{vote-yes, vote-no, from-four}
+use Rattle.wire.proofs.Numbers.{yes-vote, no-vote, from-four}
 use Rattle.wire.specs.Round.{callKind}
 use borrow.Author.Tests.{eq-eqb, ne-eqb}
 use mathlib.Core.Path.{_∙_}
@@ -61,7 +61,7 @@ returns-6 c =
       ne-eqb (a .c) 2 (W .before .before .before .if3 .left),
       ne-eqb (a .c) 3 (W .before .before .if4 .left),
       ne-eqb (a .c) 4 (W .before .if5 .left),
-      vote-yes (a .t) (a .c) (from-four (a .c) (W .before .before .before .before .before .if1 .left) (W .before .before .before .before .if2 .left) (W .before .before .before .if3 .left) (W .before .before .if4 .left)) (W .if6 .taken),
+      yes-vote (a .t) (a .c) (from-four (a .c) (W .before .before .before .before .before .if1 .left) (W .before .before .before .before .if2 .left) (W .before .before .before .if3 .left) (W .before .before .if4 .left)) (W .if6 .taken),
     )
 
 mul-last-call : tie.Need-mul-last-call
@@ -85,7 +85,7 @@ returns-7 c =
       ne-eqb (a .c) 2 (W .before .before .before .if3 .left),
       ne-eqb (a .c) 3 (W .before .before .if4 .left),
       ne-eqb (a .c) 4 (W .before .if5 .left),
-      vote-no (a .t) (a .c) (W .if6 .left),
+      no-vote (a .t) (a .c) (W .if6 .left),
     )
 
 pub call-kind-spec : {M : Type 1} → statement M

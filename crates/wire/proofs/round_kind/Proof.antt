@@ -1,5 +1,5 @@
 -- `wire::round_kind` meets its contract.
-use Rattle.wire.proofs.Numbers.{vote-yes, vote-no, from-four}
+use Rattle.wire.proofs.Numbers.{yes-vote, no-vote, from-four}
 use Rattle.wire.specs.Round.{roundKind}
 use borrow.Author.Tests.{eq-eqb, ne-eqb}
 use mathlib.Core.Path.{_∙_}
@@ -47,7 +47,7 @@ returns-5 c =
       ne-eqb (a .c) 1 (W .before .before .before .if2 .left),
       ne-eqb (a .c) 2 (W .before .before .if3 .left),
       ne-eqb (a .c) 3 (W .before .if4 .left),
-      vote-yes (a .t) (a .c) (from-four (a .c) (W .before .before .before .before .if1 .left) (W .before .before .before .if2 .left) (W .before .before .if3 .left) (W .before .if4 .left)) (W .if5 .taken),
+      yes-vote (a .t) (a .c) (from-four (a .c) (W .before .before .before .before .if1 .left) (W .before .before .before .if2 .left) (W .before .before .if3 .left) (W .before .if4 .left)) (W .if5 .taken),
     )
 
 mul-last-round : tie.Need-mul-last-round
@@ -70,7 +70,7 @@ returns-6 c =
       ne-eqb (a .c) 1 (W .before .before .before .if2 .left),
       ne-eqb (a .c) 2 (W .before .before .if3 .left),
       ne-eqb (a .c) 3 (W .before .if4 .left),
-      vote-no (a .t) (a .c) (W .if5 .left),
+      no-vote (a .t) (a .c) (W .if5 .left),
     )
 
 pub round-kind-spec : {M : Type 1} → statement M

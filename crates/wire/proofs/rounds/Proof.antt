@@ -1,5 +1,5 @@
 -- `wire::rounds` meets its contract.
-use Rattle.settings.proofs.Laws.{outside-yes, no-outside}
+use Rattle.settings.proofs.Laws.{yes-outside, no-outside}
 use mathlib.Core.Logic.{inl, inr}
 use native.Mathlib.Omega.{arith}
 use Rattle.wire.specs.Round.{roundCount}
@@ -8,10 +8,10 @@ use Rattle.wire.proofs.rounds.Statement.{statement}
 use Rattle.wire.proofs.rounds.Tie as tie
 
 returns : tie.Need-returns
-returns c = rw (outside-yes 1 5 (c .before .args .t) (inl (c .if1 .taken)))
+returns c = rw (yes-outside 1 5 (c .before .args .t) (inl (c .if1 .taken)))
 
 returns-2 : tie.Need-returns-2
-returns-2 c = rw (outside-yes 1 5 (c .before .before .args .t) (inr (c .if2 .taken)))
+returns-2 c = rw (yes-outside 1 5 (c .before .before .args .t) (inr (c .if2 .taken)))
 
 mul-result : tie.Need-mul-result
 mul-result c = search needs

@@ -2,7 +2,7 @@
 use Rattle.wire.specs.declared.slot.Layout.{Layout}
 use Rattle.protocol.specs.Calls.{carried}
 use Rattle.protocol.specs.State.{withVotes}
-use Rattle.phase_king.specs.Matrix.{kept, sentByKing}
+use Rattle.phase_king.specs.Matrix.{holdAnswer, sentByKing}
 use Rattle.phase_king.specs.declared.Held.{Held}
 use Rattle.wire.specs.Slot.{toAll}
 use Rattle.bitset.specs.Row.{rowsOf}
@@ -48,7 +48,7 @@ returns c =
     let C = K .before .before .before in
     let S = C .before .before .before .before in
     let a = S .args in
-    let m = C .hold .ensures ∙ ap (λ (l : Layout). kept (now (a .inbox)) l (a .s .settings .n) (a .s .settings .t)) (C .before .inbox-layout .ensures) in
+    let m = C .hold .ensures ∙ ap (λ (l : Layout). holdAnswer (now (a .inbox)) l (a .s .settings .n) (a .s .settings .t)) (C .before .inbox-layout .ensures) in
     let o = P .send-as-king .ensures ∙ (λ x. sentByKing (O .outbox-layout .ensures x) (a .s .own) (K .phase .ensures x) (a .s .settings .n) (m x .rows) (now (a .outbox))) in
     let s = c .with-votes .ensures ∙ (λ x. withVotes (c .before .open .ensures x) (m x .rows) (m x .weak)) in
     λ x. carried (s x) [] (o x)

@@ -1,5 +1,5 @@
 -- `controller::refusal::start_refusal` meets its contract.
-use Rattle.protocol.proofs.Laws.{start-length}
+use Rattle.protocol.proofs.Laws.{start-by-size}
 use Rattle.settings.specs.Refusal.{refusalOf}
 use Rattle.settings.specs.declared.Entry.the-variants.{Start}
 use lib.Dec.{eqb}
@@ -20,7 +20,7 @@ returns c =
     let a = c .before .before .args in
     c .refusal .ensures
     ∙ ap (λ (x : ℕ). refusalOf Start (a .s) (a .own) (eqb (a .b) x)) (c .before .block-length .ensures)
-    ∙ start-length (a .s) (a .own) (a .b)
+    ∙ start-by-size (a .s) (a .own) (a .b)
 
 pub start-refusal-spec : {M : Type 1} → statement M
 start-refusal-spec = tie.close (tie.spec block-length-requires refusal-requires returns)

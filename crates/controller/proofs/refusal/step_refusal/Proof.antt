@@ -1,5 +1,5 @@
 -- `controller::refusal::step_refusal` meets its contract: 7, 8 and 6 are tried in this order.
-use Rattle.protocol.proofs.Laws.{seven-settings, seven-next, settings-valid, step-8, lengths-decide}
+use Rattle.protocol.proofs.Laws.{7-settings, 7-next, settings-valid, 8-step, lengths-decide}
 use Rattle.settings.specs.Valid.{Valid}
 use native.Mathlib.Omega.{arith}
 use mathlib.Core.Bool.{Bool, cond, not}
@@ -15,12 +15,12 @@ bad-settings-requires c κs = search needs
 returns : tie.Need-returns
 returns c =
     let a = c .before .before .args in
-    sym (seven-settings (a .s) (a .b) (a .i) (a .o) (sym (c .before .bad-settings .ensures) ∙ c .if1 .taken))
+    sym (7-settings (a .s) (a .b) (a .i) (a .o) (sym (c .before .bad-settings .ensures) ∙ c .if1 .taken))
 
 returns-2 : tie.Need-returns-2
 returns-2 c =
     let a = c .before .before .before .args in
-    sym (seven-next (a .s) (a .b) (a .i) (a .o) (inl (c .if2 .taken)))
+    sym (7-next (a .s) (a .b) (a .i) (a .o) (inl (c .if2 .taken)))
 
 -- past the first test the settings are valid
 fine3 : (c : tie.Else2) → Valid (c .before .before .before .args .s .settings) (c .before .before .before .args .s .own)
@@ -37,7 +37,7 @@ add-if3 c = omega (arith, fine3 c)
 returns-3 : tie.Need-returns-3
 returns-3 c =
     let a = c .before .before .before .before .args in
-    sym (seven-next (a .s) (a .b) (a .i) (a .o) (inr (c .if3 .taken)))
+    sym (7-next (a .s) (a .b) (a .i) (a .o) (inr (c .if3 .taken)))
 
 mul-if4 : tie.Need-mul-if4
 mul-if4 c = omega (arith, fine3 (c .before))
@@ -48,7 +48,7 @@ add-if4 c = omega (arith, fine3 (c .before))
 returns-4 : tie.Need-returns-4
 returns-4 c =
     let a = c .before .before .before .before .before .args in
-    sym (step-8 (a .s) (a .b) (a .i) (a .o) (fine3 (c .before .before)) (c .if4 .taken))
+    sym (8-step (a .s) (a .b) (a .i) (a .o) (fine3 (c .before .before)) (c .if4 .taken))
 
 lengths-fit-requires : tie.Need-lengths-fit-requires
 lengths-fit-requires c κs = fine3 (c .before .before)

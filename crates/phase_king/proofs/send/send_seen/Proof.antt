@@ -1,5 +1,5 @@
 -- `phase_king::send::send_seen` meets its contract: the matrices are written, and their message is sent.
-use Rattle.phase_king.proofs.Writes.{front-of, seen-length, is-to-all}
+use Rattle.phase_king.proofs.Writes.{front-of, length-seen, is-to-all}
 use Rattle.bitset.specs.Row.{rowsLength}
 use Rattle.phase_king.specs.Matrix.{seenMessage}
 use denote.Ref.{now}
@@ -55,7 +55,7 @@ returns c =
     is-to-all (a .layout) (a .n) (L .limit .result) m (take end (W .write-seen .last .0)) (now (a .outbox)) (A .send-all .last .0)
     (L .limit .ensures)
     (front-of m (W .write-seen .last .0) (drop (2 * rowsLength (a .n)) o) end (W .write-seen .ensures)
-    (seen-length (a .n) (now (a .zeros)) (now (a .ones)) ∙ omega arith))
+    (length-seen (a .n) (now (a .zeros)) (now (a .ones)) ∙ omega arith))
     (A .send-all .ensures)
 
 pub send-seen-spec : {M : Type 1} → statement M

@@ -1,5 +1,5 @@
 -- `simulator::append_result` meets its contract: six texts, one behind the other.
-use Rattle.simulator.proofs.Writing.{Added, adds, added, after, chain, number-most, word-most}
+use Rattle.simulator.proofs.Writing.{Added, adds, added, after, chain, number-le, word-le}
 use Rattle.simulator.specs.Output.{resultLine}
 use Rattle.text.specs.Read.{newline, comma}
 use Rattle.text.specs.Write.{decimal, hexadecimal}
@@ -26,7 +26,7 @@ add-number : (c : tie.After-append-decimal)
     Added (now (p .args .out)) (p .args .at) 395 (decimal (p .args .i)) (c .append-decimal .last .0) (c .append-decimal .result)
 add-number c =
     let p = c .before .before .before .before in
-    added (p .pre .2) (decimal (p .args .i)) (omega (arith, number-most (p .args .i) (p .pre .0))) (c .append-decimal .ensures)
+    added (p .pre .2) (decimal (p .args .i)) (omega (arith, number-le (p .args .i) (p .pre .0))) (c .append-decimal .ensures)
 
 add-comma : (c : tie.After-append)
     → let d = c .before .before .before .before .before in
@@ -34,7 +34,7 @@ add-comma : (c : tie.After-append)
 add-comma c =
     let d = c .before .before .before .before .before in
     let p = d .before .before .before .before in
-    added (after (add-number d) 393 (omega (arith, number-most (p .args .i) (p .pre .0)))) (comma ∷ []) (omega arith) (c .append .ensures)
+    added (after (add-number d) 393 (omega (arith, number-le (p .args .i) (p .pre .0)))) (comma ∷ []) (omega arith) (c .append .ensures)
 
 append-outcome-requires : tie.Need-append-outcome-requires
 append-outcome-requires c κs = after (add-comma (c .before .before .before)) 6 (omega arith)
@@ -68,7 +68,7 @@ returns c =
     let p1 = p2 .before .before .before .before .before in
     let p = p1 .before .before .before .before in
     let b = now (p .args .block) in
-    let v = word-most (p .args .w) in
+    let v = word-le (p .args .w) in
     let x = length-hexadecimal b in
     let l = p .pre .1 in
     let a2 = add-comma p2 in

@@ -8,7 +8,7 @@ use Rattle.simulator.proofs.Writing.{
   after,
   getD-inside,
   lines,
-  lines-most,
+  lines-le,
   lines-start,
   turn-correct,
   turn-faulty,
@@ -41,7 +41,7 @@ add-lines : (c : tie.At-loop Inv-loop μ-loop)
 add-lines c =
     let p = c .before .before .before in
     let a = p .args in
-    let l = lines-most (a .faulty) (a .t5) (now (a .blocks)) (a .b) (a .n) (c .loop .i) (p .pre .0) (p .pre .1) (p .pre .2) (c .loop .inv .0) in
+    let l = lines-le (a .faulty) (a .t5) (now (a .blocks)) (a .b) (a .n) (c .loop .i) (p .pre .0) (p .pre .1) (p .pre .2) (c .loop .inv .0) in
     adds (p .pre .3) (omega (arith, l)) (c .loop .inv .1)
 
 -- the block of the next one is there
@@ -94,7 +94,7 @@ append-result-requires c κs =
     let p = L .before .before .before in
     let a = p .args in
     let i = L .loop .i in
-    let l = lines-most (a .faulty) (a .t5) (now (a .blocks)) (a .b) (a .n) i (p .pre .0) (p .pre .1) (p .pre .2) (L .loop .inv .0) in (
+    let l = lines-le (a .faulty) (a .t5) (now (a .blocks)) (a .b) (a .n) i (p .pre .0) (p .pre .1) (p .pre .2) (L .loop .inv .0) in (
       omega arith,
       omega (arith, ap length (part-lent (a .b) (now (a .blocks)) i), length-part (a .b) (now (a .blocks)) (a .n) i (omega arith) (p .pre .2), p .pre .1),
       after (add-lines L) 395 (omega (arith, l)),

@@ -3,7 +3,7 @@ use Rattle.simulator.proofs.Writing.{added, after, chain, zeros-room, z
 use Rattle.simulator.specs.Output.{badLine}
 use Rattle.text.specs.Read.{newline, comma}
 use Rattle.text.specs.Write.{decimal}
-use Rattle.text.proofs.Laws.{decimal-length}
+use Rattle.text.proofs.Laws.{decimal-le}
 use native.Mathlib.Omega.{arith}
 use mathlib.Core.List.{[], _∷_}
 use borrow.Author.Needs.{needs}
@@ -41,7 +41,7 @@ returns c =
     let p2 = p3 .before .before .before .before in
     let p1 = p2 .before .before .before in
     let x = p1 .before .before .before .args .line in
-    let n = decimal-length x in
+    let n = decimal-le x in
     let a1 = added (zeros-room 6400 6400 (omega arith)) (0x62 ∷ 0x61 ∷ 0x64 ∷ comma ∷ []) (omega arith) (p1 .append .ensures) in
     let a2 = added (after a1 21 (omega arith)) (decimal x) (omega (arith, n)) (p2 .append-decimal .ensures) in
     let a3 = added (after a2 1 (omega (arith, n))) (newline ∷ []) (omega arith) (p3 .append2 .ensures) in

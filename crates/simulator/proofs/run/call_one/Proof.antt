@@ -1,5 +1,5 @@
 -- `call_one` meets its contract: the fronts of two cleared arrays are lent.
-use Rattle.simulator.proofs.Running.{message-most, inbox-most}
+use Rattle.simulator.proofs.Running.{message-le, inbox-le}
 use Rattle.lists.proofs.Zeros.{take-zeros, length-front}
 use lib.ListN.{replicate}
 use native.Mathlib.Omega.{arith}
@@ -22,27 +22,27 @@ array-borrow-prefix-m : tie.Need-array-borrow-prefix-m
 array-borrow-prefix-m c =
     let S = c .before .before .before .before .before .before .before .before .before in
     let a = S .args in
-    omega (arith, c .before .before .before .message-length .ensures, message-most (S .pre .0 .small) (a .c))
+    omega (arith, c .before .before .before .message-length .ensures, message-le (S .pre .0 .small) (a .c))
 
 slice-aggregate-call-with : tie.Need-slice-aggregate-call-with
 slice-aggregate-call-with c =
     let S = c .before .before .before .before .before .before .before .before .before .before in
     let a = S .args in
     let n = c .before .before .before .before .message-length .result in
-    sym (length-front 192 n (omega (arith, c .before .before .before .before .message-length .ensures, message-most (S .pre .0 .small) (a .c))))
+    sym (length-front 192 n (omega (arith, c .before .before .before .before .message-length .ensures, message-le (S .pre .0 .small) (a .c))))
 
 array-borrow-prefix-inbox : tie.Need-array-borrow-prefix-inbox
 array-borrow-prefix-inbox c =
     let S = c .before .before .before .before .before .before .before .before .before .before in
     let a = S .args in
-    omega (arith, c .before .before .before .inbox-length .ensures, inbox-most (S .pre .0 .small) (a .c) (S .pre .0 .calls-most))
+    omega (arith, c .before .before .before .inbox-length .ensures, inbox-le (S .pre .0 .small) (a .c) (S .pre .0 .calls-most))
 
 slice-aggregate-call-with-2 : tie.Need-slice-aggregate-call-with-2
 slice-aggregate-call-with-2 c =
     let S = c .before .before .before .before .before .before .before .before .before .before .before in
     let a = S .args in
     let n = c .before .before .before .before .inbox-length .result in
-    sym (length-front 3088 n (omega (arith, c .before .before .before .before .inbox-length .ensures, inbox-most (S .pre .0 .small) (a .c) (S .pre .0 .calls-most))))
+    sym (length-front 3088 n (omega (arith, c .before .before .before .before .inbox-length .ensures, inbox-le (S .pre .0 .small) (a .c) (S .pre .0 .calls-most))))
 
 call-with-requires : tie.Need-call-with-requires
 call-with-requires c κs =
@@ -52,8 +52,8 @@ call-with-requires c κs =
     let size = c .before .before .before .before .inbox-length .result in (
       S .pre .0,
       S .pre .1,
-      length-front 192 len (omega (arith, c .before .before .before .before .before .message-length .ensures, message-most (S .pre .0 .small) (a .c))) ∙ c .before .before .before .before .before .message-length .ensures,
-      take-zeros 3088 size (omega (arith, c .before .before .before .before .inbox-length .ensures, inbox-most (S .pre .0 .small) (a .c) (S .pre .0 .calls-most))) ∙ ap (λ (x : ℕ). replicate x 0) (c .before .before .before .before .inbox-length .ensures),
+      length-front 192 len (omega (arith, c .before .before .before .before .before .message-length .ensures, message-le (S .pre .0 .small) (a .c))) ∙ c .before .before .before .before .before .message-length .ensures,
+      take-zeros 3088 size (omega (arith, c .before .before .before .before .inbox-length .ensures, inbox-le (S .pre .0 .small) (a .c) (S .pre .0 .calls-most))) ∙ ap (λ (x : ℕ). replicate x 0) (c .before .before .before .before .inbox-length .ensures),
     )
 
 same-length : tie.Need-same-length

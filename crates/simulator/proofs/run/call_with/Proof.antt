@@ -1,9 +1,9 @@
 -- `call_with` meets its contract: the inbox is made, and the step done.
-use Rattle.simulator.proofs.Running.{block-most, outbox-most, part-room, parted-as}
+use Rattle.simulator.proofs.Running.{block-le, outbox-le, part-room, parted-as}
 use Rattle.simulator.specs.Steps.{tableScenario, sentBy}
 use Rattle.simulation.specs.Run.{inboxOf}
 use Rattle.wire.specs.Length.{blockLength, inboxLength, outboxLength}
-use Rattle.wire.proofs.Laws.{block-size}
+use Rattle.wire.proofs.Laws.{block-size-is}
 use lib.ListN.{length}
 use native.Mathlib.Omega.{arith}
 use mathlib.Core.List.{[]}
@@ -34,11 +34,11 @@ step-part-requires c κs =
     let S = c .before .before .before .before .before .before .before .before .before .before .before .before .before .before .before .before .before .before .before in
     let a = S .args in
     let h = S .pre .0 in
-    let b = c .before .before .before .before .block-length .ensures ∙ block-size (h .small .coded) in
+    let b = c .before .before .before .before .block-length .ensures ∙ block-size-is (h .small .coded) in
     let o = c .before .before .before .outbox-length .ensures in (
       omega (arith, S .pre .1, h .small .coded .quorum .n-most),
-      omega (arith, b, block-most (h .small)),
-      omega (arith, o, outbox-most (h .small) (a .c + 1) (omega arith) (omega (arith, h .calls-most))),
+      omega (arith, b, block-le (h .small)),
+      omega (arith, o, outbox-le (h .small) (a .c + 1) (omega arith) (omega (arith, h .calls-most))),
       part-room (a .settings .n) (c .before .before .before .before .block-length .result) (blockLength (a .settings .k) (a .settings .t)) (a .i) (length (now (a .blocks))) b (h .blocks-room) (S .pre .1),
       part-room (a .settings .n) (c .before .before .before .outbox-length .result) (outboxLength (a .settings .n) (a .settings .t) (a .settings .k) (a .c + 1)) (a .i) (length (now (a .sending))) o (h .sending-room) (S .pre .1),
     )
@@ -65,7 +65,7 @@ returns c =
     (c .before .before .before .before .before .before .before .before .before .before .before .before .before .before .make-inbox .last .1 .1 .1 .1 .1 .1 .1 .1 .0)
     (inboxOf (tableScenario (a .settings) [] (a .faulty) (now (a .places)) (now (a .input))) (a .c) (sentBy (now (a .sent)) (inboxLength (a .settings .n) (a .settings .t) (a .settings .k) (a .c + 1))) (a .i + 1))
     (now (a .blocks)) (now (a .sending)) (p .result) (p .last .1 .0) (p .last .1 .1 .1 .1 .1 .0)
-    (c .before .before .before .before .before .before .before .before .before .block-length .ensures ∙ block-size (h .small .coded)) (c .before .before .before .before .before .before .before .before .outbox-length .ensures) (c .before .before .before .before .before .before .before .before .before .before .before .before .before .before .make-inbox .ensures) (p .ensures)
+    (c .before .before .before .before .before .before .before .before .before .block-length .ensures ∙ block-size-is (h .small .coded)) (c .before .before .before .before .before .before .before .before .outbox-length .ensures) (c .before .before .before .before .before .before .before .before .before .before .before .before .before .before .make-inbox .ensures) (p .ensures)
 
 pub call-with-spec : {M : Type 1} → statement M
 call-with-spec =

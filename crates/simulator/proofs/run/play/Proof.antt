@@ -1,6 +1,6 @@
 -- `play` meets its contract: the loop makes call after call.
 use Rattle.simulator.proofs.Plays.{playable-calling, held-next}
-use Rattle.simulator.specs.Steps.{Held, tableScenario}
+use Rattle.simulator.specs.Steps.{AfterCalls, tableScenario}
 use Rattle.wire.specs.Length.{blockLength, inboxLength}
 use Rattle.wire.proofs.Laws.{copied-all}
 use lib.ListN.{length}
@@ -15,7 +15,7 @@ use Rattle.simulator.proofs.run.play.Tie as tie
 abbrev Inv-loop : tie.InvT-loop
 Inv-loop input places faulty settings block blocks₀ sent₀ sending₀ t held₀ last c₀ blocks sent sending held c =
     (c ≤ 3 * settings .t + 9) × (last ≡ 3 * settings .t + 9) × (length blocks ≡ length blocks₀) × (length sent ≡ 49408) × (length sending ≡ 49408)
-    × Held (tableScenario settings block faulty places input) c held blocks (blockLength (settings .k) (settings .t)) sent (inboxLength (settings .n) (settings .t) (settings .k) (c + 1))
+    × AfterCalls (tableScenario settings block faulty places input) c held blocks (blockLength (settings .k) (settings .t)) sent (inboxLength (settings .n) (settings .t) (settings .k) (c + 1))
 
 abbrev μ-loop : tie.MeasureT-loop
 μ-loop input places faulty settings block blocks₀ sent₀ sending₀ t held₀ last c₀ blocks sent sending held c = 3 * settings .t + 9 - c
@@ -86,7 +86,7 @@ returns c =
     let S = L .before .before .before .before .before .before .before in
     let a = S .args in
     let e : L .loop .c ≡ 3 * a .settings .t + 9 = omega (arith, L .loop .inv .0, c .loop-test .left) in
-    subst (λ (x : ℕ). Held (tableScenario (a .settings) (now (a .block)) (a .faulty) (now (a .places)) (now (a .input))) x (L .loop .held) (L .loop .blocks) (blockLength (a .settings .k) (a .settings .t)) (L .loop .sent) (inboxLength (a .settings .n) (a .settings .t) (a .settings .k) (x + 1))) e (L .loop .inv .5)
+    subst (λ (x : ℕ). AfterCalls (tableScenario (a .settings) (now (a .block)) (a .faulty) (now (a .places)) (now (a .input))) x (L .loop .held) (L .loop .blocks) (blockLength (a .settings .k) (a .settings .t)) (L .loop .sent) (inboxLength (a .settings .n) (a .settings .t) (a .settings .k) (x + 1))) e (L .loop .inv .5)
 
 pub play-spec : {M : Type 1} → statement M
 play-spec =

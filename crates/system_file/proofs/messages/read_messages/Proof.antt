@@ -5,7 +5,7 @@ use Prim.Native.Nat.{_-_, _≤_, _<_}
 use native.Mathlib.Omega.{arith}
 use borrow.Author.Needs.{needs}
 use lib.ListN.{length}
-use Rattle.system_file.proofs.Rows.{table-length}
+use Rattle.system_file.proofs.Rows.{length-table}
 use Rattle.system_file.proofs.Entries.{Sofar, sofar-start, sofar-end, sofar-stop, sofar-step, sofar-more}
 use Rattle.system_file.proofs.messages.read_messages.Statement.{statement}
 use Rattle.system_file.proofs.messages.read_messages.Tie as tie
@@ -37,7 +37,7 @@ step c =
 whole : (c : tie.At-loop Inv-loop μ-loop) → length (c .loop .places) ≡ length (c .before .before .before .args .places .now)
 whole c =
     let i = c .loop .inv in
-    ap length (i .table) ∙ table-length (i .messages) ∙ sym (ap length (c .before .before .before .pre .1) ∙ table-length [])
+    ap length (i .table) ∙ length-table (i .messages) ∙ sym (ap length (c .before .before .before .pre .1) ∙ length-table [])
 
 loop-holds : tie.Need-loop-holds Inv-loop μ-loop
 loop-holds c =
@@ -51,7 +51,7 @@ enter-line-requires c κs =
     let S = L .before .before .before in
     let i = L .loop .inv in (
       record { coded = S .pre .0 .coded; size = S .pre .0 .size; at-least = i .after; at-most = i .within },
-      ap length (i .table) ∙ table-length (i .messages),
+      ap length (i .table) ∙ length-table (i .messages),
     )
 
 enum-known-from : tie.Need-enum-known-from Inv-loop μ-loop

@@ -1,5 +1,5 @@
 -- `wire::block_length` meets its contract.
-use Rattle.wire.proofs.Laws.{settings-in}
+use Rattle.wire.proofs.Lengths.{settings-in}
 use Rattle.wire.proofs.Factors.{block-bound}
 use Rattle.wire.specs.Length.{blockLength, blockSize, inSettings}
 use Rattle.settings.specs.Valid.{Coded}

@@ -1,5 +1,5 @@
 -- `wire::kind_layout` meets its contract.
-use Rattle.wire.proofs.Laws.{settings-in}
+use Rattle.wire.proofs.Lengths.{settings-in}
 use Rattle.wire.specs.Length.{inSettings, rowLength, kindLength}
 use Rattle.wire.specs.Slot.{layoutWith}
 use Rattle.lists.proofs.Tests.{cond-yes, cond-no}

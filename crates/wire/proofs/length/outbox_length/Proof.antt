@@ -1,6 +1,6 @@
 -- `wire::outbox_length` meets its contract.
 use Rattle.wire.proofs.Factors.{box-bound}
-use Rattle.wire.proofs.Laws.{length-most, length-some}
+use Rattle.wire.proofs.Lengths.{length-le, length-some}
 use Rattle.wire.specs.Length.{roundLayout, messageLength, boxLength, outboxLength}
 use Rattle.settings.specs.Valid.{Coded}
 use Rattle.wire.specs.Slot.{width}
@@ -32,13 +32,13 @@ coded c =
 add-result : tie.Need-add-result
 add-result c =
     let a = c .before .before .args in
-    omega (arith, length-most (coded c) (a .c), c .before .message-length .ensures)
+    omega (arith, length-le (coded c) (a .c), c .before .message-length .ensures)
 
 mul-result : tie.Need-mul-result
 mul-result c =
     let a = c .before .before .args in
     let v = coded c in
-    let l : 1 + c .before .message-length .result ≤ 1024 = omega (arith, length-most v (a .c), c .before .message-length .ensures) in
+    let l : 1 + c .before .message-length .result ≤ 1024 = omega (arith, length-le v (a .c), c .before .message-length .ensures) in
     omega (arith, box-bound {n = a .n} {l = 1 + c .before .message-length .result} (v .quorum .n-most) l)
 
 returns-2 : tie.Need-returns-2

@@ -1,0 +1,28 @@
+-- What a crate above may know of runs and systems besides the definitions.
+--   One controller's run
+--     stepNumber                the number of a step; carried-out-yes, carried-out-no: it is 0 exactly where the step is carried out
+--     chain                     a run is its calls in order; refused-away: a refused step can be left out
+--     At                        a state of the run before call c; step-at: a step that is carried out leaves one before call c + 1
+--     valid-at                  its settings and own number are valid
+--     finished-step             after the last call every step is refused with 8 and leaves everything
+--   A correct controller in a system
+--     valid, coded, numbered    its settings and number are in range; length-block: its block has the stated length
+--     call-at                   call c is made on a state whose next call is c
+--     call-first, call-next, call-last   what calls are made on and leave
+--     delivered                 what i sent to j in round c is what j's call c + 1 reads
+--   The steps of the proof
+--     heldBlock, is-block, sender-block   the block held after call 2; the sender's, if the sender is correct
+--     one-matrix, row-is-marks  the vote: one matrix, with each correct controller's row as it was sent
+--     one-core, enough-correct, one-block   one core; at least t + 1 of its members are correct; they hold one block
+--     piece-sent                with a core each correct controller sends its piece of that block in round 3t + 8
+--     sender-in-core            a correct sender has every correct controller in the core
+--   Demand 3
+--     agreement, one-plan       the theorem, and its corollary
+pub use Rattle.agreement.proofs.Run.{stepNumber, carried-out-yes, carried-out-no, chain, refused-away, At, step-at, valid-at, finished-step}
+pub use Rattle.agreement.proofs.System.{valid, coded, numbered, length-block, call-at, call-first, call-next, call-last, delivered}
+pub use Rattle.agreement.proofs.Blocks.{heldBlock, is-block, sender-block}
+pub use Rattle.agreement.proofs.Votes.{one-matrix, row-is-marks}
+pub use Rattle.agreement.proofs.Cores.{one-core, enough-correct, one-block}
+pub use Rattle.agreement.proofs.Pieces.{piece-sent}
+pub use Rattle.agreement.proofs.Verdict.{sender-in-core}
+pub use Rattle.agreement.proofs.Agreement.{agreement, one-plan}

@@ -1,0 +1,4 @@
+-- The theorems.
+--     library-runs     every step of every run through the library is that of the run of `agreement`, the state as bytes
+--     library-agrees   what demand 3 says of runs through the library
+pub use Rattle.boards_agreement.proofs.Library.{library-runs, library-agrees}

@@ -1,9 +1,0 @@
--- What the private functions ask of a state; a step that is carried out has it.
---   Bounded s   at most 16 controllers, and a next call that the code can count on from
-use Prim.Native.Nat.{_≤_}
-use Rattle.protocol.specs.declared.State.{State}
-
-pub record Bounded (s : State) : Type 0 where
-  pub few : s .settings .n ≤ 16
-  pub least : 1 ≤ s .next
-  pub most : s .next ≤ 24
