@@ -373,23 +373,30 @@ mod tests {
         Controller::start(settings, own, vec![7; length])
     }
 
-    /// The lengths that the header defines are those here, and a state has that length and no other.
+    /// The length of a state that the header defines is the library's: a state has that length and no other.
     #[test]
-    fn lengths_in_the_header() {
-        let header = include_str!("../../../include/potekawhi.h");
-        let defined = |name: &str| -> usize {
-            let define = format!("#define POTEKAWHI_{name}_LENGTH ");
-            let line = header.lines().find_map(|line| line.strip_prefix(&define));
-            line.unwrap().parse().unwrap()
-        };
-        assert_eq!(defined("STATE"), raw::STATE_LENGTH);
-        assert_eq!(defined("ROWS"), raw::ROWS_LENGTH);
-        assert_eq!(defined("PAIRS"), raw::PAIRS_LENGTH);
-        assert_eq!(defined("SETS"), raw::SETS_LENGTH);
+    fn length_in_the_header() {
         for length in 0..2 * raw::STATE_LENGTH {
             let taken = raw::outcome(&vec![0; length]) == 0;
             assert_eq!(taken, length == raw::STATE_LENGTH);
         }
+    }
+
+    /// So are the lengths of rows, missing pairs and sets, and the number for beyond.
+    #[test]
+    fn numbers_in_the_header() {
+        for length in 0..64 {
+            let rows = vec![0; length];
+            let taken = raw::missing_pairs(4, &rows, &mut [0; raw::PAIRS_LENGTH]) == 0;
+            assert_eq!(taken, length == raw::ROWS_LENGTH);
+            let taken = raw::star_of_pairs(4, 1, &rows, &mut [0; raw::SETS_LENGTH]) == 0;
+            assert_eq!(taken, length == raw::PAIRS_LENGTH);
+            let mut sets = vec![0; length];
+            let taken = raw::star(4, 1, &[0; raw::ROWS_LENGTH], &mut sets) == 0;
+            assert_eq!(taken, length == raw::SETS_LENGTH);
+        }
+        let slots = [1, 0x1e, 1, 0x22, 1, 0x37, 1, 0x5b];
+        assert_eq!(raw::decode(4, 1, 1, &slots, &mut [7; 2]), raw::BEYOND);
     }
 
     #[test]

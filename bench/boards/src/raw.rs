@@ -2,14 +2,43 @@
 //! length may be given, as the header says. A slice is a valid pointer that is not null, and two slices of one call do not overlap where
 //! one of them is written, so that the functions here are safe to call. This is the only module with unsafe code.
 
-/// `POTEKAWHI_STATE_LENGTH`, `POTEKAWHI_ROWS_LENGTH`, `POTEKAWHI_PAIRS_LENGTH` and `POTEKAWHI_SETS_LENGTH`.
-pub const STATE_LENGTH: usize = 115;
-pub const ROWS_LENGTH: usize = 32;
-pub const PAIRS_LENGTH: usize = 15;
-pub const SETS_LENGTH: usize = 8;
+/// The header. Its numbers are the only ones written by hand, here they are read from it.
+const HEADER: &[u8] = include_bytes!("../../../include/potekawhi.h");
 
-/// What `decode` answers where no block is close enough to the slots: `POTEKAWHI_BEYOND`.
-pub const BEYOND: u8 = 255;
+/// The number that the header defines as `name`: the digits behind the name and a space, where these follow `#define` and a space.
+const fn defined(name: &str) -> usize {
+    let words = [b"#define ", name.as_bytes(), b" "];
+    let mut start = 0;
+    loop {
+        let (mut at, mut word, mut same) = (start, 0, true);
+        while word < words.len() {
+            let mut i = 0;
+            while i < words[word].len() {
+                same = same && HEADER[at] == words[word][i];
+                at += 1;
+                i += 1;
+            }
+            word += 1;
+        }
+        if same {
+            let mut number = 0;
+            while HEADER[at].is_ascii_digit() {
+                number = 10 * number + (HEADER[at] - b'0') as usize;
+                at += 1;
+            }
+            return number;
+        }
+        start += 1;
+    }
+}
+
+pub const STATE_LENGTH: usize = defined("POTEKAWHI_STATE_LENGTH");
+pub const ROWS_LENGTH: usize = defined("POTEKAWHI_ROWS_LENGTH");
+pub const PAIRS_LENGTH: usize = defined("POTEKAWHI_PAIRS_LENGTH");
+pub const SETS_LENGTH: usize = defined("POTEKAWHI_SETS_LENGTH");
+
+/// What `decode` answers where no block is close enough to the slots: the number of no refusal.
+pub const BEYOND: u8 = defined("POTEKAWHI_BEYOND") as u8;
 
 extern "C" {
     fn potekawhi_start(

@@ -14,8 +14,10 @@ use Rattle.agreement.proofs.Verdict.{verdict, sender-verdict}
 module _ (code : (n t k : ℕ) → Coded n t k → Code n t k) (graph : (n t : ℕ) → Quorum n t → (rows : List ℕ) → Graph rows n t) where
   pub concluded : Agreement
   concluded S H =
-      let C : (i : ℕ) (f : Correct S i) → Code (S .settings .n) (S .settings .t) (S .settings .k) = λ i f. code (S .settings .n) (S .settings .t) (S .settings .k) (coded S H i f) in
-      let G : (i : ℕ) (f : Correct S i) → Graph (lastMatrix S i) (S .settings .n) (S .settings .t) = λ i f. graph (S .settings .n) (S .settings .t) (coded S H i f .quorum) (lastMatrix S i) in
+      let C : (i : ℕ) (f : Correct S i) → Code (S .settings .n) (S .settings .t) (S .settings .k) = λ i f. code (S .settings .n) (S .settings .t)
+      (S .settings .k) (coded S H i f) in
+      let G : (i : ℕ) (f : Correct S i) → Graph (lastMatrix S i) (S .settings .n) (S .settings .t) = λ i f. graph (S .settings .n) (S .settings .t)
+      (coded S H i f .quorum) (lastMatrix S i) in
       record {
         set = λ i f. set-by-last S H i f;
         later = later S H;

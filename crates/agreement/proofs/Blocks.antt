@@ -19,15 +19,18 @@ use Rattle.wire.specs.declared.Round.{Round}
 use Rattle.wire.specs.declared.Round.the-variants.{Pieces}
 use Rattle.wire.specs.Length.{blockLength, kindLayout, roundLayout}
 use Rattle.wire.specs.Slot.{width, messageOf, bytes, slots}
-use Rattle.wire.proofs.Laws.{call-send, call-receive, call-compare, round-block, round-pieces, round-marks, row-block, row-pieces, row-marks, block-length-is, Sized, sized-bytes}
+use Rattle.wire.proofs.Laws.{call-send, call-receive, call-compare, round-block, round-pieces, round-marks, row-block, row-pieces, row-marks, block-length-is}
+use Rattle.wire.proofs.Laws.{Sized, sized-bytes}
 use Rattle.reed_solomon.specs.Encode.{pieceOf}
 use Rattle.dispersal.specs.Dispersal.{sentBlock, receivedBlock, twoPieces, sentPieces, isMarked, marksOf, marksMessage, sentMarks}
-use Rattle.dispersal.proofs.Laws.{sent-block, received-message, length-received, received-all, sent-pieces, two-pieces-is, marks-set, marked-yes, yes-marked, sent-marks}
+use Rattle.dispersal.proofs.Laws.{sent-block, received-message, length-received, received-all, sent-pieces, two-pieces-is, marks-set, marked-yes, yes-marked}
+use Rattle.dispersal.proofs.Laws.{sent-marks}
 use Rattle.protocol.specs.Calls.{Carried, sendCall, receiveCall, compareCall}
 use Rattle.protocol.proofs.Laws.{of-send, of-receive, of-compare}
 use Rattle.agreement.specs.Run.{Local}
 use Rattle.agreement.specs.Agreement.{System, Correct, Supposed, call, layoutOf}
-use Rattle.agreement.proofs.System.{coded, numbered, length-block, call-at, call-first, length-round, outbox-long, block-long, performs-kind, sends-by, block-from, delivered}
+use Rattle.agreement.proofs.System.{coded, numbered, length-block, call-at, call-first, length-round, outbox-long, block-long, performs-kind, sends-by}
+use Rattle.agreement.proofs.System.{block-from, delivered}
 use Rattle.agreement.proofs.Coding.{IsBlock, Code}
 
 -- the block of i after call 2
@@ -56,7 +59,8 @@ module _ (S : System) (H : Supposed S) where
         let a = r .before-at in
         r .block-is
         ∙ ap (λ (x : Carried). x .block) (performs-kind S H i f 2 (omega arith) (omega arith) Receive (call-receive (S .settings .t)) receiveCall of-receive)
-        ∙ (λ x. receivedBlock (m .lent .inbox) (roundLayout (a .settings-is x .n) (a .settings-is x .t) (a .settings-is x .k) (a .next-is x - 1)) (a .settings-is x .sender) (m .before .block))
+        ∙ (λ x. receivedBlock (m .lent .inbox) (roundLayout (a .settings-is x .n) (a .settings-is x .t) (a .settings-is x .k) (a .next-is x - 1))
+        (a .settings-is x .sender) (m .before .block))
 
     long-2 : length (call S i 2 .before .block) ≡ layoutOf S 1 .length
     long-2 = block-long S H i f 2 (omega arith) (omega arith) ∙ sym len-1
@@ -68,7 +72,8 @@ module _ (S : System) (H : Supposed S) where
           ∙ block-long S H i f 2 (omega arith) (omega arith);
       bytes = λ p.
           subst (λ (l : List ℕ). lib.ListN.getD l p 0 < 256) (sym received)
-          (received-all (call S i 2 .lent .inbox) (layoutOf S 1) (S .settings .sender) (call S i 2 .before .block) (λ x. x < 256) (lit< tt) (call S i 2 .lent .inbox-bytes) long-2 p);
+          (received-all (call S i 2 .lent .inbox) (layoutOf S 1) (S .settings .sender) (call S i 2 .before .block) (λ x. x < 256) (lit< tt)
+          (call S i 2 .lent .inbox-bytes) long-2 p);
     }
 
     -- round 2: to j the own piece, then piece j
@@ -77,7 +82,8 @@ module _ (S : System) (H : Supposed S) where
         let m = call S i 2 in
         let o = m .lent .outbox in
         sends-by S H i f 2 (omega arith) (omega arith) Receive (call-receive (S .settings .t)) receiveCall of-receive
-        (λ s own next. sentPieces (s .n) (s .t) (s .k) own (receivedBlock (m .lent .inbox) (roundLayout (s .n) (s .t) (s .k) (next - 1)) (s .sender) (m .before .block)) o) refl
+        (λ s own next. sentPieces (s .n) (s .t) (s .k) own
+        (receivedBlock (m .lent .inbox) (roundLayout (s .n) (s .t) (s .k) (next - 1)) (s .sender) (m .before .block)) o) refl
         ∙ ap (λ (b : List ℕ). sentPieces (S .settings .n) (S .settings .t) (S .settings .k) i b o) (sym received)
         ∙ sent-pieces (S .settings .n) (S .settings .t) (S .settings .k) i (heldBlock S i) (coded S H i f) (numbered S H i f) (is-block .size) o
         (outbox-long S H i f 2 (omega arith) (omega arith) ∙ ap (λ (x : Layout). S .settings .n * width x) layout-2)
@@ -93,28 +99,34 @@ module _ (S : System) (H : Supposed S) where
         let m = call S i 3 in
         let o = m .lent .outbox in
         let F : Settings → ℕ → ℕ → List ℕ → List ℕ = λ s own next b.
-        sentMarks (roundLayout (s .n) (s .t) (s .k) next) (s .n) (marksOf (s .n) (s .t) (s .k) own (m .lent .inbox) (roundLayout (s .n) (s .t) (s .k) (next - 1)) b) o in
+        sentMarks (roundLayout (s .n) (s .t) (s .k) next) (s .n)
+        (marksOf (s .n) (s .t) (s .k) own (m .lent .inbox) (roundLayout (s .n) (s .t) (s .k) (next - 1)) b) o in
         sends-by S H i f 3 (omega arith) (omega arith) Compare (call-compare (S .settings .t)) compareCall of-compare
         (λ s own next. F s own next (m .before .block)) refl
         ∙ ap (F (S .settings) i 3) (block-from S H i f 3 (omega arith) (omega arith))
-        ∙ sent-marks (layoutOf S 3) (S .settings .n) (marksOf (S .settings .n) (S .settings .t) (S .settings .k) i (m .lent .inbox) (layoutOf S 2) (heldBlock S i)) o
+        ∙ sent-marks (layoutOf S 3) (S .settings .n)
+        (marksOf (S .settings .n) (S .settings .t) (S .settings .k) i (m .lent .inbox) (layoutOf S 2) (heldBlock S i)) o
         len-3 (outbox-long S H i f 3 (omega arith) (omega arith))
 
     -- the marks as a set
-    pub marks-member : (j : ℕ) → 1 ≤ j → j ≤ S .settings .n → member marks (j - 1) ≡ isMarked (S .settings .k) (S .settings .t) i (call S i 3 .lent .inbox) (layoutOf S 2) (heldBlock S i) j
+    pub marks-member : (j : ℕ) → 1 ≤ j → j ≤ S .settings .n
+        → member marks (j - 1) ≡ isMarked (S .settings .k) (S .settings .t) i (call S i 3 .lent .inbox) (layoutOf S 2) (heldBlock S i) j
     unfolding marks
     marks-member j h l =
         let e : j - 1 + 1 ≡ j = omega arith in
         ap (λ (s : ℕ). member s (j - 1))
-        (marks-set (S .settings .n) (S .settings .t) (S .settings .k) i (heldBlock S i) (coded S H i f) (numbered S H i f) (is-block .size) (call S i 3 .lent .inbox) (layoutOf S 2))
-        ∙ member-set (S .settings .n) (λ x. isMarked (S .settings .k) (S .settings .t) i (call S i 3 .lent .inbox) (layoutOf S 2) (heldBlock S i) (x + 1)) (j - 1) (omega arith)
+        (marks-set (S .settings .n) (S .settings .t) (S .settings .k) i (heldBlock S i) (coded S H i f) (numbered S H i f) (is-block .size)
+        (call S i 3 .lent .inbox) (layoutOf S 2))
+        ∙ member-set (S .settings .n) (λ x. isMarked (S .settings .k) (S .settings .t) i (call S i 3 .lent .inbox) (layoutOf S 2) (heldBlock S i) (x + 1))
+        (j - 1) (omega arith)
         ∙ ap (isMarked (S .settings .k) (S .settings .t) i (call S i 3 .lent .inbox) (layoutOf S 2) (heldBlock S i)) e
 
     pub marks-lt : marks < Prim.Native.Nat._^_ 2 (S .settings .n)
     unfolding marks
     marks-lt =
         subst (λ (s : ℕ). s < Prim.Native.Nat._^_ 2 (S .settings .n))
-        (sym (marks-set (S .settings .n) (S .settings .t) (S .settings .k) i (heldBlock S i) (coded S H i f) (numbered S H i f) (is-block .size) (call S i 3 .lent .inbox) (layoutOf S 2)))
+        (sym (marks-set (S .settings .n) (S .settings .t) (S .settings .k) i (heldBlock S i) (coded S H i f) (numbered S H i f) (is-block .size)
+        (call S i 3 .lent .inbox) (layoutOf S 2)))
         (set-lt (S .settings .n) (λ x. isMarked (S .settings .k) (S .settings .t) i (call S i 3 .lent .inbox) (layoutOf S 2) (heldBlock S i) (x + 1)))
 
   -- ---- the sender is correct
@@ -133,9 +145,11 @@ module _ (S : System) (H : Supposed S) where
 
     pub sender-block : (i : ℕ) → Correct S i → heldBlock S i ≡ S .block (S .settings .sender)
     sender-block i f =
-        let long : length (S .block (S .settings .sender)) ≡ layoutOf S 1 .length = length-block S H (S .settings .sender) g ∙ sym (len-1 (S .settings .sender) g) in
+        let long : length (S .block (S .settings .sender)) ≡ layoutOf S 1 .length = length-block S H (S .settings .sender) g
+        ∙ sym (len-1 (S .settings .sender) g) in
         let came : messageOf (call S i 2 .lent .inbox) (layoutOf S 1) (S .settings .sender) ≡ S .block (S .settings .sender) =
-        delivered S H (S .settings .sender) i 1 g f (omega arith) (omega arith) (λ _. bytes (S .block (S .settings .sender))) (λ m. sized-bytes (layoutOf S 1) (S .block (S .settings .sender)) long) sent in
+        delivered S H (S .settings .sender) i 1 g f (omega arith) (omega arith) (λ _. bytes (S .block (S .settings .sender)))
+        (λ m. sized-bytes (layoutOf S 1) (S .block (S .settings .sender)) long) sent in
         let some : 0 < S .settings .k * (S .settings .t + 1) = mul-pos (coded S H i f .k-least) (omega arith) in
         received i f
         ∙ received-message (call S i 2 .lent .inbox) (layoutOf S 1) (S .settings .sender) (call S i 2 .before .block)
@@ -148,7 +162,9 @@ module _ (S : System) (H : Supposed S) where
     piece i j = pieceOf (S .settings .k) (S .settings .t) (heldBlock S i) j
 
     -- what j reads of i in call 3: i's own piece, then piece j of i's coding
-    pieces-read : (i j : ℕ) → Correct S i → Correct S j → messageOf (call S j 3 .lent .inbox) (layoutOf S 2) i ≡ pieceOf (S .settings .k) (S .settings .t) (heldBlock S i) i ++ pieceOf (S .settings .k) (S .settings .t) (heldBlock S i) j
+    pieces-read : (i j : ℕ) → Correct S i → Correct S j
+        → messageOf (call S j 3 .lent .inbox) (layoutOf S 2) i ≡ pieceOf (S .settings .k) (S .settings .t) (heldBlock S i) i ++ pieceOf (S .settings .k)
+        (S .settings .t) (heldBlock S i) j
     pieces-read i j f g =
         delivered S H i j 2 f g (omega arith) (omega arith) (twoPieces (S .settings .k) (S .settings .t) i (heldBlock S i))
         (λ m. subst (Sized (layoutOf S 2)) (sym (two-pieces-is (S .settings .k) (S .settings .t) i (heldBlock S i) m))
@@ -160,20 +176,28 @@ module _ (S : System) (H : Supposed S) where
 
     -- i marks j: the codings agree at both places
     pub marks-agree : (i j : ℕ) (f : Correct S i) (g : Correct S j) → member (marks i f) (j - 1) ≡ true
-        → (pieceOf (S .settings .k) (S .settings .t) (heldBlock S j) j ≡ pieceOf (S .settings .k) (S .settings .t) (heldBlock S i) j) × (pieceOf (S .settings .k) (S .settings .t) (heldBlock S j) i ≡ pieceOf (S .settings .k) (S .settings .t) (heldBlock S i) i)
+        → (pieceOf (S .settings .k) (S .settings .t) (heldBlock S j) j ≡ pieceOf (S .settings .k) (S .settings .t) (heldBlock S i) j) × (pieceOf
+        (S .settings .k) (S .settings .t) (heldBlock S j) i ≡ pieceOf (S .settings .k) (S .settings .t) (heldBlock S i) i)
     marks-agree i j f g y =
         ⊎-elim
-        (λ (e : j ≡ i). (ap (λ (x : ℕ). pieceOf (S .settings .k) (S .settings .t) (heldBlock S x) j) e, ap (λ (x : ℕ). pieceOf (S .settings .k) (S .settings .t) (heldBlock S x) i) e))
+        (λ (e : j ≡ i). (
+          ap (λ (x : ℕ). pieceOf (S .settings .k) (S .settings .t) (heldBlock S x) j) e,
+          ap
+              (λ (x : ℕ). pieceOf (S .settings .k) (S .settings .t) (heldBlock S x) i) e,
+        ))
         (λ (n : j ≡ i → ⊥).
-        marked-yes (S .settings .k) (S .settings .t) i (call S i 3 .lent .inbox) (layoutOf S 2) (heldBlock S i) j (pieceOf (S .settings .k) (S .settings .t) (heldBlock S j) j) (pieceOf (S .settings .k) (S .settings .t) (heldBlock S j) i)
+        marked-yes (S .settings .k) (S .settings .t) i (call S i 3 .lent .inbox) (layoutOf S 2) (heldBlock S i) j
+        (pieceOf (S .settings .k) (S .settings .t) (heldBlock S j) j) (pieceOf (S .settings .k) (S .settings .t) (heldBlock S j) i)
         (pieces-read j i g f) (C .length-piece (heldBlock S j) j) (coded S H i f .k-least)
         (sym (marks-member i f j (g .least) (g .most)) ∙ y) n)
         (same-or-not j i)
 
     pub agree-marks : (i j : ℕ) (f : Correct S i) (g : Correct S j)
-        → pieceOf (S .settings .k) (S .settings .t) (heldBlock S j) j ≡ pieceOf (S .settings .k) (S .settings .t) (heldBlock S i) j → pieceOf (S .settings .k) (S .settings .t) (heldBlock S j) i ≡ pieceOf (S .settings .k) (S .settings .t) (heldBlock S i) i
+        → pieceOf (S .settings .k) (S .settings .t) (heldBlock S j) j ≡ pieceOf (S .settings .k) (S .settings .t) (heldBlock S i) j
+        → pieceOf (S .settings .k) (S .settings .t) (heldBlock S j) i ≡ pieceOf (S .settings .k) (S .settings .t) (heldBlock S i) i
         → member (marks i f) (j - 1) ≡ true
     agree-marks i j f g p q =
         marks-member i f j (g .least) (g .most)
-        ∙ yes-marked (S .settings .k) (S .settings .t) i (call S i 3 .lent .inbox) (layoutOf S 2) (heldBlock S i) j (pieceOf (S .settings .k) (S .settings .t) (heldBlock S j) j) (pieceOf (S .settings .k) (S .settings .t) (heldBlock S j) i)
+        ∙ yes-marked (S .settings .k) (S .settings .t) i (call S i 3 .lent .inbox) (layoutOf S 2) (heldBlock S i) j
+        (pieceOf (S .settings .k) (S .settings .t) (heldBlock S j) j) (pieceOf (S .settings .k) (S .settings .t) (heldBlock S j) i)
         (pieces-read j i g f) (C .length-piece (heldBlock S j) j) (coded S H i f .k-least) p q

@@ -33,7 +33,8 @@ pub code-laws : (n t k : ℕ) → Coded n t k → Code n t k
 code-laws n t k v = record {
   length-piece = λ B i. length-piece k t B i;
   determined = λ A B a b many.
-      blocks-equal n t k A B (λ i. same (pieceOf k t A (i + 1)) (pieceOf k t B (i + 1))) (omega (arith, v .quorum .n-most)) (a .size) (b .size) (a .bytes) (b .bytes)
+      blocks-equal n t k A B (λ i. same (pieceOf k t A (i + 1)) (pieceOf k t B (i + 1))) (omega (arith, v .quorum .n-most)) (a .size) (b .size) (a .bytes)
+      (b .bytes)
       (λ i l y. same-eq (pieceOf k t A (i + 1)) (pieceOf k t B (i + 1)) y) many;
   recovered = λ slots B is many.
       pieces-decode n t k slots B (λ i. same (messageOf slots (layoutWith k) (i + 1)) (pieceOf k t B (i + 1))) (is .size) (is .bytes)

@@ -46,8 +46,10 @@ module _ (S : System) (H : Supposed S) where
         let is = performs-kind S H i f (3 * S .settings .t + 7) (omega arith) (omega arith) Core (call-core (S .settings .t)) coreCall of-core in
         ap (λ (s : State). s .core) (r .state-is)
         ∙ ap (λ (x : Carried). x .state .core) is
-        ∙ (λ x. coreOf (coreCall (m .before .state) (m .before .block) (m .lent .inbox) (m .lent .outbox) .state .matrix) (a .settings-is x .n) (a .settings-is x .t))
-        ∙ ap (λ (x : List ℕ). coreOf x (S .settings .n) (S .settings .t)) (sym (ap (λ (s : State). s .matrix) (r .state-is) ∙ ap (λ (x : Carried). x .state .matrix) is))
+        ∙ (λ x. coreOf (coreCall (m .before .state) (m .before .block) (m .lent .inbox) (m .lent .outbox) .state .matrix) (a .settings-is x .n)
+        (a .settings-is x .t))
+        ∙ ap (λ (x : List ℕ). coreOf x (S .settings .n) (S .settings .t))
+        (sym (ap (λ (s : State). s .matrix) (r .state-is) ∙ ap (λ (x : Carried). x .state .matrix) is))
 
     -- the core at the two calls after it
     pub core-choose : call S i (3 * S .settings .t + 8) .before .state .core ≡ coreOf (lastMatrix S i) (S .settings .n) (S .settings .t)
@@ -64,15 +66,18 @@ module _ (S : System) (H : Supposed S) where
         ap (λ (c : ℕ). call S i c .before .state .core) e
         ∙ ap (λ (h : Local). h .state .core) (call-next S H i f (3 * S .settings .t + 8) (omega arith) (omega arith))
         ∙ ap (λ (s : State). s .core) (r .state-is)
-        ∙ ap (λ (x : Carried). x .state .core) (performs-kind S H i f (3 * S .settings .t + 8) (omega arith) (omega arith) Choose (call-choose (S .settings .t)) chooseCall of-choose)
+        ∙ ap (λ (x : Carried). x .state .core)
+        (performs-kind S H i f (3 * S .settings .t + 8) (omega arith) (omega arith) Choose (call-choose (S .settings .t)) chooseCall of-choose)
         ∙ core-choose
 
   -- all correct controllers have one core
-  pub one-core : (i j : ℕ) → Correct S i → Correct S j → coreOf (lastMatrix S i) (S .settings .n) (S .settings .t) ≡ coreOf (lastMatrix S j) (S .settings .n) (S .settings .t)
+  pub one-core : (i j : ℕ) → Correct S i → Correct S j
+      → coreOf (lastMatrix S i) (S .settings .n) (S .settings .t) ≡ coreOf (lastMatrix S j) (S .settings .n) (S .settings .t)
   one-core i j f g = ap (λ (x : List ℕ). coreOf x (S .settings .n) (S .settings .t)) (one-matrix S H (few-rows i f) i j f g)
 
   -- ---- the core of controller w, which is correct
-  module _ (w : ℕ) (f : Correct S w) (C : Code (S .settings .n) (S .settings .t) (S .settings .k)) (G : Graph (lastMatrix S w) (S .settings .n) (S .settings .t)) where
+  module _ (w : ℕ) (f : Correct S w) (C : Code (S .settings .n) (S .settings .t) (S .settings .k))
+      (G : Graph (lastMatrix S w) (S .settings .n) (S .settings .t)) where
     abbrev pub core : ℕ
     core = coreOf (lastMatrix S w) (S .settings .n) (S .settings .t)
 
@@ -80,7 +85,8 @@ module _ (S : System) (H : Supposed S) where
     word : ℕ → ℕ → List ℕ
     word i x = pieceOf (S .settings .k) (S .settings .t) (heldBlock S (i + 1)) (x + 1)
 
-    code : (i j : ℕ) → i < S .settings .n → j < S .settings .n → correctAt S i ≡ true → correctAt S j ≡ true → (Q : ℕ → Bool) → S .settings .t + 1 ≤ count (S .settings .n) Q
+    code : (i j : ℕ) → i < S .settings .n → j < S .settings .n → correctAt S i ≡ true → correctAt S j ≡ true → (Q : ℕ → Bool)
+        → S .settings .t + 1 ≤ count (S .settings .n) Q
         → ((x : ℕ) → x < S .settings .n → Q x ≡ true → word i x ≡ word j x) → heldBlock S (i + 1) ≡ heldBlock S (j + 1)
     unfolding word
     code i j li lj ci cj Q many agree =
@@ -88,12 +94,15 @@ module _ (S : System) (H : Supposed S) where
         (omega (
           arith,
           many,
-          count-mono (S .settings .n) Q (λ x. same (pieceOf (S .settings .k) (S .settings .t) (heldBlock S (i + 1)) (x + 1)) (pieceOf (S .settings .k) (S .settings .t) (heldBlock S (j + 1)) (x + 1)))
-              (λ x l y. eq-same (pieceOf (S .settings .k) (S .settings .t) (heldBlock S (i + 1)) (x + 1)) (pieceOf (S .settings .k) (S .settings .t) (heldBlock S (j + 1)) (x + 1)) (agree x l y)),
+          count-mono (S .settings .n) Q (λ x. same (pieceOf (S .settings .k) (S .settings .t) (heldBlock S (i + 1)) (x + 1))
+              (pieceOf (S .settings .k) (S .settings .t) (heldBlock S (j + 1)) (x + 1)))
+              (λ x l y. eq-same (pieceOf (S .settings .k) (S .settings .t) (heldBlock S (i + 1)) (x + 1))
+              (pieceOf (S .settings .k) (S .settings .t) (heldBlock S (j + 1)) (x + 1)) (agree x l y)),
         ))
 
     -- correct neighbours agree at each other's place
-    near : (i j : ℕ) → i < S .settings .n → j < S .settings .n → correctAt S i ≡ true → correctAt S j ≡ true → neighbour (lastMatrix S w) i j ≡ true → word i j ≡ word j j
+    near : (i j : ℕ) → i < S .settings .n → j < S .settings .n → correctAt S i ≡ true → correctAt S j ≡ true → neighbour (lastMatrix S w) i j ≡ true
+        → word i j ≡ word j j
     unfolding word
     near i j li lj ci cj y =
         ⊎-elim
@@ -103,7 +112,8 @@ module _ (S : System) (H : Supposed S) where
         let fj = by-index S j (lj, cj) in
         let a : i + 1 - 1 ≡ i = omega arith in
         let b : j + 1 - 1 ≡ j = omega arith in
-        let row : getD (lastMatrix S w) i 0 ≡ marks S H (i + 1) fi = ap (λ (x : ℕ). getD (lastMatrix S w) x 0) (sym a) ∙ row-is-marks S H (few-rows w f) w (i + 1) f fi in
+        let row : getD (lastMatrix S w) i 0 ≡ marks S H (i + 1) fi = ap (λ (x : ℕ). getD (lastMatrix S w) x 0) (sym a)
+        ∙ row-is-marks S H (few-rows w f) w (i + 1) f fi in
         sym (marks-agree S H C (i + 1) (j + 1) fi fj (ap₂ member (sym row) b ∙ both .0) .0))
         (G .near-marks i j y)
 
@@ -130,6 +140,7 @@ module _ (S : System) (H : Supposed S) where
           G .core-size z,
           H .few,
           count-split (S .settings .n) (member (coreOf (lastMatrix S w) (S .settings .n) (S .settings .t))) (correctAt S),
-          count-mono (S .settings .n) (λ x. member (coreOf (lastMatrix S w) (S .settings .n) (S .settings .t)) x && not (correctAt S x)) (λ x. not (correctAt S x))
+          count-mono (S .settings .n) (λ x. member (coreOf (lastMatrix S w) (S .settings .n) (S .settings .t)) x && not (correctAt S x))
+              (λ x. not (correctAt S x))
               (λ x l y. and-right (member (coreOf (lastMatrix S w) (S .settings .n) (S .settings .t)) x) (not (correctAt S x)) y),
         )

@@ -61,8 +61,10 @@ module _ (S : System) (H : Supposed S) where
         let a = r .before-at in
         ap (λ (h : Local). h .state .outcome) (sym (call-last S H i f))
         ∙ ap (λ (s : State). s .outcome) (r .state-is)
-        ∙ ap (λ (x : Carried). x .state .outcome) (performs-kind S H i f (last S) (omega arith) (omega arith) Finish (call-finish (S .settings .t)) finishCall of-finish)
-        ∙ (λ x. finished (a .settings-is x .n) (a .settings-is x .t) (a .settings-is x .k) (m .before .state .core) (m .lent .inbox) (m .before .block) .outcome)
+        ∙ ap (λ (x : Carried). x .state .outcome)
+        (performs-kind S H i f (last S) (omega arith) (omega arith) Finish (call-finish (S .settings .t)) finishCall of-finish)
+        ∙ (λ x. finished (a .settings-is x .n) (a .settings-is x .t) (a .settings-is x .k) (m .before .state .core) (m .lent .inbox)
+        (m .before .block) .outcome)
 
     block-final : blockOf S i ≡ final .block
     unfolding final
@@ -86,22 +88,26 @@ module _ (S : System) (H : Supposed S) where
 
     -- decoding is carried out
     carried-out : decodeRefusal (S .settings .n) (S .settings .t) (S .settings .k) (lastInbox S i) (call S i (last S) .before .block) ≡ 0
-    carried-out = 0-decode (S .settings .n) (S .settings .t) (S .settings .k) (lastInbox S i) (call S i (last S) .before .block) (coded S H i f) inbox-is block-is
+    carried-out =
+        0-decode (S .settings .n) (S .settings .t) (S .settings .k) (lastInbox S i) (call S i (last S) .before .block) (coded S H i f) inbox-is block-is
 
     -- what decoding's rule gives
     agreed : (restricted (lastCore S i) (S .settings .n) ≡ 0 → ⊥) → (B : List ℕ) → Decodes (S .settings .n) (S .settings .t) (S .settings .k) (lastInbox S i) B
         → (outcomeOf S i ≡ Agreed) × (blockOf S i ≡ B)
     unfolding final
     agreed z B d =
-        let q = finished-agreed (S .settings .n) (S .settings .t) (S .settings .k) (lastCore S i) (lastInbox S i) (call S i (last S) .before .block) z carried-out B d in
+        let q = finished-agreed (S .settings .n) (S .settings .t) (S .settings .k) (lastCore S i) (lastInbox S i)
+        (call S i (last S) .before .block) z carried-out B d in
         (outcome-final ∙ ap (λ (x : Final). x .outcome) q, block-final ∙ ap (λ (x : Final). x .block) q)
 
     -- where no block meets it
-    beyond : (restricted (lastCore S i) (S .settings .n) ≡ 0 → ⊥) → ((B : List ℕ) → Decodes (S .settings .n) (S .settings .t) (S .settings .k) (lastInbox S i) B → ⊥)
+    beyond : (restricted (lastCore S i) (S .settings .n) ≡ 0 → ⊥)
+        → ((B : List ℕ) → Decodes (S .settings .n) (S .settings .t) (S .settings .k) (lastInbox S i) B → ⊥)
         → (outcomeOf S i ≡ Beyond) × (blockOf S i ≡ replicate (blockLength (S .settings .k) (S .settings .t)) 0)
     unfolding final
     beyond z d =
-        let q = finished-beyond (S .settings .n) (S .settings .t) (S .settings .k) (lastCore S i) (lastInbox S i) (call S i (last S) .before .block) z carried-out d in
+        let q = finished-beyond (S .settings .n) (S .settings .t) (S .settings .k) (lastCore S i) (lastInbox S i)
+        (call S i (last S) .before .block) z carried-out d in
         (outcome-final ∙ ap (λ (x : Final). x .outcome) q, block-final ∙ ap (λ (x : Final). x .block) q ∙ ap (λ (x : ℕ). replicate x 0) block-is)
 
     pub set-by-last : SetByLast S i
@@ -114,7 +120,8 @@ module _ (S : System) (H : Supposed S) where
         }
 
     -- no core: none, and zeros
-    pub ends-none : restricted (coreOf (lastMatrix S i) (S .settings .n) (S .settings .t)) (S .settings .n) ≡ 0 → (outcomeOf S i ≡ None) × (blockOf S i ≡ replicate (blockLength (S .settings .k) (S .settings .t)) 0)
+    pub ends-none : restricted (coreOf (lastMatrix S i) (S .settings .n) (S .settings .t)) (S .settings .n) ≡ 0
+        → (outcomeOf S i ≡ None) × (blockOf S i ≡ replicate (blockLength (S .settings .k) (S .settings .t)) 0)
     ends-none z = none (ap (λ (x : ℕ). restricted x (S .settings .n)) (core-last S H i f) ∙ z)
 
   -- a core whose correct members hold B: agreed, and B
@@ -126,5 +133,7 @@ module _ (S : System) (H : Supposed S) where
     ends-agreed i f =
         agreed i f (λ z. some (ap (λ (x : ℕ). restricted x (S .settings .n)) (sym (core-last S H i f ∙ core-is i f)) ∙ z)) B
         (C .recovered (lastInbox S i) B is
-        (many (S .settings .n) (S .settings .t) (correctAt S) (most-correct S H) (λ x. same (messageOf (lastInbox S i) (layoutWith (S .settings .k)) (x + 1)) (pieceOf (S .settings .k) (S .settings .t) B (x + 1)))
-        (λ x l c. eq-same (messageOf (lastInbox S i) (layoutWith (S .settings .k)) (x + 1)) (pieceOf (S .settings .k) (S .settings .t) B (x + 1)) (piece-read S H C e B core-is enough holds (x + 1) (by-index S x (l, c)) i f))))
+        (many (S .settings .n) (S .settings .t) (correctAt S) (most-correct S H)
+        (λ x. same (messageOf (lastInbox S i) (layoutWith (S .settings .k)) (x + 1)) (pieceOf (S .settings .k) (S .settings .t) B (x + 1)))
+        (λ x l c. eq-same (messageOf (lastInbox S i) (layoutWith (S .settings .k)) (x + 1)) (pieceOf (S .settings .k) (S .settings .t) B (x + 1))
+        (piece-read S H C e B core-is enough holds (x + 1) (by-index S x (l, c)) i f))))

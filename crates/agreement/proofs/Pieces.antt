@@ -34,10 +34,12 @@ use Rattle.agreement.proofs.Cores.{lastMatrix, core-of, core-choose}
 module _ (S : System) (H : Supposed S) where
   module _ (i : ℕ) (f : Correct S i) where
     pub len-forward : layoutOf S (3 * S .settings .t + 7) .length ≡ S .settings .k
-    len-forward = length-round S H i f (3 * S .settings .t + 7) (round-forward (S .settings .t)) (row-forward (S .settings .n) (S .settings .t) (S .settings .k))
+    len-forward =
+        length-round S H i f (3 * S .settings .t + 7) (round-forward (S .settings .t)) (row-forward (S .settings .n) (S .settings .t) (S .settings .k))
 
     pub len-rebuild : layoutOf S (3 * S .settings .t + 8) .length ≡ S .settings .k
-    len-rebuild = length-round S H i f (3 * S .settings .t + 8) (round-rebuild (S .settings .t)) (row-rebuild (S .settings .n) (S .settings .t) (S .settings .k))
+    len-rebuild =
+        length-round S H i f (3 * S .settings .t + 8) (round-rebuild (S .settings .t)) (row-rebuild (S .settings .n) (S .settings .t) (S .settings .k))
 
     layout-forward : layoutOf S (3 * S .settings .t + 7) ≡ kindLayout Forward (S .settings .n) (S .settings .t) (S .settings .k)
     layout-forward = ap (λ (x : Round). kindLayout x (S .settings .n) (S .settings .t) (S .settings .k)) (round-forward (S .settings .t))
@@ -50,17 +52,22 @@ module _ (S : System) (H : Supposed S) where
     coreAt = coreOf (lastMatrix S i) (S .settings .n) (S .settings .t)
 
     -- a core member sends to x piece x of its own coding
-    forward-sent : member coreAt (i - 1) ≡ true → call S i (3 * S .settings .t + 7) .sends ≡ slots (layoutOf S (3 * S .settings .t + 7)) (λ x. bytes (pieceOf (S .settings .k) (S .settings .t) (heldBlock S i) x)) (S .settings .n)
+    forward-sent : member coreAt (i - 1) ≡ true → call S i (3 * S .settings .t + 7) .sends ≡ slots (layoutOf S (3 * S .settings .t + 7))
+        (λ x. bytes (pieceOf (S .settings .k) (S .settings .t) (heldBlock S i) x)) (S .settings .n)
     forward-sent y =
         let m = call S i (3 * S .settings .t + 7) in
         let e : coreCall (m .before .state) (m .before .block) (m .lent .inbox) (m .lent .outbox) .state .core ≡ coreAt =
-        sym (ap (λ (s : State). s .core) (state-by S H i f (3 * S .settings .t + 7) (omega arith) (omega arith) Core (call-core (S .settings .t)) coreCall of-core))
+        sym (ap (λ (s : State). s .core)
+        (state-by S H i f (3 * S .settings .t + 7) (omega arith) (omega arith) Core (call-core (S .settings .t)) coreCall of-core))
         ∙ core-of S H i f in
         sends-by S H i f (3 * S .settings .t + 7) (omega arith) (omega arith) Core (call-core (S .settings .t)) coreCall of-core
         (λ s own next. forwarded (s .n) (s .t) (s .k) own coreAt (heldBlock S i) (m .lent .outbox))
-        (λ x. forwarded (m .before .state .settings .n) (m .before .state .settings .t) (m .before .state .settings .k) (m .before .state .own) (e x) (block-from S H i f (3 * S .settings .t + 7) (omega arith) (omega arith) x) (m .lent .outbox))
-        ∙ forwarded-member (S .settings .n) (S .settings .t) (S .settings .k) i (heldBlock S i) (coded S H i f) (numbered S H i f) (is-block S H i f .size) coreAt (m .lent .outbox)
-        (in-core coreAt i (f .least) ∙ y) (outbox-long S H i f (3 * S .settings .t + 7) (omega arith) (omega arith) ∙ ap (λ (x : Layout). S .settings .n * width x) layout-forward)
+        (λ x. forwarded (m .before .state .settings .n) (m .before .state .settings .t) (m .before .state .settings .k) (m .before .state .own) (e x)
+        (block-from S H i f (3 * S .settings .t + 7) (omega arith) (omega arith) x) (m .lent .outbox))
+        ∙ forwarded-member (S .settings .n) (S .settings .t) (S .settings .k) i (heldBlock S i) (coded S H i f) (numbered S H i f)
+        (is-block S H i f .size) coreAt (m .lent .outbox)
+        (in-core coreAt i (f .least) ∙ y)
+        (outbox-long S H i f (3 * S .settings .t + 7) (omega arith) (omega arith) ∙ ap (λ (x : Layout). S .settings .n * width x) layout-forward)
         ∙ ap (λ (x : Layout). slots x (λ x. bytes (pieceOf (S .settings .k) (S .settings .t) (heldBlock S i) x)) (S .settings .n)) (sym layout-forward)
 
   -- ---- a core, whose correct members hold B
@@ -75,21 +82,26 @@ module _ (S : System) (H : Supposed S) where
         let n : 3 * S .settings .t + 7 + 1 ≡ 3 * S .settings .t + 8 = omega arith in
         subst (λ (c : ℕ). messageOf (call S i c .lent .inbox) (layoutOf S (3 * S .settings .t + 7)) j ≡ pieceOf (S .settings .k) (S .settings .t) B i) n
         (delivered S H j i (3 * S .settings .t + 7) g f (omega arith) (omega arith) (λ x. bytes (pieceOf (S .settings .k) (S .settings .t) (heldBlock S j) x))
-        (λ x. sized-bytes (layoutOf S (3 * S .settings .t + 7)) (pieceOf (S .settings .k) (S .settings .t) (heldBlock S j) x) (C .length-piece (heldBlock S j) x ∙ sym (len-forward j g)))
+        (λ x. sized-bytes (layoutOf S (3 * S .settings .t + 7)) (pieceOf (S .settings .k) (S .settings .t) (heldBlock S j) x)
+        (C .length-piece (heldBlock S j) x ∙ sym (len-forward j g)))
         (forward-sent j g (ap (λ (s : ℕ). member s (j - 1)) (core-is j g) ∙ y))
         ∙ ap (λ (b : List ℕ). pieceOf (S .settings .k) (S .settings .t) b i) (holds j g y))
 
     module _ (i : ℕ) (f : Correct S i) where
       -- the piece of i: its own if it is a member, else the one that at least t + 1 members sent
-      own : ownPiece (S .settings .n) (S .settings .t) (S .settings .k) i e (call S i (3 * S .settings .t + 8) .lent .inbox) (layoutOf S (3 * S .settings .t + 7)) (heldBlock S i) ≡ pieceOf (S .settings .k) (S .settings .t) B i
+      own : ownPiece (S .settings .n) (S .settings .t) (S .settings .k) i e (call S i (3 * S .settings .t + 8) .lent .inbox)
+          (layoutOf S (3 * S .settings .t + 7)) (heldBlock S i) ≡ pieceOf (S .settings .k) (S .settings .t) B i
       own =
           ⊎-elim
           (λ (y : inCore e i ≡ true).
-          own-member (S .settings .n) (S .settings .t) (S .settings .k) i e (call S i (3 * S .settings .t + 8) .lent .inbox) (layoutOf S (3 * S .settings .t + 7)) (heldBlock S i) y
+          own-member (S .settings .n) (S .settings .t) (S .settings .k) i e (call S i (3 * S .settings .t + 8) .lent .inbox)
+          (layoutOf S (3 * S .settings .t + 7)) (heldBlock S i) y
           ∙ ap (λ (b : List ℕ). pieceOf (S .settings .k) (S .settings .t) b i) (holds i f (sym (in-core e i (f .least)) ∙ y)))
           (λ (y : inCore e i ≡ false).
-          own-other (S .settings .n) (S .settings .t) (S .settings .k) i e (call S i (3 * S .settings .t + 8) .lent .inbox) (layoutOf S (3 * S .settings .t + 7)) (heldBlock S i) y
-          ∙ chosen (S .settings .n) (S .settings .t) e (call S i (3 * S .settings .t + 8) .lent .inbox) (layoutOf S (3 * S .settings .t + 7)) (correctAt S) (pieceOf (S .settings .k) (S .settings .t) B i)
+          own-other (S .settings .n) (S .settings .t) (S .settings .k) i e (call S i (3 * S .settings .t + 8) .lent .inbox)
+          (layoutOf S (3 * S .settings .t + 7)) (heldBlock S i) y
+          ∙ chosen (S .settings .n) (S .settings .t) e (call S i (3 * S .settings .t + 8) .lent .inbox) (layoutOf S (3 * S .settings .t + 7)) (correctAt S)
+          (pieceOf (S .settings .k) (S .settings .t) B i)
           (λ z. omega (arith, C .length-piece B i, coded S H i f .k-least)) (H .few) enough
           (λ x l m c.
           let g = by-index S x (l, c) in
@@ -97,25 +109,31 @@ module _ (S : System) (H : Supposed S) where
           given i (x + 1) f g (ap (member e) b ∙ m)))
           (either (inCore e i))
 
-      pub piece-sent : call S i (3 * S .settings .t + 8) .sends ≡ slots (layoutOf S (3 * S .settings .t + 8)) (λ _. bytes (pieceOf (S .settings .k) (S .settings .t) B i)) (S .settings .n)
+      pub piece-sent : call S i (3 * S .settings .t + 8) .sends ≡ slots (layoutOf S (3 * S .settings .t + 8))
+          (λ _. bytes (pieceOf (S .settings .k) (S .settings .t) B i)) (S .settings .n)
       piece-sent =
           let m = call S i (3 * S .settings .t + 8) in
           let n : 3 * S .settings .t + 8 - 1 ≡ 3 * S .settings .t + 7 = omega arith in
           let F : Settings → ℕ → ℕ → List ℕ = λ s own c.
           shared (s .n) (s .t) (s .k) own e (m .lent .inbox) (roundLayout (s .n) (s .t) (s .k) c) (heldBlock S i) (m .lent .outbox) in
-          sends-by S H i f (3 * S .settings .t + 8) (omega arith) (omega arith) Choose (call-choose (S .settings .t)) chooseCall of-choose (λ s own next. F s own (next - 1))
-          (λ x. shared (m .before .state .settings .n) (m .before .state .settings .t) (m .before .state .settings .k) (m .before .state .own) ((core-choose S H i f ∙ core-is i f) x) (m .lent .inbox)
+          sends-by S H i f (3 * S .settings .t + 8) (omega arith) (omega arith) Choose (call-choose (S .settings .t)) chooseCall of-choose
+          (λ s own next. F s own (next - 1))
+          (λ x. shared (m .before .state .settings .n) (m .before .state .settings .t) (m .before .state .settings .k) (m .before .state .own)
+          ((core-choose S H i f ∙ core-is i f) x) (m .lent .inbox)
           (inboxLayout (m .before .state)) (block-from S H i f (3 * S .settings .t + 8) (omega arith) (omega arith) x) (m .lent .outbox))
           ∙ ap (F (S .settings) i) n
-          ∙ shared-sends (S .settings .n) (S .settings .t) (S .settings .k) i (heldBlock S i) (coded S H i f) (numbered S H i f) (is-block S H i f .size) e (m .lent .inbox) (layoutOf S (3 * S .settings .t + 7)) (m .lent .outbox)
+          ∙ shared-sends (S .settings .n) (S .settings .t) (S .settings .k) i (heldBlock S i) (coded S H i f) (numbered S H i f) (is-block S H i f .size) e
+          (m .lent .inbox) (layoutOf S (3 * S .settings .t + 7)) (m .lent .outbox)
           (outbox-long S H i f (3 * S .settings .t + 8) (omega arith) (omega arith) ∙ ap (λ (x : Layout). S .settings .n * width x) (layout-rebuild i f))
           (pieceOf (S .settings .k) (S .settings .t) B i) own (C .length-piece B i)
           ∙ ap (λ (x : Layout). slots x (λ _. bytes (pieceOf (S .settings .k) (S .settings .t) B i)) (S .settings .n)) (sym (layout-rebuild i f))
 
       -- and every correct j reads it in its last call
-      pub piece-read : (j : ℕ) → Correct S j → messageOf (call S j (last S) .lent .inbox) (layoutWith (S .settings .k)) i ≡ pieceOf (S .settings .k) (S .settings .t) B i
+      pub piece-read : (j : ℕ) → Correct S j → messageOf (call S j (last S) .lent .inbox) (layoutWith (S .settings .k)) i ≡ pieceOf (S .settings .k)
+          (S .settings .t) B i
       piece-read j g =
           let n : 3 * S .settings .t + 8 + 1 ≡ last S = omega arith in
           ap₂ (λ (c l : ℕ). messageOf (call S j c .lent .inbox) (layoutWith l) i) (sym n) (sym (len-rebuild i f))
           ∙ delivered S H i j (3 * S .settings .t + 8) f g (omega arith) (omega arith) (λ _. bytes (pieceOf (S .settings .k) (S .settings .t) B i))
-          (λ x. sized-bytes (layoutOf S (3 * S .settings .t + 8)) (pieceOf (S .settings .k) (S .settings .t) B i) (C .length-piece B i ∙ sym (len-rebuild i f))) piece-sent
+          (λ x. sized-bytes (layoutOf S (3 * S .settings .t + 8)) (pieceOf (S .settings .k) (S .settings .t) B i)
+          (C .length-piece B i ∙ sym (len-rebuild i f))) piece-sent

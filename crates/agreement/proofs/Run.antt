@@ -62,8 +62,11 @@ chain h (l ∷ ls) = go (carriedOut h l) refl (chain (left h l) ls)
 pub refused-away : (h : Local) (l : Lent) (ls : List Lent) → carriedOut h l ≡ false
     → (calls h (l ∷ ls) ≡ calls h ls) × (leftAfter h (l ∷ ls) ≡ leftAfter h ls)
 refused-away h l ls e =
-    let same = refused-left h l (carried-out-no h l e) in
-    (ap (λ (b : Bool). cond b (made h l ∷ calls (left h l) ls) (calls (left h l) ls)) e ∙ ap (λ (x : Local). calls x ls) same, ap (λ (x : Local). leftAfter x ls) same)
+    let same = refused-left h l (carried-out-no h l e) in (
+      ap (λ (b : Bool). cond b (made h l ∷ calls (left h l) ls) (calls (left h l) ls)) e
+          ∙ ap (λ (x : Local). calls x ls) same,
+      ap (λ (x : Local). leftAfter x ls) same,
+    )
 
 -- what is held before call c of a run with these settings
 pub record At (s : Settings) (own c : ℕ) (h : Local) : Type 0 where

@@ -89,7 +89,8 @@ module _ (S : System) (H : Supposed S) (i : ℕ) (f : Correct S i) where
   length-round-some c least most = length-pos coded c least (omega arith)
 
   -- the length of a round's messages is that of its kind
-  pub length-round : (c : ℕ) {r : Round} {m : ℕ} → roundKind (S .settings .t) c ≡ r → rowLength r (S .settings .n) (S .settings .t) (S .settings .k) ≡ m → layoutOf S c .length ≡ m
+  pub length-round : (c : ℕ) {r : Round} {m : ℕ} → roundKind (S .settings .t) c ≡ r → rowLength r (S .settings .n) (S .settings .t) (S .settings .k) ≡ m
+      → layoutOf S c .length ≡ m
   length-round c e is = message-length-is coded c ∙ ap (λ (x : Round). rowLength x (S .settings .n) (S .settings .t) (S .settings .k)) e ∙ is
 
   pub outbox-long : (c : ℕ) → 1 ≤ c → c < last S → length (call S i c .lent .outbox) ≡ S .settings .n * width (layoutOf S c)
@@ -122,7 +123,8 @@ module _ (S : System) (H : Supposed S) (i : ℕ) (f : Correct S i) where
   performs-kind c least most kind e D does =
       let m = call S i c in
       let a = call-at c least most .before-at in
-      ap (λ (x : Call). callOf x (m .before .state) (m .before .block) (m .lent .inbox) (m .lent .outbox)) ((λ x. callKind (a .settings-is x .t) (a .next-is x)) ∙ e)
+      ap (λ (x : Call). callOf x (m .before .state) (m .before .block) (m .lent .inbox) (m .lent .outbox))
+      ((λ x. callKind (a .settings-is x .t) (a .next-is x)) ∙ e)
       ∙ does (m .before .state) (m .before .block) (m .lent .inbox) (m .lent .outbox)
 
   -- what a call of a kind sends and what it leaves, with the system's settings in the place of the state's
@@ -158,7 +160,8 @@ module _ (S : System) (H : Supposed S) (i : ℕ) (f : Correct S i) where
       let r = call-at c (omega arith) (omega arith) in
       let kinds = block-call (S .settings .t) c least (omega arith) in
       r .block-is
-      ∙ ap (λ (x : Carried). x .block) (performs-kind c (omega arith) (omega arith) (callKind (S .settings .t) c) refl (callOf (callKind (S .settings .t) c)) (λ s b x o. refl))
+      ∙ ap (λ (x : Carried). x .block)
+      (performs-kind c (omega arith) (omega arith) (callKind (S .settings .t) c) refl (callOf (callKind (S .settings .t) c)) (λ s b x o. refl))
       ∙ call-block (callKind (S .settings .t) c) (m .before .state) (m .before .block) (m .lent .inbox) (m .lent .outbox) (kinds .0) (kinds .1)
 
   block-add : (d : ℕ) → d + 3 ≤ last S → call S i (d + 3) .before .block ≡ call S i 2 .after .block

@@ -27,7 +27,8 @@ use Rattle.agreement.proofs.Votes.{correctAt, by-index, to-index, most-
 use Rattle.agreement.proofs.Cores.{lastMatrix, one-core, one-block, enough-correct}
 use Rattle.agreement.proofs.Ends.{ends-none, ends-agreed}
 
-module _ (S : System) (H : Supposed S) (w : ℕ) (f : Correct S w) (C : Code (S .settings .n) (S .settings .t) (S .settings .k)) (G : Graph (lastMatrix S w) (S .settings .n) (S .settings .t)) where
+module _ (S : System) (H : Supposed S) (w : ℕ) (f : Correct S w) (C : Code (S .settings .n) (S .settings .t) (S .settings .k))
+    (G : Graph (lastMatrix S w) (S .settings .n) (S .settings .t)) where
   -- the core
   abbrev pub coreSet : ℕ
   coreSet = coreOf (lastMatrix S w) (S .settings .n) (S .settings .t)
@@ -43,11 +44,13 @@ module _ (S : System) (H : Supposed S) (w : ℕ) (f : Correct S w) (C : Code (S 
   without z = record {
     all = λ i g.
         ends-none S H i g
-        (ap (λ (x : ℕ). restricted x (S .settings .n)) (one-core S H i w g f ∙ z) ∙ restrict-below 0 (S .settings .n) (subst (λ (x : ℕ). x < 2 ^ S .settings .n) z (G .core-lt)));
+        (ap (λ (x : ℕ). restricted x (S .settings .n)) (one-core S H i w g f ∙ z)
+        ∙ restrict-below 0 (S .settings .n) (subst (λ (x : ℕ). x < 2 ^ S .settings .n) z (G .core-lt)));
   }
 
   -- with a core whose correct members hold B
-  with : (coreSet ≡ 0 → ⊥) → (B : List ℕ) → IsBlock (S .settings .k) (S .settings .t) B → ((i : ℕ) → Correct S i → member coreSet (i - 1) ≡ true → heldBlock S i ≡ B) → Verdict Agreed B
+  with : (coreSet ≡ 0 → ⊥) → (B : List ℕ) → IsBlock (S .settings .k) (S .settings .t) B
+      → ((i : ℕ) → Correct S i → member coreSet (i - 1) ≡ true → heldBlock S i ≡ B) → Verdict Agreed B
   with z B is holds = record {
     all =
         ends-agreed S H C coreSet B is (λ i g. one-core S H i w g f) (λ q. z (sym (restrict-below coreSet (S .settings .n) (G .core-lt)) ∙ q))
@@ -57,8 +60,12 @@ module _ (S : System) (H : Supposed S) (w : ℕ) (f : Correct S w) (C : Code (S 
   -- a correct member of the core
   heart : (coreSet ≡ 0 → ⊥) → (c : ℕ) × Correct S (c + 1) × (member coreSet c ≡ true)
   heart z =
-      let r = count-member (S .settings .n) (λ x. member coreSet x && correctAt S x) (omega (arith, enough-correct S H w f C G z)) in
-      (r .0, by-index S (r .0) (r .1, and-right (member coreSet (r .0)) (correctAt S (r .0)) (r .2)), and-left (member coreSet (r .0)) (correctAt S (r .0)) (r .2))
+      let r = count-member (S .settings .n) (λ x. member coreSet x && correctAt S x) (omega (arith, enough-correct S H w f C G z)) in (
+        r .0,
+        by-index S (r .0) (r .1, and-right (member coreSet (r .0)) (correctAt S (r .0)) (r .2)),
+        and-left (member coreSet (r .0)) (correctAt S (r .0))
+            (r .2),
+      )
 
   -- the common block, held by that member after call 2
   pub held-by : (coreSet ≡ 0 → ⊥) → (c : ℕ) × Verdict Agreed (heldBlock S (c + 1))
@@ -88,7 +95,8 @@ module _ (S : System) (H : Supposed S) (w : ℕ) (f : Correct S w) (C : Code (S 
         let same : heldBlock S (y + 1) ≡ heldBlock S (x + 1) = sender-block S H g (y + 1) q ∙ sym (sender-block S H g (x + 1) p) in
         ap₂ member (ap (λ (z : ℕ). getD (lastMatrix S w) z 0) (sym a) ∙ row-is-marks S H few-rows w (x + 1) f p) (sym b)
         ∙ agree-marks S H C (x + 1) (y + 1) p q
-        (ap (λ (B : List ℕ). pieceOf (S .settings .k) (S .settings .t) B (y + 1)) same) (ap (λ (B : List ℕ). pieceOf (S .settings .k) (S .settings .t) B (x + 1)) same)
+        (ap (λ (B : List ℕ). pieceOf (S .settings .k) (S .settings .t) B (y + 1)) same)
+        (ap (λ (B : List ℕ). pieceOf (S .settings .k) (S .settings .t) B (x + 1)) same)
 
     -- so that they are all in the core
     pub sender-in-core : (i : ℕ) → Correct S i → member coreSet (i - 1) ≡ true

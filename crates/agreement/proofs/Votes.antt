@@ -19,7 +19,8 @@ use Rattle.wire.specs.declared.Call.the-variants.{Collect, Tally, Hold, Settle,
 use Rattle.wire.specs.Round.{callKind, roundKind, phaseOf}
 use Rattle.wire.specs.Length.{roundLayout}
 use Rattle.wire.specs.Slot.{messageOf, bytes, toAll}
-use Rattle.wire.proofs.Laws.{call-collect, call-tally, call-hold, call-settle, call-core, round-matrix, round-seen, round-king, row-matrix, row-seen, row-king, phase-king, to-all, sized-bytes}
+use Rattle.wire.proofs.Laws.{call-collect, call-tally, call-hold, call-settle, call-core, round-matrix, round-seen, round-king, row-matrix, row-seen}
+use Rattle.wire.proofs.Laws.{row-king, phase-king, to-all, sized-bytes}
 use Rattle.dispersal.specs.Dispersal.{marksMessage}
 use Rattle.dispersal.proofs.Laws.{row-of-marks, length-marks}
 use Rattle.phase_king.specs.Matrix.{limit, firstMatrix, zerosOf, onesOf, heldOf, weakOf, settledOf, seenMessage, sentByKing}
@@ -74,17 +75,20 @@ module _ (S : System) (H : Supposed S) where
     len-matrix : (p : ℕ) → p < suc (S .settings .t) → layoutOf S (3 * p + 4) .length ≡ 2 * S .settings .n
     len-matrix p l =
         let e : 3 * p + 4 ≡ 3 * (p + 1) + 1 = omega arith in
-        length-round S H i f (3 * p + 4) (ap (roundKind (S .settings .t)) e ∙ round-matrix (S .settings .t) (p + 1) (omega arith) (omega arith)) (row-matrix (S .settings .n) (S .settings .t) (S .settings .k))
+        length-round S H i f (3 * p + 4) (ap (roundKind (S .settings .t)) e ∙ round-matrix (S .settings .t) (p + 1) (omega arith) (omega arith))
+        (row-matrix (S .settings .n) (S .settings .t) (S .settings .k))
 
     len-seen : (p : ℕ) → p < suc (S .settings .t) → layoutOf S (3 * p + 5) .length ≡ 4 * S .settings .n
     len-seen p l =
         let e : 3 * p + 5 ≡ 3 * (p + 1) + 2 = omega arith in
-        length-round S H i f (3 * p + 5) (ap (roundKind (S .settings .t)) e ∙ round-seen (S .settings .t) (p + 1) (omega arith) (omega arith)) (row-seen (S .settings .n) (S .settings .t) (S .settings .k))
+        length-round S H i f (3 * p + 5) (ap (roundKind (S .settings .t)) e ∙ round-seen (S .settings .t) (p + 1) (omega arith) (omega arith))
+        (row-seen (S .settings .n) (S .settings .t) (S .settings .k))
 
     len-king : (p : ℕ) → p < suc (S .settings .t) → layoutOf S (3 * p + 6) .length ≡ 2 * S .settings .n
     len-king p l =
         let e : 3 * p + 6 ≡ 3 * (p + 1) + 3 = omega arith in
-        length-round S H i f (3 * p + 6) (ap (roundKind (S .settings .t)) e ∙ round-king (S .settings .t) (p + 1) (omega arith) (omega arith)) (row-king (S .settings .n) (S .settings .t) (S .settings .k))
+        length-round S H i f (3 * p + 6) (ap (roundKind (S .settings .t)) e ∙ round-king (S .settings .t) (p + 1) (omega arith) (omega arith))
+        (row-king (S .settings .n) (S .settings .t) (S .settings .k))
 
     -- a call that leaves a matrix and sends it to all
     matrix-by : (c : ℕ) (least : 1 ≤ c) (most : c ≤ last S) (kind : Call) (is : callKind (S .settings .t) c ≡ kind)
@@ -116,14 +120,16 @@ module _ (S : System) (H : Supposed S) where
 
       seen-sent : call S i (3 * p + 5) .sends
           ≡ toAll (layoutOf S (3 * p + 5)) (S .settings .n)
-          (seenMessage (S .settings .n) (zerosOf (call S i (3 * p + 5) .lent .inbox) (layoutOf S (3 * p + 4)) (S .settings .n) (S .settings .t)) (onesOf (call S i (3 * p + 5) .lent .inbox) (layoutOf S (3 * p + 4)) (S .settings .n) (S .settings .t)))
+          (seenMessage (S .settings .n) (zerosOf (call S i (3 * p + 5) .lent .inbox) (layoutOf S (3 * p + 4)) (S .settings .n) (S .settings .t))
+          (onesOf (call S i (3 * p + 5) .lent .inbox) (layoutOf S (3 * p + 4)) (S .settings .n) (S .settings .t)))
           (call S i (3 * p + 5) .lent .outbox)
       seen-sent =
           let m = call S i (3 * p + 5) in
           let e : 3 * p + 5 - 1 ≡ 3 * p + 4 = omega arith in
           let F : Settings → ℕ → ℕ → List ℕ = λ s c d.
           toAll (roundLayout (s .n) (s .t) (s .k) c) (s .n)
-          (seenMessage (s .n) (zerosOf (m .lent .inbox) (roundLayout (s .n) (s .t) (s .k) d) (s .n) (s .t)) (onesOf (m .lent .inbox) (roundLayout (s .n) (s .t) (s .k) d) (s .n) (s .t)))
+          (seenMessage (s .n) (zerosOf (m .lent .inbox) (roundLayout (s .n) (s .t) (s .k) d) (s .n) (s .t))
+          (onesOf (m .lent .inbox) (roundLayout (s .n) (s .t) (s .k) d) (s .n) (s .t)))
           (m .lent .outbox) in
           sends-by S H i f (3 * p + 5) (omega arith) (omega arith) Tally tally-kind tallyCall of-tally (λ s own next. F s next (next - 1)) refl
           ∙ ap (F (S .settings) (3 * p + 5)) e
@@ -146,15 +152,19 @@ module _ (S : System) (H : Supposed S) where
           (law (m .before .state) (m .before .block) (m .lent .inbox) (m .lent .outbox))
           ∙ ap (λ (c : ℕ). R (m .lent .inbox) (layoutOf S c) (S .settings .n) (S .settings .t)) e
 
-      held-rows : call S i (3 * p + 6) .after .state .matrix ≡ heldOf (call S i (3 * p + 6) .lent .inbox) (layoutOf S (3 * p + 5)) (S .settings .n) (S .settings .t)
+      held-rows : call S i (3 * p + 6) .after .state .matrix ≡ heldOf (call S i (3 * p + 6) .lent .inbox) (layoutOf S (3 * p + 5)) (S .settings .n)
+          (S .settings .t)
       held-rows = hold-by (λ s. s .matrix) heldOf (λ s b x o. refl)
 
-      weak-rows : call S i (3 * p + 6) .after .state .weak ≡ weakOf (call S i (3 * p + 6) .lent .inbox) (layoutOf S (3 * p + 5)) (S .settings .n) (S .settings .t)
+      weak-rows : call S i (3 * p + 6) .after .state .weak ≡ weakOf (call S i (3 * p + 6) .lent .inbox) (layoutOf S (3 * p + 5)) (S .settings .n)
+          (S .settings .t)
       weak-rows = hold-by (λ s. s .weak) weakOf (λ s b x o. refl)
 
       -- king p + 1 sends them
       king-sent : i ≡ p + 1 → call S i (3 * p + 6) .sends
-          ≡ toAll (layoutOf S (3 * p + 6)) (S .settings .n) (rowsOf (S .settings .n) (heldOf (call S i (3 * p + 6) .lent .inbox) (layoutOf S (3 * p + 5)) (S .settings .n) (S .settings .t))) (call S i (3 * p + 6) .lent .outbox)
+          ≡ toAll (layoutOf S (3 * p + 6)) (S .settings .n)
+          (rowsOf (S .settings .n) (heldOf (call S i (3 * p + 6) .lent .inbox) (layoutOf S (3 * p + 5)) (S .settings .n) (S .settings .t)))
+          (call S i (3 * p + 6) .lent .outbox)
       king-sent king =
           let m = call S i (3 * p + 6) in
           let e : 3 * p + 6 - 1 ≡ 3 * p + 5 = omega arith in
@@ -162,7 +172,8 @@ module _ (S : System) (H : Supposed S) where
           let u : limit (S .settings .n) ≡ S .settings .n = omega (arith, few-rows) in
           let rows = heldOf (m .lent .inbox) (layoutOf S (3 * p + 5)) (S .settings .n) (S .settings .t) in
           let F : Settings → ℕ → ℕ → ℕ → List ℕ = λ s own c d.
-          sentByKing (roundLayout (s .n) (s .t) (s .k) c) own (phaseOf c) (s .n) (heldOf (m .lent .inbox) (roundLayout (s .n) (s .t) (s .k) d) (s .n) (s .t)) (m .lent .outbox) in
+          sentByKing (roundLayout (s .n) (s .t) (s .k) c) own (phaseOf c) (s .n) (heldOf (m .lent .inbox) (roundLayout (s .n) (s .t) (s .k) d) (s .n) (s .t))
+          (m .lent .outbox) in
           sends-by S H i f (3 * p + 6) (omega arith) (omega arith) Hold hold-kind holdCall of-hold (λ s own next. F s own next (next - 1)) refl
           ∙ ap (F (S .settings) i (3 * p + 6)) e
           ∙ king-all (layoutOf S (3 * p + 6)) i (phaseOf (3 * p + 6)) (S .settings .n) rows (m .lent .outbox) (king ∙ sym (ap phaseOf q ∙ phase-king (p + 1)))
@@ -173,7 +184,8 @@ module _ (S : System) (H : Supposed S) where
           → (D : State → List ℕ → List ℕ → List ℕ → Carried) → ((s : State) (b x o : List ℕ) → callOf kind s b x o ≡ D s b x o)
           → ((s : State) (b x o : List ℕ) → D s b x o .state .matrix ≡ settledMatrix s x)
           → call S i (3 * p + 7) .after .state .matrix
-          ≡ settledOf (call S i (3 * p + 7) .before .state .matrix) (call S i (3 * p + 7) .before .state .weak) (call S i (3 * p + 7) .lent .inbox) (layoutOf S (3 * p + 6)) (S .settings .n) (p + 1)
+          ≡ settledOf (call S i (3 * p + 7) .before .state .matrix) (call S i (3 * p + 7) .before .state .weak) (call S i (3 * p + 7) .lent .inbox)
+          (layoutOf S (3 * p + 6)) (S .settings .n) (p + 1)
       settled-kind kind is D does law =
           let m = call S i (3 * p + 7) in
           let e : 3 * p + 7 - 1 ≡ 3 * p + 6 = omega arith in
@@ -185,7 +197,8 @@ module _ (S : System) (H : Supposed S) where
           ∙ ap₂ (F (S .settings)) e (ap phaseOf (e ∙ q) ∙ phase-king (p + 1))
 
       settled-rows : call S i (3 * p + 7) .after .state .matrix
-          ≡ settledOf (call S i (3 * p + 7) .before .state .matrix) (call S i (3 * p + 7) .before .state .weak) (call S i (3 * p + 7) .lent .inbox) (layoutOf S (3 * p + 6)) (S .settings .n) (p + 1)
+          ≡ settledOf (call S i (3 * p + 7) .before .state .matrix) (call S i (3 * p + 7) .before .state .weak) (call S i (3 * p + 7) .lent .inbox)
+          (layoutOf S (3 * p + 6)) (S .settings .n) (p + 1)
       settled-rows =
           ⊎-elim
           (λ (e : p ≡ S .settings .t).
@@ -193,12 +206,14 @@ module _ (S : System) (H : Supposed S) where
           settled-kind Core (ap (callKind (S .settings .t)) q ∙ call-core (S .settings .t)) coreCall of-core (λ s b x o. refl))
           (λ (n : p ≡ S .settings .t → ⊥).
           let q : 3 * p + 7 ≡ 3 * (p + 1) + 4 = omega arith in
-          settled-kind Settle (ap (callKind (S .settings .t)) q ∙ call-settle (S .settings .t) (p + 1) (omega arith) (omega arith)) settleCall of-settle (λ s b x o. refl))
+          settled-kind Settle (ap (callKind (S .settings .t)) q ∙ call-settle (S .settings .t) (p + 1) (omega arith) (omega arith)) settleCall of-settle
+          (λ s b x o. refl))
           (same-or-not p (S .settings .t))
 
     -- ---- call 3p + 4: the matrix that the phase starts with
     matrix-sent : (p : ℕ) → p < suc (S .settings .t)
-        → call S i (3 * p + 4) .sends ≡ toAll (layoutOf S (3 * p + 4)) (S .settings .n) (rowsOf (S .settings .n) (call S i (3 * p + 4) .after .state .matrix)) (call S i (3 * p + 4) .lent .outbox)
+        → call S i (3 * p + 4) .sends ≡ toAll (layoutOf S (3 * p + 4)) (S .settings .n) (rowsOf (S .settings .n) (call S i (3 * p + 4) .after .state .matrix))
+        (call S i (3 * p + 4) .lent .outbox)
     matrix-sent zero l = matrix-by 4 (omega arith) (omega arith) Collect (call-collect (S .settings .t)) collectCall of-collect (λ s b x o. refl)
     matrix-sent (suc q) l =
         let e : 3 * suc q + 4 ≡ 3 * (q + 1) + 4 = omega arith in
@@ -260,7 +275,8 @@ module _ (S : System) (H : Supposed S) where
     end = omega arith
 
     -- all correct controllers hold one matrix
-    pub one-matrix : (i j : ℕ) → Correct S i → Correct S j → call S i (3 * S .settings .t + 7) .after .state .matrix ≡ call S j (3 * S .settings .t + 7) .after .state .matrix
+    pub one-matrix : (i j : ℕ) → Correct S i → Correct S j
+        → call S i (3 * S .settings .t + 7) .after .state .matrix ≡ call S j (3 * S .settings .t + 7) .after .state .matrix
     one-matrix i j f g =
         let a : i - 1 + 1 ≡ i = omega (arith, f .least) in
         let b : j - 1 + 1 ≡ j = omega (arith, g .least) in
@@ -275,10 +291,12 @@ module _ (S : System) (H : Supposed S) where
         let b : j - 1 + 1 ≡ j = omega (arith, g .least) in
         let m = marksMessage (S .settings .n) (marks S H j g) in
         ap₂ (λ (x y : ℕ). getD (call S x y .after .state .matrix) (j - 1) 0) (sym a) (sym end)
-        ∙ marks-kept (S .settings .n) (S .settings .t) (correctAt S) (rowsAt S) few all (λ x. call S (x + 1) 4 .lent .inbox) (layoutOf S 3) (j - 1) m (to-index S j g .0)
+        ∙ marks-kept (S .settings .n) (S .settings .t) (correctAt S) (rowsAt S) few all (λ x. call S (x + 1) 4 .lent .inbox) (layoutOf S 3) (j - 1) m
+        (to-index S j g .0)
         (λ x h. first-rows (x + 1) (by-index S x h))
         (λ x h. ap (messageOf (call S (x + 1) 4 .lent .inbox) (layoutOf S 3)) b
-        ∙ delivered S H j (x + 1) 3 g (by-index S x h) (omega arith) (omega arith) (λ _. bytes m) (λ y. sized-bytes (layoutOf S 3) m (length-marks (S .settings .n) (marks S H j g) ∙ sym (len-3 S H j g))) (marks-sent S H j g))
+        ∙ delivered S H j (x + 1) 3 g (by-index S x h) (omega arith) (omega arith) (λ _. bytes m)
+        (λ y. sized-bytes (layoutOf S 3) m (length-marks (S .settings .n) (marks S H j g) ∙ sym (len-3 S H j g))) (marks-sent S H j g))
         (i - 1) (to-index S i f)
         ∙ row-of-marks (S .settings .n) (marks S H j g)
         ∙ restrict-below (marks S H j g) (S .settings .n) (marks-lt S H j g)

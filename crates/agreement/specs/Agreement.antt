@@ -1,21 +1,21 @@
 -- Demand 3, as one proposition on the lists of steps of all correct controllers of a system together (document 01, 'The house').
---   System                 the settings; who is correct; the block that each was started with; the steps each made after its start
---   Correct S i            controller i is one of 1 .. n, and correct (document 01: it follows the steps)
---   atStart, callsOf, atEnd   what a controller holds at its start, its calls, and what it holds after all its steps
---   last S                 the number of the last call
---   noCall                 a call with nothing in it
---   call S i c             call c of controller i; past its calls `noCall`
---   layoutOf S c           the layout of the slots of round c
---   Arrives S i j c        the message from i to j arrives unchanged in round c
---   Supposed S             what is supposed
---   lastCore, lastInbox    the core before the last call, and the inbox lent to it
---   outcomeOf, blockOf     the outcome and the block at the end
---   SetByLast S i          outcome and block at the end are those that the last call sets
---   RefusesMore S i           every later step is refused with 8 and leaves both
---   Concluded S            what is concluded
---   Agreement              demand 3: supposed implies concluded
---   Holds S i A            controller i ends with the block A agreed on (document 01: it holds the plan)
---   OnePlan                for readers: no two correct controllers hold different blocks
+--   System                   the settings; who is correct; the block that each was started with; the steps each made after its start
+--   Correct S i              controller i is one of 1 .. n, and correct (document 01: it follows the steps)
+--   atStart, callsOf, atEnd  what a controller holds at its start, its calls, and what it holds after all its steps
+--   last S                   the number of the last call
+--   noCall                   a call with nothing in it
+--   call S i c               call c of controller i; past its calls `noCall`
+--   layoutOf S c             the layout of the slots of round c
+--   Arrives S i j c          the message from i to j arrives unchanged in round c
+--   Supposed S               what is supposed
+--   lastCore, lastInbox      the core before the last call, and the inbox lent to it
+--   outcomeOf, blockOf       the outcome and the block at the end
+--   SetByLast S i            outcome and block at the end are those that the last call sets
+--   RefusesMore S i          every later step is refused with 8 and leaves both
+--   Concluded S              what is concluded
+--   Agreement                demand 3: supposed implies concluded
+--   Holds S i A              controller i ends with the block A agreed on (document 01: it holds the plan)
+--   OnePlan                  for readers: no two correct controllers hold different blocks
 use mathlib.Core.Path.{_≡_}
 use mathlib.Core.Bool.{Bool, true, not}
 use mathlib.Core.List.{List, []}
@@ -107,9 +107,11 @@ blockOf S i = atEnd S i .block
 -- document 01's last call: no core: none, and zeros; else agreed and the block that decoding's rule gives; if there is none, beyond and zeros
 pub record SetByLast (S : System) (i : ℕ) : Type 0 where
   pub none : restricted (lastCore S i) (S .settings .n) ≡ 0 → (outcomeOf S i ≡ None) × (blockOf S i ≡ replicate (length (S .block i)) 0)
-  pub agreed : (restricted (lastCore S i) (S .settings .n) ≡ 0 → ⊥) → (B : List ℕ) → Decodes (S .settings .n) (S .settings .t) (S .settings .k) (lastInbox S i) B
+  pub agreed : (restricted (lastCore S i) (S .settings .n) ≡ 0 → ⊥) → (B : List ℕ)
+      → Decodes (S .settings .n) (S .settings .t) (S .settings .k) (lastInbox S i) B
       → (outcomeOf S i ≡ Agreed) × (blockOf S i ≡ B)
-  pub beyond : (restricted (lastCore S i) (S .settings .n) ≡ 0 → ⊥) → ((B : List ℕ) → Decodes (S .settings .n) (S .settings .t) (S .settings .k) (lastInbox S i) B → ⊥)
+  pub beyond : (restricted (lastCore S i) (S .settings .n) ≡ 0 → ⊥)
+      → ((B : List ℕ) → Decodes (S .settings .n) (S .settings .t) (S .settings .k) (lastInbox S i) B → ⊥)
       → (outcomeOf S i ≡ Beyond) × (blockOf S i ≡ replicate (length (S .block i)) 0)
 
 abbrev pub RefusesMore : System → ℕ → Type 0

@@ -25,6 +25,13 @@
 --     row-held, row-missing, row-none, row-lt, row-pair, row-left, row-right
 --     row-read                      a row of the message that was written is read back
 --     rows-length, length-rows, rows-written, rows-bytes, halves
-pub use Rattle.bitset.proofs.Sets.{set-none, set-lt, set-lt-16, set-all, member-set, member-set-past, member-over, member-none, none-in-0, member-below, set-ext, set-past, set-empty, set-more, digit-member, set-members, set-of-members, ext, size-le, size-below, size-set, insert-lt, member-insert, insert-over, insert-member, insert-add, insert-next, insert-skip, remove-lt, member-remove, remove-other, remove-sub, size-remove, restrict-lt, restrict-mod, member-restrict, member-restrict-past, restrict-below, restrict-set, first-le, first-passes, first-least, first-some, lowest-le, lowest-member, lowest-least, lowest-some}
-pub use Rattle.bitset.proofs.Operations.{member-intersection, member-difference, member-union, size-difference, intersection-lt, difference-lt, union-lt, and-is, or-is, xor-is}
-pub use Rattle.bitset.proofs.Rows.{row-held, row-missing, row-none, row-lt, row-pair, row-left, row-right, length-rows, length-rows-few, rows-written, row-read, halves, bytes-rows}
+pub use Rattle.bitset.proofs.Sets.{set-none, set-lt, set-lt-16, set-all, member-set, member-set-past, member-over, member-none, none-in-0}
+pub use Rattle.bitset.proofs.Sets.{member-below, set-ext, set-past, set-empty, set-more, digit-member, set-members, set-of-members, ext, size-le}
+pub use Rattle.bitset.proofs.Sets.{size-below, size-set, insert-lt, member-insert, insert-over, insert-member, insert-add, insert-next, insert-skip}
+pub use Rattle.bitset.proofs.Sets.{remove-lt, member-remove, remove-other, remove-sub, size-remove, restrict-lt, restrict-mod, member-restrict}
+pub use Rattle.bitset.proofs.Sets.{member-restrict-past, restrict-below, restrict-set, first-le, first-passes, first-least, first-some, lowest-le}
+pub use Rattle.bitset.proofs.Sets.{lowest-member, lowest-least, lowest-some}
+pub use Rattle.bitset.proofs.Operations.{member-intersection, member-difference, member-union, size-difference, intersection-lt, difference-lt}
+pub use Rattle.bitset.proofs.Operations.{union-lt, and-is, or-is, xor-is}
+pub use Rattle.bitset.proofs.Rows.{row-held, row-missing, row-none, row-lt, row-pair, row-left, row-right, length-rows, length-rows-few, rows-written}
+pub use Rattle.bitset.proofs.Rows.{row-read, halves, bytes-rows}

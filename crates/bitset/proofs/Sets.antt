@@ -149,7 +149,8 @@ insert-member s i h y = set-ext 16 (λ j. member s j || eqb j i) (member s) same
     same : (j : ℕ) → j < 16 → (member s j || eqb j i) ≡ member s j
     same j m =
         ⊎-elim
-        (λ (e : eqb j i ≡ true). let q : member s j ≡ true = subst (λ (a : ℕ). member s a ≡ true) (sym (eqb-true j i e)) y in or-left (member s j) (eqb j i) q ∙ sym q)
+        (λ (e : eqb j i ≡ true). let q : member s j ≡ true = subst (λ (a : ℕ). member s a ≡ true) (sym (eqb-true j i e)) y in or-left (member s j) (eqb j i) q
+        ∙ sym q)
         (λ (e : eqb j i ≡ false). ap (λ (b : Bool). member s j || b) e ∙ or-none (member s j))
         (either (eqb j i))
 
@@ -189,7 +190,8 @@ remove-other s i h y = set-ext 16 (λ j. member s j && not (eqb j i)) (member s)
     same : (j : ℕ) → j < 16 → (member s j && not (eqb j i)) ≡ member s j
     same j m =
         ⊎-elim
-        (λ (e : eqb j i ≡ true). let q : member s j ≡ false = subst (λ (a : ℕ). member s a ≡ false) (sym (eqb-true j i e)) y in and-no-right (member s j) (not (eqb j i)) (ap not e) ∙ sym q)
+        (λ (e : eqb j i ≡ true). let q : member s j ≡ false = subst (λ (a : ℕ). member s a ≡ false) (sym (eqb-true j i e)) y in and-no-right (member s j)
+        (not (eqb j i)) (ap not e) ∙ sym q)
         (λ (e : eqb j i ≡ false). ap (λ (b : Bool). member s j && not b) e ∙ and-true (member s j))
         (either (eqb j i))
 

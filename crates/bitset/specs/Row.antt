@@ -1,11 +1,11 @@
 -- Rows of marks in message bytes (document 01, 'Rounds': marks are 16 bits, low byte first; bits past n are sent 0 and not read;
 -- a matrix is n rows of marks).
---   wordAt m r         the 16 bits of row r of the message m, low byte first
---   rowOf n m r        the set in row r of the message m, of the indices below n; empty where m does not hold the row whole
+--   wordAt m r        the 16 bits of row r of the message m, low byte first
+--   rowOf n m r       the set in row r of the message m, of the indices below n; empty where m does not hold the row whole
 --   rowsIn m          16 rows in the message m
---   rowByte n rows b   byte b of the message that holds these rows, each without the bits past n
---   rowsLength n       how many bytes n rows take, of 16 at most
---   rowsOf n rows      the message of the first n rows, of 16 at most
+--   rowByte n rows b  byte b of the message that holds these rows, each without the bits past n
+--   rowsLength n      how many bytes n rows take, of 16 at most
+--   rowsOf n rows     the message of the first n rows, of 16 at most
 use mathlib.Core.Bool.{cond}
 use mathlib.Core.List.{List}
 use Prim.Native.Nat.{ℕ, _+_, _*_, _/_, _%_, min}

@@ -46,7 +46,8 @@ module _ (s : Settings) (own b : ℕ) (state : List ℕ) where
     unfolding startBytes
     started =
         ap (startReturned state) is-a
-        ∙ sym (cond-yes (eqb (length state) stateLength) (startReturned state (startOf s own b)) (returned badLength state) (eq-eqb (length state) stateLength e))
+        ∙ sym (cond-yes (eqb (length state) stateLength) (startReturned state (startOf s own b)) (returned badLength state)
+        (eq-eqb (length state) stateLength e))
 
     pub start-refused : (a .number ≡ 0 → ⊥) → returned (a .number) state ≡ startBytes s own b state
     start-refused z =
@@ -63,21 +64,24 @@ module _ (state b i o : List ℕ) where
   pub step-wrong : (length state ≡ stateLength → ⊥) → returnedStep badLength state b o ≡ stepBytes state b i o
   unfolding stepBytes
   step-wrong e =
-      sym (cond-no (eqb (length state) stateLength) (stepReturned state (stepOf (stateOf state) b i o)) (returnedStep badLength state b o) (ne-eqb (length state) stateLength e))
+      sym (cond-no (eqb (length state) stateLength) (stepReturned state (stepOf (stateOf state) b i o)) (returnedStep badLength state b o)
+      (ne-eqb (length state) stateLength e))
 
   module _ (e : length state ≡ stateLength) (s : State) (is-s : s ≡ stateOf state) (r : Stepped) (b′ o′ : List ℕ) (is-r : after r b′ o′ ≡ stepOf s b i o) where
     stepped : stepReturned state (after r b′ o′) ≡ stepBytes state b i o
     unfolding stepBytes
     stepped =
         ap (stepReturned state) (is-r ∙ ap (λ (x : State). stepOf x b i o) is-s)
-        ∙ sym (cond-yes (eqb (length state) stateLength) (stepReturned state (stepOf (stateOf state) b i o)) (returnedStep badLength state b o) (eq-eqb (length state) stateLength e))
+        ∙ sym (cond-yes (eqb (length state) stateLength) (stepReturned state (stepOf (stateOf state) b i o)) (returnedStep badLength state b o)
+        (eq-eqb (length state) stateLength e))
 
     pub step-refused : (r .number ≡ 0 → ⊥) → returnedStep (r .number) state b′ o′ ≡ stepBytes state b i o
     unfolding stepReturned
     step-refused n =
         sym (cond-no (eqb (r .number) 0) (stepAsBytes (after r b′ o′)) (returnedStep (r .number) state b′ o′) (ne-eqb (r .number) 0 n)) ∙ stepped
 
-    pub step-carried : r .number ≡ 0 → (v : List ℕ) → v ≡ cond (eqb (length state) stateLength) (stateBytes (r .state)) state → returnedStep 0 v b′ o′ ≡ stepBytes state b i o
+    pub step-carried : r .number ≡ 0 → (v : List ℕ) → v ≡ cond (eqb (length state) stateLength) (stateBytes (r .state)) state
+        → returnedStep 0 v b′ o′ ≡ stepBytes state b i o
     unfolding stepReturned
     step-carried z v is-v =
         ap₂ (λ (n : ℕ) (x : List ℕ). returnedStep n x b′ o′) (sym z) (kept-all state (stateBytes (r .state)) v e is-v)
@@ -182,7 +186,8 @@ module _ (s : Sets) (sets : List ℕ) where
 
   pub sets-carried : s .refusal ≡ 0 → (v : List ℕ) → v ≡ setBytes s → returned 0 v ≡ starReturned s sets
   unfolding starReturned
-  sets-carried z v is-v = ap (returned 0) is-v ∙ sym (cond-yes (eqb (s .refusal) 0) (returned 0 (setBytes s)) (returned (s .refusal) sets) (eq-eqb (s .refusal) 0 z))
+  sets-carried z v is-v =
+      ap (returned 0) is-v ∙ sym (cond-yes (eqb (s .refusal) 0) (returned 0 (setBytes s)) (returned (s .refusal) sets) (eq-eqb (s .refusal) 0 z))
 
 -- ---- the star of rows, and of missing pairs
 module _ (n t : ℕ) (rows sets : List ℕ) where
@@ -194,7 +199,8 @@ module _ (n t : ℕ) (rows sets : List ℕ) where
   unfolding starBytes
   star-wrong-sets = out-wrong 32 rows 8 sets _
 
-  pub star-right : length rows ≡ 32 → length sets ≡ 8 → (m : List ℕ) → m ≡ rowsIn rows → (s : Sets) → s ≡ starOf m n t → starReturned s sets ≡ starBytes n t rows sets
+  pub star-right : length rows ≡ 32 → length sets ≡ 8 → (m : List ℕ) → m ≡ rowsIn rows → (s : Sets) → s ≡ starOf m n t
+      → starReturned s sets ≡ starBytes n t rows sets
   unfolding starBytes
   star-right e f m is-m s is-s = ap (λ (x : Sets). starReturned x sets) (is-s ∙ ap (λ (x : List ℕ). starOf x n t) is-m) ∙ both-right 32 rows 8 sets _ e f
 
@@ -211,7 +217,8 @@ module _ (n t : ℕ) (pairs sets : List ℕ) where
       → starReturned s sets ≡ pairStarBytes n t pairs sets
   unfolding pairStarBytes
   pair-star-right e f m is-m s is-s =
-      ap (λ (x : Sets). starReturned x sets) (is-s ∙ ap (λ (x : List ℕ). starOfBits x n t) (is-m ∙ copied-all pairs (replicate 15 0) e)) ∙ both-right 15 pairs 8 sets _ e f
+      ap (λ (x : Sets). starReturned x sets) (is-s ∙ ap (λ (x : List ℕ). starOfBits x n t) (is-m ∙ copied-all pairs (replicate 15 0) e))
+      ∙ both-right 15 pairs 8 sets _ e f
 
 -- ---- the missing pairs of rows
 module _ (n : ℕ) (rows pairs : List ℕ) where
@@ -227,4 +234,5 @@ module _ (n : ℕ) (rows pairs : List ℕ) where
       → (v : List ℕ) → v ≡ copied bits pairs → returned 0 v ≡ pairBytes n rows pairs
   unfolding pairBytes
   pairs-right e f m is-m bits is-bits v is-v =
-      ap (returned 0) (is-v ∙ copied-all bits pairs (ap length is-bits ∙ length-bits n (neighbour m) ∙ sym f) ∙ is-bits ∙ ap (λ (x : List ℕ). bitsOf n (neighbour x)) is-m) ∙ both-right 32 rows 15 pairs _ e f
+      ap (returned 0) (is-v ∙ copied-all bits pairs (ap length is-bits ∙ length-bits n (neighbour m) ∙ sym f) ∙ is-bits
+      ∙ ap (λ (x : List ℕ). bitsOf n (neighbour x)) is-m) ∙ both-right 32 rows 15 pairs _ e f

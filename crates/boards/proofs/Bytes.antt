@@ -47,14 +47,17 @@ module _ (s : State) (w : Words s) where
   unfolding stepBytes stepReturned
   step-bytes b i o =
       let a = stepOf s b i o in
-      cond-yes (eqb (length (stateBytes s)) stateLength) (stepReturned (stateBytes s) (stepOf (stateOf (stateBytes s)) b i o)) (returnedStep badLength (stateBytes s) b o)
+      cond-yes (eqb (length (stateBytes s)) stateLength) (stepReturned (stateBytes s) (stepOf (stateOf (stateBytes s)) b i o))
+      (returnedStep badLength (stateBytes s) b o)
       (eq-eqb (length (stateBytes s)) stateLength (length-state s))
       ∙ ap (λ (x : State). stepReturned (stateBytes s) (stepOf x b i o)) (read-written s w)
       ∙ ⊎-elim
       (λ (z : a .answer .number ≡ 0).
-      cond-yes (eqb (a .answer .number) 0) (stepAsBytes a) (returnedStep (a .answer .number) (stateBytes s) (a .block) (a .outbox)) (eq-eqb (a .answer .number) 0 z))
+      cond-yes (eqb (a .answer .number) 0) (stepAsBytes a) (returnedStep (a .answer .number) (stateBytes s) (a .block) (a .outbox))
+      (eq-eqb (a .answer .number) 0 z))
       (λ (z : a .answer .number ≡ 0 → ⊥).
-      cond-no (eqb (a .answer .number) 0) (stepAsBytes a) (returnedStep (a .answer .number) (stateBytes s) (a .block) (a .outbox)) (ne-eqb (a .answer .number) 0 z)
+      cond-no (eqb (a .answer .number) 0) (stepAsBytes a) (returnedStep (a .answer .number) (stateBytes s) (a .block) (a .outbox))
+      (ne-eqb (a .answer .number) 0 z)
       ∙ ap (λ (x : State). returnedStep (a .answer .number) (stateBytes x) (a .block) (a .outbox))
       (sym (ap (λ (x : After). x .answer .state) (step-refused s b i o (λ q. z (step-number s b i o ∙ q))))))
       (same-or-not (a .answer .number) 0)
@@ -70,7 +73,8 @@ module _ (s : State) (w : Words s) where
   size-bytes = ap (λ (x : State). blockSize (x .settings .n) (x .settings .t) (x .settings .k)) (read-written s w)
 
   -- the final block of a run that is at its end
-  pub final-bytes : (block out : List ℕ) → length block ≡ blockSize (s .settings .n) (s .settings .t) (s .settings .k) → length out ≡ blockSize (s .settings .n) (s .settings .t) (s .settings .k)
+  pub final-bytes : (block out : List ℕ) → length block ≡ blockSize (s .settings .n) (s .settings .t) (s .settings .k)
+      → length out ≡ blockSize (s .settings .n) (s .settings .t) (s .settings .k)
       → (outcomeNumber (s .outcome) ≡ 0 → ⊥) → finalBytes (stateBytes s) block out ≡ returned (outcomeNumber (s .outcome)) block
   unfolding finalBytes
   final-bytes block out e f n =
@@ -85,7 +89,8 @@ module _ (s : State) (w : Words s) where
 
 -- two states with one outcome and one block length have one final block of the same block
 pub final-same : (s s′ : State) → Words s → Words s′ → (block block′ out : List ℕ) → s .outcome ≡ s′ .outcome
-    → blockSize (s .settings .n) (s .settings .t) (s .settings .k) ≡ blockSize (s′ .settings .n) (s′ .settings .t) (s′ .settings .k) → block ≡ block′ → finalBytes (stateBytes s) block out ≡ finalBytes (stateBytes s′) block′ out
+    → blockSize (s .settings .n) (s .settings .t) (s .settings .k) ≡ blockSize (s′ .settings .n) (s′ .settings .t) (s′ .settings .k) → block ≡ block′
+    → finalBytes (stateBytes s) block out ≡ finalBytes (stateBytes s′) block′ out
 unfolding finalBytes
 final-same s s′ w w′ block block′ out e f g =
     rw (length-state s, length-state s′, outcome-bytes s w, outcome-bytes s′ w′, size-bytes s w, size-bytes s′ w′, e, f, g) refl

@@ -155,16 +155,20 @@ module _ (s : State) (b i o : List ℕ) (h : Words s) (few : s .settings .n ≤ 
   call-words Compare = by Compare _ (of-compare s b i o) open-words
   call-words Collect =
       by Collect _ (of-collect s b i o)
-      (matrix-words (advanced s Open) (firstMatrix i (inboxLayout s) (s .settings .n)) open-words (length-first i (inboxLayout s) (s .settings .n)) (first-lt i (inboxLayout s) (s .settings .n)))
+      (matrix-words (advanced s Open) (firstMatrix i (inboxLayout s) (s .settings .n)) open-words (length-first i (inboxLayout s) (s .settings .n))
+      (first-lt i (inboxLayout s) (s .settings .n)))
   call-words Tally = by Tally _ (of-tally s b i o) open-words
   call-words Hold =
       by Hold _ (of-hold s b i o)
-      (votes-words (advanced s Open) (heldOf i (inboxLayout s) (s .settings .n) (s .settings .t)) (weakOf i (inboxLayout s) (s .settings .n) (s .settings .t)) open-words
-      (length-held i (inboxLayout s) (s .settings .n) (s .settings .t)) (held-lt i (inboxLayout s) (s .settings .n) (s .settings .t)) (length-weak i (inboxLayout s) (s .settings .n) (s .settings .t))
+      (votes-words (advanced s Open) (heldOf i (inboxLayout s) (s .settings .n) (s .settings .t))
+      (weakOf i (inboxLayout s) (s .settings .n) (s .settings .t)) open-words
+      (length-held i (inboxLayout s) (s .settings .n) (s .settings .t)) (held-lt i (inboxLayout s) (s .settings .n) (s .settings .t))
+      (length-weak i (inboxLayout s) (s .settings .n) (s .settings .t))
       (weak-lt i (inboxLayout s) (s .settings .n) (s .settings .t)))
   call-words Settle = by Settle _ (of-settle s b i o) (matrix-words (advanced s Open) settled open-words settled-length settled-rows)
   call-words Core =
-      by Core _ (of-core s b i o) (core-words (advanced s Open) settled (coreOf settled (s .settings .n) (s .settings .t)) open-words settled-length settled-rows core-below)
+      by Core _ (of-core s b i o) (core-words (advanced s Open) settled
+      (coreOf settled (s .settings .n) (s .settings .t)) open-words settled-length settled-rows core-below)
   call-words Choose = by Choose _ (of-choose s b i o) open-words
   call-words Finish =
       by Finish _ (of-finish s b i o) (advanced-words s (finished (s .settings .n) (s .settings .t) (s .settings .k) (s .core) i b .outcome) h l)

@@ -101,7 +101,8 @@ module _ (S : System) (supposed : Supposed S) (buffers : ℕ → List ℕ) (size
       ∙ sym (ap (λ (x : Kept). returnedStep 8 (x .state) (x .block) (l .outbox)) (at i c))
 
   -- the settings at the end are the system's
-  end-size : (i : ℕ) → Correct S i → blockSize (atEnd S i .state .settings .n) (atEnd S i .state .settings .t) (atEnd S i .state .settings .k) ≡ blockSize (S .settings .n) (S .settings .t) (S .settings .k)
+  end-size : (i : ℕ) → Correct S i → blockSize (atEnd S i .state .settings .n) (atEnd S i .state .settings .t) (atEnd S i .state .settings .k) ≡ blockSize
+      (S .settings .n) (S .settings .t) (S .settings .k)
   end-size i c =
       let a = subst (At (S .settings) i (last S + 1)) (call-last S supposed i c)
       (call-at S supposed i c (last S) (omega arith) (omega arith) .after-at) in
@@ -129,7 +130,8 @@ module _ (S : System) (supposed : Supposed S) (buffers : ℕ → List ℕ) (size
       let o = agreement S supposed .sender-outcome i cs ci in
       let b = agreement S supposed .sender-block i cs ci in
       let r : outcomeNumber (atEnd S i .state .outcome) ≡ 1 = ap outcomeNumber o in
-      let size : length (S .block (S .settings .sender)) ≡ blockSize (atEnd S i .state .settings .n) (atEnd S i .state .settings .t) (atEnd S i .state .settings .k)
+      let size : length (S .block (S .settings .sender)) ≡ blockSize (atEnd S i .state .settings .n) (atEnd S i .state .settings .t)
+      (atEnd S i .state .settings .k)
       = length-block S supposed (S .settings .sender) cs ∙ sym (block-size-is (coded S supposed (S .settings .sender) cs)) ∙ sym (end-size i ci) in
       ap (λ (c : Kept). finalBytes (c .state) (c .block) out) (at i ci)
       ∙ final-bytes (atEnd S i .state) (end-words i) (atEnd S i .block) out (ap length b ∙ size) (e ∙ size) (λ z. omega (arith, r, z))

@@ -1,18 +1,18 @@
 -- Runs made through the exported functions of `boards`, with the state as bytes, and what demand 3 says of them. The contracts of
 -- `potekawhi_start`, `potekawhi_step`, `potekawhi_outcome` and `potekawhi_final_block` are the equations `startBytes`, `stepBytes`,
 -- `outcomeIn` and `finalBytes` that are used here.
---   Kept                  what the caller keeps from each step to the next: the state's bytes and the block
---   makes c l             one step through the library
---   kept c l              what it leaves to the next
---   keptAfter c ls        what is kept after a list of steps
---   keptFrom s own b buffer   what start leaves in a buffer, and the block lent to it
---   LibraryRuns           after a start that is carried out, every step of every list of steps through the library is that of the run of
---                         `agreement`: its number, block and outbox, and the state as bytes
---   keptAt S buffers i    what controller i keeps after all its steps, with a buffer of its own
---   SetByLastCall ..      controller i's outcome and block are those that the last call sets
---   OneOutcome S buffers  these; later steps answer 8 and change nothing; one outcome and one block; one final block; with a correct sender
---                         the outcome agreed, 1, and the sender's block
---   LibraryAgrees         that holds of every system that `agreement` supposes, run through the library
+--   Kept                     what the caller keeps from each step to the next: the state's bytes and the block
+--   makes c l                one step through the library
+--   kept c l                 what it leaves to the next
+--   keptAfter c ls           what is kept after a list of steps
+--   keptFrom s own b buffer  what start leaves in a buffer, and the block lent to it
+--   LibraryRuns              after a start that is carried out, every step of every list of steps through the library is that of the run of
+--                            `agreement`: its number, block and outbox, and the state as bytes
+--   keptAt S buffers i       what controller i keeps after all its steps, with a buffer of its own
+--   SetByLastCall ..         controller i's outcome and block are those that the last call sets
+--   OneOutcome S buffers     these; later steps answer 8 and change nothing; one outcome and one block; one final block; with a correct sender the
+--                            outcome agreed, 1, and the sender's block
+--   LibraryAgrees            that holds of every system that `agreement` supposes, run through the library
 use mathlib.Core.Path.{_≡_}
 use mathlib.Core.List.{List, [], _∷_}
 use Prim.Native.Nat.{ℕ}

@@ -1,9 +1,9 @@
 -- Random numbers, and digests by the same generator.
---   nextRandom x            x times 1664525 plus 1013904223, modulo 2 to the 32
---   mixed x y         next of the sum, modulo 2 to the 64
---   seeded a b c d    a mixed with b, c and d, one after the other
---   drawn a b c d     the upper 16 bits of that
---   digested d s      d mixed with the elements of s, one after the other
+--   nextRandom x    x times 1664525 plus 1013904223, modulo 2 to the 32
+--   mixed x y       next of the sum, modulo 2 to the 64
+--   seeded a b c d  a mixed with b, c and d, one after the other
+--   drawn a b c d   the upper 16 bits of that
+--   digested d s    d mixed with the elements of s, one after the other
 use mathlib.Core.List.{List, [], _∷_}
 use Prim.Native.Nat.{ℕ, _+_, _*_, _/_, _%_, _^_}
 

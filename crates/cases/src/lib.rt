@@ -11,6 +11,7 @@ ghost use Rattle.io.specs.Counts.{Counts};
 ghost use Rattle.cases.specs.Random.{nextRandom, mixed, seeded, drawn, digested};
 
 // The generator: x times 1664525 plus 1013904223, modulo 2 to the 32.
+// Shut out: another factor; another modulus.
 pub fn next(x: u64) -> u64
     ensures { λ r. ⌜ r ≡ nextRandom x ⌝ }
 {
@@ -18,6 +19,7 @@ pub fn next(x: u64) -> u64
 }
 
 // The generator applied to the sum.
+// Shut out: x twice; y not added.
 pub fn mix(x: u64, y: u64) -> u64
     ensures { λ r. ⌜ r ≡ mixed x y ⌝ }
 {
@@ -25,6 +27,7 @@ pub fn mix(x: u64, y: u64) -> u64
 }
 
 // A seed from four numbers.
+// Shut out: c and d the other way round; c twice.
 pub fn seed(a: u64, b: usize, c: usize, d: usize) -> u64
     ensures { λ r. ⌜ r ≡ seeded a b c d ⌝ }
 {
@@ -32,6 +35,7 @@ pub fn seed(a: u64, b: usize, c: usize, d: usize) -> u64
 }
 
 // 16 bits for a seed, a purpose and two numbers.
+// Shut out: another divisor; c and d the other way round.
 pub fn draw(a: u64, b: usize, c: usize, d: usize) -> usize
     ensures { λ r. ⌜ r ≡ drawn a b c d ⌝ }
 {
@@ -39,6 +43,7 @@ pub fn draw(a: u64, b: usize, c: usize, d: usize) -> usize
 }
 
 // The low eight bits.
+// Shut out: the low seven bits; the bits above them.
 pub fn byte(x: usize) -> u8
     ensures { λ r. ⌜ r ≡ x % 256 ⌝ }
 {
@@ -46,6 +51,7 @@ pub fn byte(x: usize) -> u8
 }
 
 // The low 16 bits.
+// Shut out: the low 15 bits; the bits above them.
 pub fn word(x: usize) -> u16
     ensures { λ r. ⌜ r ≡ x % 65536 ⌝ }
 {
@@ -65,6 +71,7 @@ fn of_word(x: u16) -> u64
 }
 
 // A digest of d and the bytes of a slice.
+// Shut out: that of the last byte alone; that without the first.
 pub fn digest(d: u64, s: &[u8]) -> u64
     ensures { λ r. ⌜ r ≡ digested d (now (s .entry)) ⌝ }
 {
@@ -78,6 +85,7 @@ pub fn digest(d: u64, s: &[u8]) -> u64
 }
 
 // The same of words.
+// Shut out: that of the last word alone; that without the first.
 pub fn digest_words(d: u64, s: &[u16]) -> u64
     ensures { λ r. ⌜ r ≡ digested d (now (s .entry)) ⌝ }
 {
@@ -91,6 +99,7 @@ pub fn digest_words(d: u64, s: &[u16]) -> u64
 }
 
 // 1 where both are the same, else 0: for a count of cases.
+// Shut out: whether a is 0; 0 and 1 the other way round.
 pub fn is_same(a: u8, b: u8) -> u64
     ensures { λ r. ⌜ (r ≡ ind (eqb a b)) × (r ≤ 1) ⌝ }
 {
@@ -101,6 +110,7 @@ pub fn is_same(a: u8, b: u8) -> u64
 }
 
 // Whether index i is one of t: every third, from index 1 on.
+// Shut out: from index 0 on; the indices below t.
 pub fn is_third(t: usize, i: usize) -> bool
     ensures { λ r. ⌜ r ≡ (eqb (i % 3) 1 && ltb (i / 3) t) ⌝ }
 {
@@ -111,6 +121,7 @@ pub fn is_third(t: usize, i: usize) -> bool
 }
 
 // The length x for a part of s; 0 where s is shorter.
+// Shut out: 0 where it fits; an exact fit refused.
 pub fn fitting(x: usize, s: &[u8]) -> usize
     ensures { λ r. ⌜ Counts r (now (s .entry)) ⌝ }
     ensures { λ r. ⌜ r ≡ cond (ltb (length (now (s .entry))) x) 0 x ⌝ }
@@ -122,6 +133,7 @@ pub fn fitting(x: usize, s: &[u8]) -> usize
 }
 
 // Each byte of s becomes v.
+// Shut out: zeros; the first byte left.
 pub fn fill(s: &mut [u8], v: u8)
     ensures { λ _. ⌜ now (s .exit) ≡ replicate (length (now (s .entry))) v ⌝ }
 {

@@ -43,7 +43,8 @@ module _ (layout : Layout) (n own sender : ℕ) (b o : List ℕ) where
 
 -- ---- call 2
 module _ (inbox : List ℕ) (layout : Layout) (sender : ℕ) (b : List ℕ) where
-  pub received-message : (length (messageOf inbox layout sender) ≡ 0 → ⊥) → length b ≡ layout .length → receivedBlock inbox layout sender b ≡ messageOf inbox layout sender
+  pub received-message : (length (messageOf inbox layout sender) ≡ 0 → ⊥) → length b ≡ layout .length
+      → receivedBlock inbox layout sender b ≡ messageOf inbox layout sender
   unfolding receivedBlock
   received-message n e =
       cond-no (eqb (length (messageOf inbox layout sender)) 0) (replicate (length b) 0) _ (ne-eqb (length (messageOf inbox layout sender)) 0 n)
@@ -58,13 +59,15 @@ module _ (inbox : List ℕ) (layout : Layout) (sender : ℕ) (b : List ℕ) wher
       go false = length-copied (messageOf inbox layout sender) b
 
   -- what holds of 0 and of every byte of the inbox holds of every byte of the block
-  pub received-all : (P : ℕ → Type 0) → P 0 → ((i : ℕ) → P (getD inbox i 0)) → length b ≡ layout .length → (i : ℕ) → P (getD (receivedBlock inbox layout sender b) i 0)
+  pub received-all : (P : ℕ → Type 0) → P 0 → ((i : ℕ) → P (getD inbox i 0)) → length b ≡ layout .length → (i : ℕ)
+      → P (getD (receivedBlock inbox layout sender b) i 0)
   unfolding receivedBlock
   received-all P z h e i =
       ⊎-elim
       (λ (y : eqb (length (messageOf inbox layout sender)) 0 ≡ true).
       subst (λ (l : List ℕ). P (getD l i 0))
-      (sym (cond-yes (eqb (length (messageOf inbox layout sender)) 0) (replicate (length b) 0) (copied (messageOf inbox layout sender) b) y)) (all-zeros P z (length b) i))
+      (sym (cond-yes (eqb (length (messageOf inbox layout sender)) 0) (replicate (length b) 0) (copied (messageOf inbox layout sender) b) y))
+      (all-zeros P z (length b) i))
       (λ (y : eqb (length (messageOf inbox layout sender)) 0 ≡ false).
       subst (λ (l : List ℕ). P (getD l i 0))
       (sym (received-message (λ q. true≢false (sym (eq-eqb (length (messageOf inbox layout sender)) 0 q) ∙ y)) e)) (message-all P z inbox layout sender h i))
@@ -110,8 +113,10 @@ module _ (k t own : ℕ) (inbox : List ℕ) (layout : Layout) (b : List ℕ) (j 
       ⊎-elim (λ (y : eqb j own ≡ true). absurd (n (eqb-true j own y)))
       (λ y.
       let both = and-right (not (eqb (length (messageOf inbox layout j)) 0)) _ y in (
-        sym first ∙ same-eq (take k (messageOf inbox layout j)) (pieceOf k t b j) (and-left (same (take k (messageOf inbox layout j)) (pieceOf k t b j)) _ both),
-        sym second ∙ same-eq (drop k (messageOf inbox layout j)) (pieceOf k t b own) (and-right (same (take k (messageOf inbox layout j)) (pieceOf k t b j)) _ both),
+        sym first ∙ same-eq (take k (messageOf inbox layout j)) (pieceOf k t b j)
+            (and-left (same (take k (messageOf inbox layout j)) (pieceOf k t b j)) _ both),
+        sym second ∙ same-eq (drop k (messageOf inbox layout j)) (pieceOf k t b own)
+            (and-right (same (take k (messageOf inbox layout j)) (pieceOf k t b j)) _ both),
       ))
       (or-cases (eqb j own) _ e)
 
@@ -123,7 +128,8 @@ module _ (k t own : ℕ) (inbox : List ℕ) (layout : Layout) (b : List ℕ) (j 
       (and-both (not (eqb (length (messageOf inbox layout j)) 0)) _
       (ap not (ne-eqb (length (messageOf inbox layout j)) 0 (λ z. omega (arith, ap length arrived, length-append p q))))
       (and-both (same (take k (messageOf inbox layout j)) (pieceOf k t b j)) (same (drop k (messageOf inbox layout j)) (pieceOf k t b own))
-      (eq-same (take k (messageOf inbox layout j)) (pieceOf k t b j) (first ∙ e)) (eq-same (drop k (messageOf inbox layout j)) (pieceOf k t b own) (second ∙ f))))
+      (eq-same (take k (messageOf inbox layout j)) (pieceOf k t b j) (first ∙ e))
+      (eq-same (drop k (messageOf inbox layout j)) (pieceOf k t b own) (second ∙ f))))
 
 -- oneself is always marked
 pub marked-self : (k t own : ℕ) (inbox : List ℕ) (layout : Layout) (b : List ℕ) → isMarked k t own inbox layout b own ≡ true

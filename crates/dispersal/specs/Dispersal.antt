@@ -1,15 +1,15 @@
 -- Calls 1 to 3 (document 01, 'Rounds'): the sender's block, the pieces, the marks. Controllers are numbered from 1; own is
 -- the caller's own number. The functions are total: outside the settings, or with a block or an outbox of another length, nothing is
 -- written and nobody is marked.
---   sentBlock layout n own sender b o   call 1: the sender's block to all; silence from everyone else
+--   sentBlock layout n own sender b o    call 1: the sender's block to all; silence from everyone else
 --   receivedBlock inbox layout sender b  call 2: the block is the sender's message, or zeros if absent
---   twoPieces k t own b j               round 2, to j: the own piece, then piece j of the own coding
---   sentPieces n t k own b o            call 2: that to each j
---   isMarked k t own inbox layout b j   call 3: j's slot is present, its first piece equals piece j of the own coding, and its second equals
---                                       the own piece; oneself is always marked
---   marksOf n t k own inbox layout b    call 3: the set of those marked, index j - 1 for controller j (document 01: marks)
---   marksMessage n s                    the marks as 16 bits, low byte first; bits past n are sent 0
---   sentMarks layout n s o              call 3: the marks to all
+--   twoPieces k t own b j                round 2, to j: the own piece, then piece j of the own coding
+--   sentPieces n t k own b o             call 2: that to each j
+--   isMarked k t own inbox layout b j    call 3: j's slot is present, its first piece equals piece j of the own coding, and its second equals the own
+--                                        piece; oneself is always marked
+--   marksOf n t k own inbox layout b     call 3: the set of those marked, index j - 1 for controller j (document 01: marks)
+--   marksMessage n s                     the marks as 16 bits, low byte first; bits past n are sent 0
+--   sentMarks layout n s o               call 3: the marks to all
 use mathlib.Core.Bool.{Bool, cond, not, _&&_, _||_}
 use mathlib.Core.List.{List, [], _∷_, _++_}
 use Prim.Native.Nat.{ℕ, _+_, _*_, _/_, _%_}

@@ -13,7 +13,8 @@ use Rattle.star.specs.Star.{struck, setC, lacks, setD, atLeast, setF, setE, set
 use Rattle.examples.specs.Pairs.{MissingPairs}
 
 pub missing-pairs : MissingPairs
-unfolding sum count tabulate member setOf sizeOf outside tooMany broken refusalOf starRefusal neighbour withLarger pairsFrom order pairAt place bit missingAt bitsOf adjacent matched firstFound ofSize upTo matchingOf struck setC lacks setD atLeast setF setE setsFrom noSets isLarge starFrom refusalFor starOfBits
+unfolding sum count tabulate member setOf sizeOf outside tooMany broken refusalOf starRefusal neighbour withLarger pairsFrom order pairAt place bit missingAt
+    bitsOf adjacent matched firstFound ofSize upTo matchingOf struck setC lacks setD atLeast setF setE setsFrom noSets isLarge starFrom refusalFor starOfBits
 missing-pairs =
     record {
       g = refl;

@@ -42,16 +42,21 @@ bytes-d (suc zero) = lit< tt
 bytes-d (suc (suc i)) = lit< tt
 
 example-d : decodes 0x00 0x22 0x36 0x5a Block (0x0a ∷ 0x14 ∷ [])
-unfolding sum count gadd gmul gpow polyMul reduce outside tooMany broken refusalOf encodingRefusal decodingRefusal starRefusal blockLength width slotOf part holds isPresent messageOf gsum evaluate stripe received agreeing meets decodeRefusal
+unfolding sum count gadd gmul gpow polyMul reduce outside tooMany broken refusalOf encodingRefusal decodingRefusal starRefusal blockLength width slotOf part
+    holds isPresent messageOf gsum evaluate stripe received agreeing meets decodeRefusal
 example-d = (refl, meets-decodes 4 1 1 (fourPieces 0x00 0x22 0x36 0x5a) (0x0a ∷ 0x14 ∷ []) refl bytes-d refl)
 
 -- example e: the candidate for the stripe agrees with too few of the pieces, so no block meets the rule
 example-e : decodes 0x1e 0x22 0x37 0x5b Beyond (0 ∷ 0 ∷ [])
-unfolding sum count tabulate filled gadd gmul ginv gpow polyMul reduce outside tooMany broken refusalOf encodingRefusal decodingRefusal starRefusal blockLength width slotOf part holds isPresent messageOf gsum evaluate horner plus scale timesRoot wrongBy combine withRoot start advance next run smaller reduced series candidate received agreeing points column stripeOf isFound decodeRefusal
+unfolding sum count tabulate filled gadd gmul ginv gpow polyMul reduce outside tooMany broken refusalOf encodingRefusal decodingRefusal starRefusal
+    blockLength width slotOf part holds isPresent messageOf gsum evaluate horner plus scale timesRoot wrongBy combine withRoot start advance next run smaller
+    reduced series candidate received agreeing points column stripeOf isFound decodeRefusal
 example-e = (refl, stripe-beyond 4 1 1 (fourPieces 0x1e 0x22 0x37 0x5b) coded 0 (omega arith) refl, refl)
 
 pub examples : Examples
-unfolding sum count tabulate filled member setOf sizeOf gadd gmul gpow polyMul reduce outside tooMany broken refusalOf encodingRefusal decodingRefusal starRefusal blockLength gsum evaluate stripe pieceOf encodeRefusal encodeOf zeroSeen oneSeen neighbour matched firstFound ofSize upTo matchingOf struck setC lacks setD atLeast setF setE setsFrom noSets isLarge starFrom refusalFor starOf roundCount roundKind
+unfolding sum count tabulate filled member setOf sizeOf gadd gmul gpow polyMul reduce outside tooMany broken refusalOf encodingRefusal decodingRefusal
+    starRefusal blockLength gsum evaluate stripe pieceOf encodeRefusal encodeOf zeroSeen oneSeen neighbour matched firstFound ofSize upTo matchingOf struck
+    setC lacks setD atLeast setF setE setsFrom noSets isLarge starFrom refusalFor starOf roundCount roundKind
 examples =
     record {
       a = refl;

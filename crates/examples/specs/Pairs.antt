@@ -1,7 +1,7 @@
 -- Document 02, U9, on the graphs of document 01's examples g, h and i: their missing pairs, as 15 bytes, and the stars of these. Proved in
 -- proofs/Pairs.antt.
---   firstFour a b c d   15 bytes, of which the first four are given, then zeros
---   MissingPairs           the table
+--   firstFour a b c d  15 bytes, of which the first four are given, then zeros
+--   MissingPairs       the table
 use mathlib.Core.Path.{_≡_}
 use mathlib.Core.List.{List, _∷_}
 use Prim.Native.Nat.{ℕ}

@@ -12,7 +12,8 @@ use lib.Dec.{T, eqb, eqb→eq, ltb, ltb→lt, lit<}
 use lib.Pow.{mod-pow-add, mod-mod-pow, field, pow-pos}
 use Rattle.lists.proofs.Table.{below, below-at}
 use Rattle.gf256.specs.Field.{gadd, modulus, polyMul, reduce, gmul}
-use Rattle.gf256.proofs.Sum.{Additive, additive-zero, bit-cases, bit-lt, add-mod, add-shr, add-double, scale-r, scale-l, bit-add, gadd-lt, gadd-medial, gadd-zero-l}
+use Rattle.gf256.proofs.Sum.{Additive, additive-zero, bit-cases, bit-lt, add-mod, add-shr, add-double, scale-r, scale-l, bit-add, gadd-lt, gadd-medial}
+use Rattle.gf256.proofs.Sum.{gadd-zero-l}
 
 -- ---- the product of polynomials, and the reduction
 poly-add-l : (n b : ℕ) → Additive (λ a. polyMul n a b)

@@ -119,7 +119,8 @@ module _ (n : ℕ) (adj : ℕ → ℕ → Bool) (own : (i : ℕ) → adj i i ≡
   adjacent-rising i j l m =
       let s : j < 16 = omega arith in
       adjacent-less (bitsOf n adj) i j l s
-      ∙ ap not (bit-of n adj (place i j) (pair-place i j l s .0) ∙ missing-place n adj i j l s ∙ and-tail (ltb j n) (not (adj i j)) (lt-ltb j n m)) ∙ not-not (adj i j)
+      ∙ ap not (bit-of n adj (place i j) (pair-place i j l s .0) ∙ missing-place n adj i j l s ∙ and-tail (ltb j n) (not (adj i j)) (lt-ltb j n m))
+      ∙ not-not (adj i j)
 
   pub adjacent-of : (i j : ℕ) → i < n → j < n → adjacent (bitsOf n adj) i j ≡ adj i j
   adjacent-of i j li lj =

@@ -31,14 +31,16 @@ module _ (n : ℕ) (adj : ℕ → ℕ → Bool) where
   pub bits-start : replicate 15 0 ≡ bitsTo 0
   unfolding bitsTo byte
   bits-start =
-      sym (tabulate-ext (byte 0) (λ _. 0) 15 (λ b l. set-empty 8 (λ k. made 0 (8 * b + k)) (λ k. and-no-left (ltb (8 * b + k) 0) _ (le-ltb (8 * b + k) 0 (omega arith))))
+      sym (tabulate-ext (byte 0) (λ _. 0) 15
+      (λ b l. set-empty 8 (λ k. made 0 (8 * b + k)) (λ k. and-no-left (ltb (8 * b + k) 0) _ (le-ltb (8 * b + k) 0 (omega arith))))
       ∙ tabulate-const 0 15)
 
   pub bits-all : bitsTo 120 ≡ bitsOf n adj
   unfolding bitsTo byte bitsOf
   bits-all =
       tabulate-ext (byte 120) (λ b. setOf 8 (λ k. missingAt n adj (8 * b + k))) 15
-      (λ b l. set-ext 8 (λ k. made 120 (8 * b + k)) (λ k. missingAt n adj (8 * b + k)) (λ k m. and-tail (ltb (8 * b + k) 120) _ (lt-ltb (8 * b + k) 120 (omega arith))))
+      (λ b l. set-ext 8 (λ k. made 120 (8 * b + k)) (λ k. missingAt n adj (8 * b + k))
+      (λ k m. and-tail (ltb (8 * b + k) 120) _ (lt-ltb (8 * b + k) 120 (omega arith))))
 
   -- the other places stay
   made-other : (p q : ℕ) → (q ≡ p → ⊥) → made p q ≡ made (p + 1) q
@@ -79,7 +81,8 @@ module _ (n : ℕ) (adj : ℕ → ℕ → Bool) where
           ∙ and-true y
           ∙ ey ∙ sym (ap (made (p + 1)) q ∙ and-tail (ltb p (p + 1)) (missingAt n adj p) (lt-ltb p (p + 1) (omega arith))))
           (λ (ne : k ≡ p % 8 → ⊥).
-          ap₂ (λ (a b : Bool). a || (y && b)) was (ne-eqb k (p % 8) ne) ∙ ap (λ (z : Bool). made p (8 * (p / 8) + k) || z) (and-no-right y false refl) ∙ or-none (made p (8 * (p / 8) + k))
+          ap₂ (λ (a b : Bool). a || (y && b)) was (ne-eqb k (p % 8) ne) ∙ ap (λ (z : Bool). made p (8 * (p / 8) + k) || z) (and-no-right y false refl)
+          ∙ or-none (made p (8 * (p / 8) + k))
           ∙ made-other p (8 * (p / 8) + k) (λ e. ne (omega arith)))
           (same-or-not k (p % 8))
 

@@ -27,7 +27,8 @@ module _ (rows : List ℕ) where
   neighbour-other i j n = or-tail (eqb i j) (member (getD rows i 0) j && member (getD rows j 0) i) (ne-eqb i j n)
 
 -- only the marks of the two count
-pub neighbour-same : (rows nrows : List ℕ) (i j : ℕ) → member (getD rows i 0) j ≡ member (getD nrows i 0) j → member (getD rows j 0) i ≡ member (getD nrows j 0) i
+pub neighbour-same : (rows nrows : List ℕ) (i j : ℕ) → member (getD rows i 0) j ≡ member (getD nrows i 0) j
+    → member (getD rows j 0) i ≡ member (getD nrows j 0) i
     → neighbour rows i j ≡ neighbour nrows i j
 unfolding neighbour
 neighbour-same rows nrows i j a b = ap₂ (λ (x y : Bool). eqb i j || (x && y)) a b

@@ -1,7 +1,7 @@
 -- The neighbour graph of 16 rows of marks (document 01, 'Rounds', call 3t + 7, and 'Star and core'). Index i stands for
 -- controller i + 1. Below, `adj i j` says whether i and j are neighbours, in a graph however it is given.
---   neighbour rows i j   i and j mark each other, or are the same
---   missing n adj i      the set of those with whom i makes a missing pair: both are below n, and they are not neighbours
+--   neighbour rows i j  i and j mark each other, or are the same
+--   missing n adj i     the set of those with whom i makes a missing pair: both are below n, and they are not neighbours
 use mathlib.Core.Bool.{Bool, not, _&&_, _||_}
 use mathlib.Core.List.{List}
 use Prim.Native.Nat.{ℕ}

@@ -1,13 +1,13 @@
 -- The 120 pairs of different indices below 16, in the order of document 02, U9: by the smaller and then the larger. Places in it are counted
 -- from 0. That places and pairs correspond one to one, and that the order is `Before`, is proved (proofs/Order: `place-pair`, `pair-place`,
 -- `order-rises`).
---   Pair               two indices
---   Before p q         p comes before q in dictionary order
---   withLarger i j c   (i, j), (i, j + 1), .. : c pairs
---   pairsFrom c i      the pairs of i, .., i + c - 1
---   order              the 120 pairs of 0, .., 15
---   pairAt p           the pair at place p
---   place i j          the place of (i, j), where i < j: 15 - x pairs have the smaller index x, and of those of i, j - i - 1 come before j
+--   Pair              two indices
+--   Before p q        p comes before q in dictionary order
+--   withLarger i j c  (i, j), (i, j + 1), .. : c pairs
+--   pairsFrom c i     the pairs of i, .., i + c - 1
+--   order             the 120 pairs of 0, .., 15
+--   pairAt p          the pair at place p
+--   place i j         the place of (i, j), where i < j: 15 - x pairs have the smaller index x, and of those of i, j - i - 1 come before j
 use mathlib.Core.Path.{_≡_}
 use mathlib.Core.Logic.{_⊎_}
 use mathlib.Core.List.{List, [], _∷_, _++_}

@@ -17,7 +17,8 @@ use Rattle.lists.proofs.Fills.{length-tabulate, getD-tabulate}
 use Rattle.lists.proofs.Sums.{count-mono, count-meet}
 use Rattle.lists.proofs.Tests.{and-left, and-right, lt-or-le}
 use Rattle.polynomial.specs.Polynomial.{evaluate, horner, plus, product, Bytes, Zero, Below, Points}
-use Rattle.polynomial.proofs.Laws.{evaluate-horner, horner-plus, horner-product, horner-zero, horner-at-zero, at-plus, at-product, past-end, bytes-plus, bytes-product, below-more, below-length, below-plus, below-product, zero-product-r, zero-of-roots, equal-of-values}
+use Rattle.polynomial.proofs.Laws.{evaluate-horner, horner-plus, horner-product, horner-zero, horner-at-zero, at-plus, at-product, past-end, bytes-plus}
+use Rattle.polynomial.proofs.Laws.{bytes-product, below-more, below-length, below-plus, below-product, zero-product-r, zero-of-roots, equal-of-values}
 use Rattle.interpolation.specs.Interpolation.{agreements, Ratio, wrongBy, Ratios, swapped, run, smaller, reduced, series, candidate}
 use Rattle.interpolation.proofs.Invariant.{Weighs, Invariant, Units, det, holds-swapped, holds-run}
 
@@ -101,7 +102,8 @@ pub bytes-candidate : (t : ℕ) (xs ys : List ℕ) → Bytes (candidate t xs ys)
 unfolding candidate
 bytes-candidate t xs ys = let P = smaller (run t xs ys (length xs)) in bytes-series (t + 1) (P .Q) (P .E)
 
-module _ (t : ℕ) (xs ys f : List ℕ) (units : Units xs) (points : Points (length xs) (λ i. getD xs i 0)) (hf : Bytes f) (lf : length f ≡ t + 1) (most : length xs + t < 2 * agreements xs ys f) where
+module _ (t : ℕ) (xs ys f : List ℕ) (units : Units xs) (points : Points (length xs) (λ i. getD xs i 0)) (hf : Bytes f) (lf : length f ≡ t + 1)
+    (most : length xs + t < 2 * agreements xs ys f) where
   abbrev w : ℕ
   w = length xs + t + 1
 
@@ -149,7 +151,8 @@ module _ (t : ℕ) (xs ys f : List ℕ) (units : Units xs) (points : Points (len
   unfolding candidate smaller
   recovers = by (run t xs ys (length xs)) (holds-run t xs ys units (length xs) (omega arith))
     where
-      of : (s : Ratios) → Invariant w t xs ys (length xs) s → (k : Bool) → leb (s .u) (s .v) ≡ k → series (t + 1) (cond k (s .A) (s .B) .Q) (cond k (s .A) (s .B) .E) ≡ f
+      of : (s : Ratios) → Invariant w t xs ys (length xs) s → (k : Bool) → leb (s .u) (s .v) ≡ k
+          → series (t + 1) (cond k (s .A) (s .B) .Q) (cond k (s .A) (s .B) .E) ≡ f
       of s h true e = of-smaller s (leb-true (s .u) (s .v) e) h
       of s h false e = of-smaller (swapped s) (omega (arith, leb-false (s .u) (s .v) e)) (holds-swapped w t xs ys (length xs) s h)
 

@@ -13,7 +13,8 @@ use Rattle.lists.specs.Sum.{count}
 use Rattle.lists.specs.Fill.{tabulate}
 use Rattle.lists.proofs.Tests.{cond-yes, cond-no, and-no-left, and-no-right, and-both}
 use Rattle.polynomial.specs.Polynomial.{evaluate, horner, plus, scale, timesRoot}
-use Rattle.interpolation.specs.Interpolation.{agreements, Ratio, ratio, wrongBy, combine, withRoot, Ratios, ratios, swapped, constant, start, advance, next, run, smaller, reduced, series, candidate, most, canTry, candidateInto}
+use Rattle.interpolation.specs.Interpolation.{agreements, Ratio, ratio, wrongBy, combine, withRoot, Ratios, ratios, swapped, constant, start, advance}
+use Rattle.interpolation.specs.Interpolation.{next, run, smaller, reduced, series, candidate, most, canTry, candidateInto}
 
 pub agreements-count : (xs ys m : List ℕ) → agreements xs ys m ≡ count (length xs) (λ i. eqb (evaluate m (getD xs i 0)) (getD ys i 0))
 unfolding agreements
@@ -27,7 +28,8 @@ pub root-pair : (x : ℕ) (q e : List ℕ) → withRoot x (ratio q e) ≡ ratio 
 unfolding withRoot
 root-pair x q e = refl
 
-pub combine-pair : (a b : ℕ) (q e q′ e′ : List ℕ) → combine a (ratio q e) b (ratio q′ e′) ≡ ratio (plus (scale a q) (scale b q′)) (plus (scale a e) (scale b e′))
+pub combine-pair : (a b : ℕ) (q e q′ e′ : List ℕ) → combine a (ratio q e) b (ratio q′ e′) ≡ ratio (plus (scale a q) (scale b q′))
+    (plus (scale a e) (scale b e′))
 unfolding combine
 combine-pair a b q e q′ e′ = refl
 
@@ -89,7 +91,9 @@ candidate-series t xs ys P e = rw e
 module _ (xs ys m : List ℕ) where
   pub into-uneven : (length ys ≡ length xs → ⊥) → candidateInto xs ys m ≡ m
   unfolding candidateInto
-  into-uneven n = cond-no (canTry xs ys m) _ m (and-no-left (eqb (length ys) (length xs)) (leb 1 (length m) && leb (length xs + length m) most) (ne-eqb (length ys) (length xs) n))
+  into-uneven n =
+      cond-no (canTry xs ys m) _ m (and-no-left (eqb (length ys) (length xs)) (leb 1 (length m) && leb (length xs + length m) most)
+      (ne-eqb (length ys) (length xs) n))
 
   pub into-none : length m ≡ 0 → candidateInto xs ys m ≡ m
   unfolding candidateInto

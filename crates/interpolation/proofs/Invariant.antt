@@ -11,10 +11,12 @@ use borrow.Author.Tests.{eqb-true, eqb-false, leb-true, leb-false}
 use lib.Dec.{eqb, leb, lit<}
 use lib.ListN.{length, getD, replicate, length-replicate}
 use Rattle.gf256.specs.Field.{gadd, gmul}
-use Rattle.gf256.proofs.Laws.{gadd-comm, gadd-zero-l, gadd-zero-r, gadd-self, gadd-medial, gadd-lt, gmul-comm, gmul-assoc, gmul-left-comm, gmul-add-l, gmul-add-r, gmul-lt, gmul-zero-l, gmul-zero-r, gmul-one-r, gmul-pos}
+use Rattle.gf256.proofs.Laws.{gadd-comm, gadd-zero-l, gadd-zero-r, gadd-self, gadd-medial, gadd-lt, gmul-comm, gmul-assoc, gmul-left-comm, gmul-add-l}
+use Rattle.gf256.proofs.Laws.{gmul-add-r, gmul-lt, gmul-zero-l, gmul-zero-r, gmul-one-r, gmul-pos}
 use Rattle.lists.proofs.Sums.{below-suc}
 use Rattle.polynomial.specs.Polynomial.{horner, plus, scale, timesRoot, Bytes, Zero, Below}
-use Rattle.polynomial.proofs.Laws.{horner-plus, horner-scale, horner-root, horner-at-zero, horner-lt, bytes-plus, bytes-scale, bytes-root, length-plus, length-scale, length-root, below-more, below-plus, below-scale, below-root, zero-root}
+use Rattle.polynomial.proofs.Laws.{horner-plus, horner-scale, horner-root, horner-at-zero, horner-lt, bytes-plus, bytes-scale, bytes-root, length-plus}
+use Rattle.polynomial.proofs.Laws.{length-scale, length-root, below-more, below-plus, below-scale, below-root, zero-root}
 use Rattle.interpolation.specs.Interpolation.{Ratio, ratio, wrongBy, combine, withRoot, Ratios, ratios, swapped, constant, start, advance, next, run}
 
 -- ---- the discrepancy is linear in the pair
@@ -74,7 +76,8 @@ weighs-combine : (t k a b : ℕ) (A B : Ratio) → Weighs t k A → Weighs t k B
 unfolding combine
 weighs-combine t k a b A B hA hB = record {
   weighs-Q = below-plus (suc k) (scale a (B .Q)) (scale b (A .Q)) (below-scale a (suc k) (B .Q) (hB .weighs-Q)) (below-scale b (suc k) (A .Q) (hA .weighs-Q));
-  weighs-E = below-plus (suc k - t) (scale a (B .E)) (scale b (A .E)) (below-scale a (suc k - t) (B .E) (hB .weighs-E)) (below-scale b (suc k - t) (A .E) (hA .weighs-E));
+  weighs-E = below-plus (suc k - t) (scale a (B .E)) (scale b (A .E)) (below-scale a (suc k - t) (B .E) (hB .weighs-E))
+      (below-scale b (suc k - t) (A .E) (hA .weighs-E));
 }
 
 weighs-root : (t k x : ℕ) (A : Ratio) → Weighs t k A → Weighs t (k + 1) (withRoot x A)
@@ -212,7 +215,8 @@ module _ (w t : ℕ) (xs ys : List ℕ) where
       ∙ ap₂ gadd (ap (gmul a) (hb i l) ∙ gmul-zero-r a) (ap (gmul b) (ha i l) ∙ gmul-zero-r b)
       ∙ gadd-self 0
 
-  module _ (n : ℕ) (s : Ratios) (pos : 0 < getD xs n 0) (small : getD xs n 0 < 256) (order : s .u ≤ s .v) (fits : suc (n + t) < w) (h : Invariant w t xs ys n s) where
+  module _ (n : ℕ) (s : Ratios) (pos : 0 < getD xs n 0) (small : getD xs n 0 < 256) (order : s .u ≤ s .v) (fits : suc (n + t) < w)
+      (h : Invariant w t xs ys n s) where
     abbrev x : ℕ
     x = getD xs n 0
 
@@ -272,7 +276,8 @@ module _ (w t : ℕ) (xs ys : List ℕ) where
     holds-advance = by (eqb a 0) refl
       where
         by : (k : Bool) → eqb a 0 ≡ k
-            → Invariant w t xs ys (suc n) (cond k (ratios (s .A) (s .u) (withRoot x (s .B)) (s .v + 1)) (ratios (withRoot x (s .A)) (s .u + 1) (combine a (s .B) b (s .A)) (s .v)))
+            → Invariant w t xs ys (suc n) (cond k (ratios (s .A) (s .u) (withRoot x (s .B)) (s .v + 1))
+            (ratios (withRoot x (s .A)) (s .u + 1) (combine a (s .B) b (s .A)) (s .v)))
         by true e = stays (eqb-true a 0 e)
         by false e = moves (eqb-false a 0 e)
 

@@ -9,5 +9,7 @@
 --     start-state, run-none, run-more, smaller-first, smaller-second, reduced-filled, series-none, series-suc, candidate-series
 pub use Rattle.interpolation.proofs.Invariant.{Units}
 pub use Rattle.interpolation.proofs.Complete.{recovers, unique, length-candidate, bytes-candidate}
-pub use Rattle.interpolation.proofs.Equations.{agreements-count, wrong-values, root-pair, combine-pair, advance-right, advance-wrong, next-first, next-second}
-pub use Rattle.interpolation.proofs.Equations.{start-state, run-none, run-more, smaller-first, smaller-second, reduced-filled, series-none, series-suc, candidate-series, into-candidate}
+pub use Rattle.interpolation.proofs.Equations.{agreements-count, wrong-values, root-pair, combine-pair, advance-right, advance-wrong, next-first}
+pub use Rattle.interpolation.proofs.Equations.{next-second}
+pub use Rattle.interpolation.proofs.Equations.{start-state, run-none, run-more, smaller-first, smaller-second, reduced-filled, series-none, series-suc}
+pub use Rattle.interpolation.proofs.Equations.{candidate-series, into-candidate}

@@ -1,6 +1,6 @@
 -- Lists given by a function of the index.
---   tabulate f n   f 0, .., f (n - 1)
---   filled f n d   d with its first n elements, or all where it has fewer, replaced by f 0, f 1, ..
+--   tabulate f n  f 0, .., f (n - 1)
+--   filled f n d  d with its first n elements, or all where it has fewer, replaced by f 0, f 1, ..
 use mathlib.Core.List.{List, [], _∷_}
 use Prim.Native.Nat.{ℕ, zero, suc}
 

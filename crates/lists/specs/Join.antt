@@ -1,6 +1,6 @@
 -- Lists joined from parts of one width.
---   joined f n   f 0 ++ .. ++ f (n - 1)
---   part w l i   part i of l, counted from 0, where each has w elements
+--   joined f n  f 0 ++ .. ++ f (n - 1)
+--   part w l i  part i of l, counted from 0, where each has w elements
 use mathlib.Core.List.{List, [], _++_}
 use Prim.Native.Nat.{ℕ, zero, suc, _*_}
 use lib.ListN.{take, drop}

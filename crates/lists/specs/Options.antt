@@ -1,6 +1,6 @@
 -- Answers that may be none.
---   orElse r q   r, or q where r is none
---   front x r    x before the list of r
+--   orElse r q  r, or q where r is none
+--   front x r   x before the list of r
 use mathlib.Core.List.{List, _∷_}
 use mathlib.Core.Option.{Option, none, some}
 

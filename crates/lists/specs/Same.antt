@@ -1,5 +1,5 @@
 -- Equality of lists of numbers as a test.
---   same a b   a and b are equal, element by element
+--   same a b  a and b are equal, element by element
 use mathlib.Core.Bool.{Bool, true, false, _&&_}
 use mathlib.Core.List.{List, [], _∷_}
 use Prim.Native.Nat.{ℕ}

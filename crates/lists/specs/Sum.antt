@@ -1,7 +1,7 @@
 -- Sums and counts over the indices 0 .. n - 1. A set of indices is a test, ℕ → Bool.
---   sum n f     f 0 + .. + f (n - 1)
---   ind b       1 where b holds, else 0
---   count n p   how many indices below n pass the test p
+--   sum n f    f 0 + .. + f (n - 1)
+--   ind b      1 where b holds, else 0
+--   count n p  how many indices below n pass the test p
 use mathlib.Core.Bool.{Bool, true, false}
 use Prim.Native.Nat.{ℕ, zero, suc, _+_}
 

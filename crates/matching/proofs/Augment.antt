@@ -158,20 +158,30 @@ module _ (n : ℕ) (adj : ℕ → ℕ → Bool) (turn : (a b : ℕ) → adj a b 
         let la : a < n = omega (arith, mp .0, mp .1) in
         let yes-a : matched M a ≡ true = matched-of M a p i (end-small p) in
         let yes-b : matched M b ≡ true = matched-of M b p i (end-large p) in
-        let apart : (x y : ℕ) → matched M x ≡ false → matched M y ≡ true → x ≡ y → ⊥ = λ x y f t e. true≢false (sym t ∙ subst (λ (z : ℕ). matched M z ≡ false) e f) in
+        let apart : (x y : ℕ) → matched M x ≡ false → matched M y ≡ true → x ≡ y
+        → ⊥ = λ x y f t e. true≢false (sym t ∙ subst (λ (z : ℕ). matched M z ≡ false) e f) in
         let gone : Pair → Bool = λ q. isEnd a q in
         let rest = keep (λ q. not (gone q)) M in
         let lost : Each (λ q. Avoids c q × Avoids d q) M = each-both (λ q x y. (x, y)) M (free M c nc) (free M d nd) in
         let apart-p : Each (λ q. Disjoint p q ⊎ (p ≡ q)) M = others M p i (big .matches .1) in
         let known : Each (λ q. (Disjoint p q ⊎ (p ≡ q)) × (Avoids c q × Avoids d q)) M = each-both (λ q x y. (x, y)) M apart-p lost in
-        let all : Each (λ q. Missing n adj q × (Disjoint p q ⊎ (p ≡ q)) × (Avoids c q × Avoids d q)) M = each-both {Q = λ q. (Disjoint p q ⊎ (p ≡ q)) × (Avoids c q × Avoids d q)} (λ q x y. (x, y .0, y .1)) M (big .matches .0) known in
+        let all : Each (λ q. Missing n adj q × (Disjoint p q ⊎ (p ≡ q)) × (Avoids c q × Avoids d q)) M = each-both
+        {Q = λ q. (Disjoint p q ⊎ (p ≡ q)) × (Avoids c q × Avoids d q)} (λ q x y. (x, y .0, y .1)) M (big .matches .0) known in
         -- the matching without p
         let kept : IsMatching (λ q. Missing n adj q × Disjoint p q × Avoids c q × Avoids d q) rest =
-        widen (λ q h. (h .0 .0, ⊎-elim (λ z. z) (λ z. absurd (true≢false (sym (subst (λ (y : Pair). isEnd a y ≡ true) z (end-small p)) ∙ not-true (gone q) (h .1)))) (h .0 .1), h .0 .2 .0, h .0 .2 .1)) rest
+        widen (λ q h. (
+          h .0 .0,
+          ⊎-elim (λ z. z)
+              (λ z. absurd (true≢false (sym (subst (λ (y : Pair). isEnd a y ≡ true) z (end-small p)) ∙ not-true (gone q) (h .1))))
+              (h .0 .1),
+          h .0 .2 .0,
+          h .0 .2 .1,
+        )) rest
         (keep-matching (λ q. not (gone q)) (λ q. Missing n adj q × (Disjoint p q ⊎ (p ≡ q)) × (Avoids c q × Avoids d q)) M (all, big .matches .1)) in
         let few : length (keep gone M) ≤ count (suc a) (λ x. eqb x a) =
         one-each (suc a) (λ x. eqb x a) (keep gone M) (keep-matching gone (Missing n adj) M (big .matches) .1)
-        (each-map (λ q h. ⊎-elim (λ e. inl (omega arith, eq-eqb (q .0) a (sym e))) (λ e. inr (omega arith, eq-eqb (q .1) a (sym e))) (ends-of q a (h .1))) (keep gone M) (keep-matching gone (Missing n adj) M (big .matches) .0)) in
+        (each-map (λ q h. ⊎-elim (λ e. inl (omega arith, eq-eqb (q .0) a (sym e))) (λ e. inr (omega arith, eq-eqb (q .1) a (sym e))) (ends-of q a (h .1)))
+        (keep gone M) (keep-matching gone (Missing n adj) M (big .matches) .0)) in
         let p₁ = pair-up c a lc la (apart c a nc yes-a) ec in
         let p₂ = pair-up d b ld (mp .1) (apart d b nd yes-b) ed in
         let N₁ = ins (p₁ .0) rest in
@@ -194,11 +204,14 @@ pigeonhole n R [] s has same = omega (arith, count-none n s (λ x l. fails (s x)
 pigeonhole n R (p ∷ M) s has same =
     let ih : count n (λ x. s x && not (R x p)) ≤ length M =
     pigeonhole n R M (λ x. s x && not (R x p))
-    (λ x l q. ⊎-elim (λ r. absurd (true≢false (sym r ∙ not-true (R x p) (and-right (s x) (not (R x p)) q)))) (λ r. r) (or-cases (R x p) (anyPair (R x) M) (has x l (and-left (s x) (not (R x p)) q))))
+    (λ x l q. ⊎-elim (λ r. absurd (true≢false (sym r ∙ not-true (R x p) (and-right (s x) (not (R x p)) q)))) (λ r. r)
+    (or-cases (R x p) (anyPair (R x) M) (has x l (and-left (s x) (not (R x p)) q))))
     (λ q x y i l m a b. same q x y (inr i) l m (and-left (s x) (not (R x p)) a) (and-left (s y) (not (R y p)) b)) in
     omega (
       arith,
       count-split n s (λ x. R x p),
       ih,
-      count-once n (λ x. s x && R x p) (λ x y l m a b. same p x y (inl refl) l m (and-left (s x) (R x p) a) (and-left (s y) (R y p) b) (and-right (s x) (R x p) a) (and-right (s y) (R y p) b)),
+      count-once n (λ x. s x && R x p)
+          (λ x y l m a b. same p x y (inl refl) l m (and-left (s x) (R x p) a) (and-left (s y) (R y p) b) (and-right (s x) (R x p) a)
+          (and-right (s y) (R y p) b)),
     )

@@ -15,7 +15,8 @@ use Rattle.graph.specs.Pairs.{Pair}
 use Rattle.matching.specs.Matching.{FirstLargest, Missing}
 use Rattle.matching.specs.First.{firstFound, ofSize, orList, upTo, matchingOf, MatchingFirst}
 use Rattle.matching.specs.Steps.{Joined, AtMost, NoneOfSize, FirstOfSize}
-use Rattle.matching.proofs.Sizes.{Minus, same-first, same-none, fewer, matching-half, first-zero, none-empty, joined-map, step-found, step-drop, step-none}
+use Rattle.matching.proofs.Sizes.{Minus, same-first, same-none, fewer, matching-half, first-zero, none-empty, joined-map, step-found, step-drop}
+use Rattle.matching.proofs.Sizes.{step-none}
 
 -- the answer is right for pairs that pass P
 abbrev Right : (Pair → Type 0) → ℕ → Option (List Pair) → Type 0
@@ -70,12 +71,14 @@ module _ (adj : ℕ → ℕ → Bool) where
     one-try w top none q lt sv sw e tr next r =
         next (λ x l g a b d. ⊎-elim
         (λ p. subst (λ (y : ℕ). NoneOfSize (Joined Apart (Minus (Minus S v) y)) k) (sym p)
-        (same-none (Joined Apart (Free u (suc v) (take w))) (Joined Apart (Minus (Minus S v) w)) (joined-map Apart (Free u (suc v) (take w)) (Minus (Minus S v) w) (to w))
+        (same-none (Joined Apart (Free u (suc v) (take w))) (Joined Apart (Minus (Minus S v) w))
+        (joined-map Apart (Free u (suc v) (take w)) (Minus (Minus S v) w) (to w))
         (joined-map Apart (Minus (Minus S v) w) (Free u (suc v) (take w)) (from w)) k r))
         (λ m. tr x m g a b d) (below-suc l))
     one-try w top (some M) q lt sv sw e tr next r =
         step-found Apart S v (λ x a. a .0) k w M sv sw lt e (λ b l g s d. tr b l g sv s d)
-        (same-first (Joined Apart (Free u (suc v) (take w))) (Joined Apart (Minus (Minus S v) w)) (joined-map Apart (Free u (suc v) (take w)) (Minus (Minus S v) w) (to w))
+        (same-first (Joined Apart (Free u (suc v) (take w))) (Joined Apart (Minus (Minus S v) w))
+        (joined-map Apart (Free u (suc v) (take w)) (Minus (Minus S v) w) (to w))
         (joined-map Apart (Minus (Minus S v) w) (Free u (suc v) (take w)) (from w)) k M r)
 
     find-right : (j w : ℕ) → w + j ≡ v + suc u → v < w → Tried w
@@ -87,18 +90,22 @@ module _ (adj : ℕ → ℕ → Bool) where
         rest : Option (List Pair)
         rest = firstFound (λ w. cond (may w) (front (v, w) (ofSize adj u (suc v) (take w) k)) none) j (suc w)
 
-        go : (b : Bool) → may w ≡ b → (Tried (suc w) → Partly (v + suc u) rest) → Partly (v + suc u) (orElse (cond b (front (v, w) (ofSize adj u (suc v) (take w) k)) none) rest)
+        go : (b : Bool) → may w ≡ b → (Tried (suc w) → Partly (v + suc u) rest)
+            → Partly (v + suc u) (orElse (cond b (front (v, w) (ofSize adj u (suc v) (take w) k)) none) rest)
         go true q next =
             let p = and-right (free v) (free w && not (adj v w)) q in
-            one-try w (v + suc u) (ofSize adj u (suc v) (take w) k) rest l (omega arith, omega arith, and-left (free v) (free w && not (adj v w)) q) (omega arith, omega arith, and-left (free w) (not (adj v w)) p)
+            one-try w (v + suc u) (ofSize adj u (suc v) (take w) k) rest l (omega arith, omega arith, and-left (free v) (free w && not (adj v w)) q)
+            (omega arith, omega arith, and-left (free w) (not (adj v w)) p)
             (not-true (adj v w) (and-right (free w) (not (adj v w)) p)) tr next (less (take w))
         go false q next =
             next (λ x m g a b d. ⊎-elim
-            (λ p. absurd (true≢false (sym (and-both (free v) (free w && not (adj v w)) (a .2) (and-both (free w) (not (adj v w)) (subst (λ (y : ℕ). free y ≡ true) p (b .2)) (ap not (subst (λ (y : ℕ). adj v y ≡ false) p d)))) ∙ q)))
+            (λ p. absurd (true≢false (sym (and-both (free v) (free w && not (adj v w)) (a .2)
+            (and-both (free w) (not (adj v w)) (subst (λ (y : ℕ). free y ≡ true) p (b .2)) (ap not (subst (λ (y : ℕ). adj v y ≡ false) p d)))) ∙ q)))
             (λ n. tr x n g a b d) (below-suc m))
 
     -- one vertex of the search
-    vertex : (q r : Option (List Pair)) → Partly (v + suc u) q → Right (Joined Apart (Free u (suc v) free)) (suc k) r → Right (Joined Apart S) (suc k) (orElse q r)
+    vertex : (q r : Option (List Pair)) → Partly (v + suc u) q → Right (Joined Apart (Free u (suc v) free)) (suc k) r
+        → Right (Joined Apart S) (suc k) (orElse q r)
     vertex none r p h =
         go r (right-same (Joined Apart (Free u (suc v) free)) (Joined Apart (Minus S v))
         (joined-map Apart (Free u (suc v) free) (Minus S v) (λ x a. ((omega (arith, a .0), omega (arith, a .1), a .2), λ e. omega (arith, a .0))))
@@ -137,7 +144,8 @@ module _ (adj : ℕ → ℕ → Bool) where
     up-to-right zero h = record { matches = (tt, tt); largest = h; first = λ N m l. tt }
     up-to-right (suc k) h =
         go (ofSize adj n 0 (λ _. true) (suc k))
-        (right-same (Joined Apart (Free n 0 (λ _. true))) (Missing n adj) out back (suc k) (ofSize adj n 0 (λ _. true) (suc k)) (of-size-right n 0 (λ _. true) (suc k)))
+        (right-same (Joined Apart (Free n 0 (λ _. true))) (Missing n adj) out back (suc k) (ofSize adj n 0 (λ _. true) (suc k))
+        (of-size-right n 0 (λ _. true) (suc k)))
         (up-to-right k)
       where
         go : (r : Option (List Pair)) → Right (Missing n adj) (suc k) r

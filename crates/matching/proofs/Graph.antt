@@ -63,7 +63,8 @@ module _ (n : ℕ) (adj : ℕ → ℕ → Bool) (most : n ≤ 16) where
   answer-is graph s r eg es q =
       let M : List Pair = q .0 in
       let big : FirstLargest (Missing n adj) M =
-      same-largest (Within (complement n adj) (setOf n (λ _. true))) (Missing n adj) out back M (subst₂ (λ (g : List ℕ) (x : ℕ). FirstLargest (Within g x) M) eg es (q .1)) in
+      same-largest (Within (complement n adj) (setOf n (λ _. true))) (Missing n adj) out back M
+      (subst₂ (λ (g : List ℕ) (x : ℕ). FirstLargest (Within g x) M) eg es (q .1)) in
       let few : length M ≤ 8 = omega (arith, matching-half n adj M (big .matches)) in
       let e : pairsOf r ≡ M = ap pairsOf (q .2) ∙ pairs-stored M few in
       record { first-largest = subst (FirstLargest (Missing n adj)) (sym e) big; answered = q .2 ∙ ap stored (sym e) }

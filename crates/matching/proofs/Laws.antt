@@ -22,5 +22,6 @@ pub use Rattle.matching.proofs.One.{one-matching, one-answer, same-grap
 pub use Rattle.matching.proofs.First.{matching-first}
 pub use Rattle.matching.proofs.Sizes.{matching-half}
 pub use Rattle.matching.proofs.Stored.{count-pairs, pair-at-index, pairs-none, pairs-suc}
-pub use Rattle.matching.proofs.Augment.{Among, each-among, any-in, any-of, pair-at, matched-none, matched-cons, matched-in, matched-of, matched-lt, ends-of, end-small, end-large, no-free-pair, no-augmenting, pigeonhole}
+pub use Rattle.matching.proofs.Augment.{Among, each-among, any-in, any-of, pair-at, matched-none, matched-cons, matched-in, matched-of, matched-lt}
+pub use Rattle.matching.proofs.Augment.{ends-of, end-small, end-large, no-free-pair, no-augmenting, pigeonhole}
 pub use Rattle.matching.proofs.Pairs.{one-each, each-map}

@@ -120,12 +120,14 @@ one-each n s (p ∷ M) r h =
       arith,
       count-without n s (p .0) (a .0) (a .1),
       one-each n (less s (p .0)) M (r .2)
-          (each-both (λ q d c. ⊎-elim (λ b. inl (b .0, less-in s (p .0) (q .0) (b .1) (d .0))) (λ b. inr (b .0, less-in s (p .0) (q .1) (b .1) (d .1))) c) M (r .1) (h .1)),
+          (each-both (λ q d c. ⊎-elim (λ b. inl (b .0, less-in s (p .0) (q .0) (b .1) (d .0))) (λ b. inr (b .0, less-in s (p .0) (q .1) (b .1) (d .1))) c) M
+          (r .1) (h .1)),
     ))
     (λ a. omega (
       arith,
       count-without n s (p .1) (a .0) (a .1),
       one-each n (less s (p .1)) M (r .2)
-          (each-both (λ q d c. ⊎-elim (λ b. inl (b .0, less-in s (p .1) (q .0) (b .1) (d .2))) (λ b. inr (b .0, less-in s (p .1) (q .1) (b .1) (d .3))) c) M (r .1) (h .1)),
+          (each-both (λ q d c. ⊎-elim (λ b. inl (b .0, less-in s (p .1) (q .0) (b .1) (d .2))) (λ b. inr (b .0, less-in s (p .1) (q .1) (b .1) (d .3))) c) M
+          (r .1) (h .1)),
     ))
     (h .0)

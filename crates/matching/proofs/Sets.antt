@@ -8,7 +8,8 @@ use borrow.Author.Tests.{eqb-true, eq-eqb, ne-eqb, not-true}
 use lib.Dec.{eqb}
 use Rattle.lists.proofs.Tests.{true≢false, fails, and-left, and-right, and-both, or-cases, or-left, or-right, lt-or-le}
 use Rattle.bitset.specs.Set.{member, setOf, sizeOf, inserted, removed, intersection, difference, union, lowestOf}
-use Rattle.bitset.proofs.Laws.{member-set, member-set-past, none-in-0, member-below, member-insert, insert-lt, member-remove, remove-lt, size-below, lowest-some, lowest-member}
+use Rattle.bitset.proofs.Laws.{member-set, member-set-past, none-in-0, member-below, member-insert, insert-lt, member-remove, remove-lt, size-below}
+use Rattle.bitset.proofs.Laws.{lowest-some, lowest-member}
 use Rattle.bitset.proofs.Laws.{member-intersection, member-difference, member-union, size-difference, intersection-lt, difference-lt, union-lt}
 use Rattle.lists.proofs.Sums.{count-split, count-some}
 use Rattle.matching.specs.Steps.{In}

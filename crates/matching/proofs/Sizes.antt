@@ -123,7 +123,8 @@ module _ (E : ℕ → ℕ → Type 0) where
                 (λ i. (h i, g i)),
                 r .first N (subst (λ (x : ℕ). IsMatching (Joined E (Minus (Minus S v) x)) N) (sym g) (head-is q N m (sym h))) (omega arith),
               ))
-              (λ g. absurd (none (q .1) g (omega (arith, m .0 .0 .2)) (m .0 .0 .1) (subst (λ (x : ℕ). E x (q .1)) (sym h) (m .0 .0 .3)) N (head-is q N m (sym h)) (omega arith))))
+              (λ g. absurd (none (q .1) g (omega (arith, m .0 .0 .2)) (m .0 .0 .1) (subst (λ (x : ℕ). E x (q .1)) (sym h) (m .0 .0 .3)) N
+              (head-is q N m (sym h)) (omega arith))))
               (tri w (q .1)))
               (λ h. absurd (omega (arith, least (q .0) (m .0 .0 .0)))))
               (tri v (q .0))
@@ -135,7 +136,8 @@ module _ (E : ℕ → ℕ → Type 0) where
         left-out [] m l = (tt, tt)
         left-out (q ∷ N) m l =
             ⊎-elim
-            (λ e. absurd (none (q .1) (omega (arith, m .0 .0 .2)) (subst S e (m .0 .0 .0)) (m .0 .0 .1) (subst (λ (x : ℕ). E x (q .1)) e (m .0 .0 .3)) N (head-is q N m e) (omega arith)))
+            (λ e. absurd (none (q .1) (omega (arith, m .0 .0 .2)) (subst S e (m .0 .0 .0)) (m .0 .0 .1) (subst (λ (x : ℕ). E x (q .1)) e (m .0 .0 .3)) N
+            (head-is q N m e) (omega arith)))
             (λ n. head-not q N m n)
             (same-or-not (q .0) v)
 
@@ -164,7 +166,8 @@ module _ (E : ℕ → ℕ → Type 0) where
       let ends : Pair → Bool = λ p. eqb (p .0) v || eqb (p .1) v in
       let few : length (keep ends N) ≤ count (suc v) (λ x. eqb x v) =
       one-each (suc v) (λ x. eqb x v) (keep ends N) (keep-matching ends (Joined E S) N m .1)
-      (each-map (λ p j. ⊎-elim (λ e. inl (omega (arith, eqb-true (p .0) v e), e)) (λ e. inr (omega (arith, eqb-true (p .1) v e), e)) (or-cases (eqb (p .0) v) (eqb (p .1) v) (j .1)))
+      (each-map (λ p j. ⊎-elim (λ e. inl (omega (arith, eqb-true (p .0) v e), e)) (λ e. inr (omega (arith, eqb-true (p .1) v e), e))
+      (or-cases (eqb (p .0) v) (eqb (p .1) v) (j .1)))
       (keep ends N) (keep-matching ends (Joined E S) N m .0)) in
       let others : IsMatching (Joined E (Minus S v)) (keep (λ p. not (ends p)) N) =
       widen (λ p j.

@@ -16,9 +16,11 @@ use Rattle.bitset.proofs.Laws.{intersection-lt, difference-lt}
 use Rattle.graph.specs.Pairs.{Pair}
 use Rattle.matching.specs.Steps.{In, Edge, Symmetric, Joined, Within, AtMost, NoneOfSize, FirstOfSize, Closed, Searched, Largest}
 use Rattle.matching.specs.Answer.{ends, stored}
-use Rattle.matching.proofs.Sets.{in-lt, not-in, in-intersection, intersection-in, difference-in, in-union, union-left, union-right, in-remove, remove-in, in-single, single-in, difference-fewer}
+use Rattle.matching.proofs.Sets.{in-lt, not-in, in-intersection, intersection-in, difference-in, in-union, union-left, union-right, in-remove}
+use Rattle.matching.proofs.Sets.{remove-in, in-single, single-in, difference-fewer}
 use Rattle.matching.proofs.Pairs.{widen, each-map, two-each}
-use Rattle.matching.proofs.Sizes.{Minus, same-first, same-none, first-zero, none-empty, joined-map, step-found, step-drop, step-none, fewer, at-most-empty, take-out, split-off}
+use Rattle.matching.proofs.Sizes.{Minus, same-first, same-none, first-zero, none-empty, joined-map, step-found, step-drop, step-none, fewer}
+use Rattle.matching.proofs.Sizes.{at-most-empty, take-out, split-off}
 
 one-more : (k : ℕ) → 1 ≤ k → suc (k - 1) ≡ k
 one-more k h = omega arith
@@ -58,7 +60,8 @@ module _ (graph : List ℕ) (s v : ℕ) (hs : s < 2 ^ 16) where
   grow-more c unseen next x d c′ unseen′ next′ g p ex eu ed ec en =
       let low : In c x = subst (In c) (sym ex) (g .next-out (lowestOf next) (lowest-in next (g .next-small) p .1) .0) in
       let grown : (y : ℕ) → In c y → In c′ y = λ y a. subst (λ (z : ℕ). In z y) (sym ec) (union-left c d y (in-lt s y hs (g .part y a)) a) in
-      let part : (y : ℕ) → In c′ y → In s y = λ y a. ⊎-elim (g .part y) (λ b. in-intersection (getD graph x 0) s y (subst (λ (z : ℕ). In z y) ed b) .1) (in-union c d y (subst (λ (z : ℕ). In z y) ec a)) in
+      let part : (y : ℕ) → In c′ y → In s y = λ y a. ⊎-elim (g .part y) (λ b. in-intersection (getD graph x 0) s y (subst (λ (z : ℕ). In z y) ed b) .1)
+      (in-union c d y (subst (λ (z : ℕ). In z y) ec a)) in
       record {
         has = grown v (g .has);
         part = part;
@@ -72,7 +75,8 @@ module _ (graph : List ℕ) (s v : ℕ) (hs : s < 2 ^ 16) where
         next-small = subst (λ (z : ℕ). z < 2 ^ 16) (sym en) (intersection-lt c′ unseen′);
       }
 
-  pub grow-less : (c unseen next x unseen′ : ℕ) → Growing graph s v c unseen next → 0 < next → x ≡ lowestOf next → unseen′ ≡ removed unseen x → sizeOf unseen′ < sizeOf unseen
+  pub grow-less : (c unseen next x unseen′ : ℕ) → Growing graph s v c unseen next → 0 < next → x ≡ lowestOf next → unseen′ ≡ removed unseen x
+      → sizeOf unseen′ < sizeOf unseen
   grow-less c unseen next x unseen′ g p ex eu =
       let low = lowest-in next (g .next-small) p in
       let u : In unseen x = subst (In unseen) (sym ex) (g .next-out (lowestOf next) (low .1) .1) in
@@ -106,12 +110,14 @@ module _ (graph : List ℕ) (both : Symmetric graph) (s : ℕ) where
         split-off (Edge graph) (In left) 16 (member c) b (sizeOf c / 2) (λ x h. in-lt left x (g .small) h)
         (λ x y hx hy e. bool-ext (member c x) (member c y) (λ m. q .shut x y m hy e) (λ m. q .shut y x m hx (both x y e)))
         (omega (arith, size-below 16 c (omega arith) hc))
-        (λ N m. a N (widen (joined-map (Edge graph) (λ x. In left x × (member c x ≡ false)) (In (difference left c)) (λ x h. difference-in left c x (in-lt left x (g .small) (h .0)) (h .0) (not-in c x (h .1)))) N m))
+        (λ N m. a N (widen (joined-map (Edge graph) (λ x. In left x × (member c x ≡ false)) (In (difference left c))
+        (λ x h. difference-in left c x (in-lt left x (g .small) (h .0)) (h .0) (not-in c x (h .1)))) N m))
 
     pub halve-more : (left′ sum′ : ℕ) → left′ ≡ difference left c → sum′ ≡ sum + sizeOf c / 2 → Halving graph s left′ sum′
     halve-more left′ sum′ el es =
         record {
-          bound = λ b a. subst (AtMost (Within graph s)) (shift b) (g .bound (b + sizeOf c / 2) (part-bound b (subst (λ (z : ℕ). AtMost (Within graph z) b) el a)));
+          bound = λ b a. subst (AtMost (Within graph s)) (shift b)
+              (g .bound (b + sizeOf c / 2) (part-bound b (subst (λ (z : ℕ). AtMost (Within graph z) b) el a)));
           small = subst (λ (z : ℕ). z < 2 ^ 16) (sym el) (difference-lt left c);
           fits = omega (arith, g .fits, halve-less, ap sizeOf el, size-le c);
         }
@@ -142,7 +148,8 @@ module _ (graph : List ℕ) (s : ℕ) where
   shrink-more left x y left′ g e =
       record {
         bound = λ b a. subst (AtMost (Within graph s)) (shift b) (g .bound (b + 1) (take-out (Edge graph) (In left) y b
-            (λ N m. a N (widen (joined-map (Edge graph) (λ z. In left z × (z ≡ y → ⊥)) (In left′) (λ z h. subst (λ (d : ℕ). In d z) (sym e) (remove-in left y z (in-lt left z (g .small) (h .0)) (h .0) (h .1)))) N m))));
+            (λ N m. a N (widen (joined-map (Edge graph) (λ z. In left z × (z ≡ y → ⊥)) (In left′)
+            (λ z h. subst (λ (d : ℕ). In d z) (sym e) (remove-in left y z (in-lt left z (g .small) (h .0)) (h .0) (h .1)))) N m))));
         small = subst (λ (z : ℕ). z < 2 ^ 16) (sym e) (remove-lt left y);
       }
     where
@@ -166,7 +173,8 @@ pub record Trying (graph : List ℕ) (s k v rest left : ℕ) : Type 0 where
   pub tried : (x : ℕ) → (In left x → ⊥) → v < x → In s x → Edge graph v x → NoneOfSize (Joined (Edge graph) (Minus (Minus (In s) v) x)) (k - 1)
 
 -- the three ways out before the search
-pub searched-zero : (graph : List ℕ) (s k : ℕ) (ok : Bool) (a b : List ℕ) → k ≡ 0 → (ok ≡ true) × (a ≡ ends (λ p. p .0) []) × (b ≡ ends (λ p. p .1) []) → Searched graph s k ok a b
+pub searched-zero : (graph : List ℕ) (s k : ℕ) (ok : Bool) (a b : List ℕ) → k ≡ 0 → (ok ≡ true) × (a ≡ ends (λ p. p .0) []) × (b ≡ ends (λ p. p .1) [])
+    → Searched graph s k ok a b
 searched-zero graph s k ok a b e r =
     record {
       found = λ _. ([], subst (λ (x : ℕ). FirstOfSize (Within graph s) x []) (sym e) (first-zero (Within graph s)), r .1, r .2);
@@ -195,7 +203,8 @@ try-start graph s k v rest left hs ns nk hk ev er el =
       few = hk;
       tried = λ x n g a e.
           let l = in-lt s x hs a in
-          absurd (n (subst (λ (z : ℕ). In z x) (sym el) (intersection-in (getD graph v 0) rest x l e (subst (λ (z : ℕ). In z x) (sym er) (remove-in s v x l a (λ q. omega arith))))));
+          absurd (n (subst (λ (z : ℕ). In z x) (sym el)
+          (intersection-in (getD graph v 0) rest x l e (subst (λ (z : ℕ). In z x) (sym er) (remove-in s v x l a (λ q. omega arith))))));
     }
 
 module _ (graph : List ℕ) (s k v rest left : ℕ) (hs : s < 2 ^ 16) (g : Trying graph s k v rest left) where
@@ -225,12 +234,14 @@ module _ (graph : List ℕ) (s k v rest left : ℕ) (hs : s < 2 ^ 16) (g : Tryin
       drop : (M : List Pair) → FirstOfSize (Within graph rest) k M → FirstOfSize (Within graph s) k M
       drop M r =
           subst (λ (x : ℕ). FirstOfSize (Within graph rest) x M → FirstOfSize (Within graph s) x M) (one-more k (g .some))
-          (λ z. step-drop (Edge graph) (In s) v (g .least) (k - 1) all M (same-first (Within graph rest) (Joined (Edge graph) (Minus (In s) v)) out back (suc (k - 1)) M z)) r
+          (λ z. step-drop (Edge graph) (In s) v (g .least) (k - 1) all M
+          (same-first (Within graph rest) (Joined (Edge graph) (Minus (In s) v)) out back (suc (k - 1)) M z)) r
 
       gone : NoneOfSize (Within graph rest) k → NoneOfSize (Within graph s) k
       gone r =
           subst (λ (x : ℕ). NoneOfSize (Within graph rest) x → NoneOfSize (Within graph s) x) (one-more k (g .some))
-          (λ z. step-none (Edge graph) (In s) v (g .least) (k - 1) all (same-none (Within graph rest) (Joined (Edge graph) (Minus (In s) v)) out back (suc (k - 1)) z)) r
+          (λ z. step-none (Edge graph) (In s) v (g .least) (k - 1) all
+          (same-none (Within graph rest) (Joined (Edge graph) (Minus (In s) v)) out back (suc (k - 1)) z)) r
 
   -- the set is smaller at each call
   pub try-rest-less : sizeOf rest < sizeOf s
@@ -257,7 +268,9 @@ module _ (graph : List ℕ) (s k v rest left : ℕ) (hs : s < 2 ^ 16) (g : Tryin
 
       -- who is left without v and w
       to : (p : Pair) → Within graph r p → Joined (Edge graph) (Minus (Minus (In s) v) w) p
-      to = joined-map (Edge graph) (In r) (Minus (Minus (In s) v) w) (λ x a. let q = in-remove rest w x (subst (λ (z : ℕ). In z x) er a) in (in-rest x (q .0), q .1))
+      to =
+          joined-map (Edge graph) (In r) (Minus (Minus (In s) v) w)
+          (λ x a. let q = in-remove rest w x (subst (λ (z : ℕ). In z x) er a) in (in-rest x (q .0), q .1))
 
       from : (p : Pair) → Joined (Edge graph) (Minus (Minus (In s) v) w) p → Within graph r p
       from =
@@ -285,14 +298,16 @@ module _ (graph : List ℕ) (s k v rest left : ℕ) (hs : s < 2 ^ 16) (g : Tryin
             }
 
         -- with w the others have k - 1 pairs
-        pub try-found : ok ≡ true → (ok′ : Bool) (a′ b′ : List ℕ) → (ok′ ≡ true) × (a′ ≡ set a (k - 1) v) × (b′ ≡ set b (k - 1) w) → Searched graph s k ok′ a′ b′
+        pub try-found : ok ≡ true → (ok′ : Bool) (a′ b′ : List ℕ) → (ok′ ≡ true) × (a′ ≡ set a (k - 1) v) × (b′ ≡ set b (k - 1) w)
+            → Searched graph s k ok′ a′ b′
         unfolding ends
         try-found f ok′ a′ b′ e =
             let m = q .found f in
             let size : length (m .0) ≡ k - 1 = m .1 .size in
             let sw = in-rest w w-rest in
             let first : FirstOfSize (Within graph s) (suc (k - 1)) ((v, w) ∷ m .0) =
-            step-found (Edge graph) (In s) v (g .least) (k - 1) w (m .0) (g .has) (sw .0) (omega (arith, g .least w (sw .0), sw .1)) (g .left-partner w w-left .0)
+            step-found (Edge graph) (In s) v (g .least) (k - 1) w (m .0) (g .has) (sw .0) (omega (arith, g .least w (sw .0), sw .1))
+            (g .left-partner w w-left .0)
             (λ x l. g .tried x (λ h. omega (arith, lowest-least left x h)))
             (same-first (Within graph r) (Joined (Edge graph) (Minus (Minus (In s) v) w)) to from (k - 1) (m .0) (m .1)) in
             record {
@@ -313,7 +328,8 @@ at-most-8 graph s h N m =
     two-each 16 (member s) N (m .1) (each-map (λ p j. (in-lt s (p .0) h (j .0), in-lt s (p .1) h (j .1), j .0, j .1, λ e. omega (arith, j .2))) N (m .0)) in
     omega (arith, count-le 16 (member s))
 
-pub at-most-less : (graph : List ℕ) (s k : ℕ) (ok : Bool) (a b : List ℕ) → 0 < k → AtMost (Within graph s) k → Searched graph s k ok a b → ok ≡ false → AtMost (Within graph s) (k - 1)
+pub at-most-less : (graph : List ℕ) (s k : ℕ) (ok : Bool) (a b : List ℕ) → 0 < k → AtMost (Within graph s) k → Searched graph s k ok a b → ok ≡ false
+    → AtMost (Within graph s) (k - 1)
 at-most-less graph s k ok a b p h q e =
     let i = sym (one-more k (omega arith)) in
     fewer (Within graph s) (k - 1) (subst (AtMost (Within graph s)) i h) (subst (NoneOfSize (Within graph s)) i (q .none e))

@@ -1,11 +1,11 @@
 -- A function that meets the relation `FirstLargest`, for callers that need one: no contract here speaks of it. That `matchingOf n adj` meets
 -- the relation is `MatchingFirst`; that nothing else does is `OneMatching` (specs/Matching).
---   firstFound f u w      the first of f w, f (w + 1), .., u of them, that is not none
---   ofSize adj u v free k the first matching of k pairs among those of v .. v + u - 1 that are free; none where there is none
---   orList r M            the list of r, or M where r is none
---   upTo adj n k          the first largest of the matchings of at most k pairs among 0 .. n - 1
---   matchingOf n adj      the first largest matching among 0 .. n - 1
---   MatchingFirst         it is the first largest matching (proofs/First: `matching-first`)
+--   firstFound f u w       the first of f w, f (w + 1), .., u of them, that is not none
+--   ofSize adj u v free k  the first matching of k pairs among those of v .. v + u - 1 that are free; none where there is none
+--   orList r M             the list of r, or M where r is none
+--   upTo adj n k           the first largest of the matchings of at most k pairs among 0 .. n - 1
+--   matchingOf n adj       the first largest matching among 0 .. n - 1
+--   MatchingFirst          it is the first largest matching (proofs/First: `matching-first`)
 use mathlib.Core.List.{List, [], _∷_}
 use mathlib.Core.Bool.{Bool, true, cond, not, _&&_}
 use mathlib.Core.Option.{Option, none, some}

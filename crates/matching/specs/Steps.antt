@@ -1,17 +1,17 @@
 -- For the contracts of private functions; a reader of the public contracts needs none of it.
 -- What the search promises. A graph is given by rows of sets, as `complement` makes them.
---   complement n adj    row i has those with whom i makes a missing pair: 16 rows, empty from n on
---   In s x              x is a member of the set s
---   Edge graph x y      row x of the graph has y
---   Symmetric graph     row x has y where row y has x
---   Joined E S p        p is a pair of S that E joins, the smaller end first
---   Within graph s p    p is a pair of members of the set s that the graph joins, the smaller end first
---   AtMost P b          no matching of pairs that pass P has more than b pairs
---   NoneOfSize P k      none has exactly k
---   FirstOfSize P k M   M is the first in dictionary order of those that have k
---   Closed graph s c    c is a part of s, and nobody in it has a partner in s that is outside
---   Searched ..         what a search for k pairs within s answers
---   Largest graph s r   r is the first largest matching within s
+--   complement n adj   row i has those with whom i makes a missing pair: 16 rows, empty from n on
+--   In s x             x is a member of the set s
+--   Edge graph x y     row x of the graph has y
+--   Symmetric graph    row x has y where row y has x
+--   Joined E S p       p is a pair of S that E joins, the smaller end first
+--   Within graph s p   p is a pair of members of the set s that the graph joins, the smaller end first
+--   AtMost P b         no matching of pairs that pass P has more than b pairs
+--   NoneOfSize P k     none has exactly k
+--   FirstOfSize P k M  M is the first in dictionary order of those that have k
+--   Closed graph s c   c is a part of s, and nobody in it has a partner in s that is outside
+--   Searched ..        what a search for k pairs within s answers
+--   Largest graph s r  r is the first largest matching within s
 use mathlib.Core.Path.{_≡_}
 use mathlib.Core.List.{List}
 use mathlib.Core.Bool.{Bool, true, false}

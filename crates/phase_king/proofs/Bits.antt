@@ -22,7 +22,8 @@ different zero n f p below apart holds = omega arith
 different (suc m) n f p below apart holds =
     let rest : m ≤ count n (λ i. p i && not (eqb i (f m))) =
     different m n f (λ i. p i && not (eqb i (f m))) (λ a l. below a (omega arith)) (λ a b l u. apart a b (omega arith) (omega arith))
-    (λ a l. and-both (p (f a)) (not (eqb (f a) (f m))) (holds a (omega arith)) (ap not (ne-eqb (f a) (f m) (λ e. omega (arith, apart a m (omega arith) (omega arith) e))))) in
+    (λ a l. and-both (p (f a)) (not (eqb (f a) (f m))) (holds a (omega arith))
+    (ap not (ne-eqb (f a) (f m) (λ e. omega (arith, apart a m (omega arith) (omega arith) e))))) in
     omega (arith, count-without n p (f m) (below m (omega arith)) (holds m (omega arith)))
 
 module _ (n t : ℕ) (correct : ℕ → Bool) (system : Resilient n t correct) where

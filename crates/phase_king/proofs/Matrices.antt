@@ -14,7 +14,8 @@ use Rattle.lists.proofs.Tests.{cond-yes, cond-no, lt-or-le}
 use Rattle.lists.proofs.Fills.{length-filled, getD-filled, getD-filled-past, filled-ext}
 use Rattle.bitset.specs.Set.{member, setOf, restricted}
 use Rattle.bitset.specs.Row.{rowOf, rowsOf}
-use Rattle.bitset.proofs.Laws.{member-over, set-lt, set-lt-16, member-set, set-ext, set-of-members, ext, restrict-lt, member-restrict, row-lt, row-none, row-left, row-right, length-rows-few, row-read}
+use Rattle.bitset.proofs.Laws.{member-over, set-lt, set-lt-16, member-set, set-ext, set-of-members, ext, restrict-lt, member-restrict, row-lt, row-none}
+use Rattle.bitset.proofs.Laws.{row-left, row-right, length-rows-few, row-read}
 use Rattle.wire.specs.declared.slot.Layout.{Layout}
 use Rattle.wire.specs.Slot.{messageOf}
 use Rattle.phase_king.specs.Bit.{zeroSeen, oneSeen, held, weak, settled}
@@ -69,7 +70,8 @@ said-absent inbox layout n r j i e = ap (λ (m : List ℕ). member (rowOf n m r)
 pub king-absent : (inbox : List ℕ) (layout : Layout) (n king r j : ℕ) → messageOf inbox layout king ≡ [] → kingSays inbox layout n king r j ≡ false
 unfolding kingSays
 king-absent inbox layout n king r j e =
-    ap (λ (m : List ℕ). member (rowOf n (cond (leb king n) m []) r) j) e ∙ ap (λ (m : List ℕ). member (rowOf n m r) j) (cond-either (leb king n)) ∙ none-says n r j
+    ap (λ (m : List ℕ). member (rowOf n (cond (leb king n) m []) r) j) e ∙ ap (λ (m : List ℕ). member (rowOf n m r) j) (cond-either (leb king n))
+    ∙ none-says n r j
   where
     cond-either : (b : Bool) → cond {A = List ℕ} b [] [] ≡ []
     cond-either true = refl
@@ -145,7 +147,8 @@ cell-settled rows weak inbox layout n king r j u l h =
     ∙ cell-matrix n (λ r j. settled (cell rows r j) (cell weak r j) (kingSays inbox layout n king r j)) r j u l h
 
 -- row r of the first matrix is the row in the message of slot r + 1
-pub first-row : (inbox : List ℕ) (layout : Layout) (n r : ℕ) → n ≤ 16 → r < n → getD (firstMatrix inbox layout n) r 0 ≡ rowOf n (messageOf inbox layout (r + 1)) 0
+pub first-row : (inbox : List ℕ) (layout : Layout) (n r : ℕ) → n ≤ 16 → r < n
+    → getD (firstMatrix inbox layout n) r 0 ≡ rowOf n (messageOf inbox layout (r + 1)) 0
 unfolding firstMatrix said
 first-row inbox layout n r u l =
     let e : limit n ≡ n = omega arith in
@@ -165,17 +168,20 @@ module _ (n t : ℕ) (correct : ℕ → Bool) (u : n ≤ 16) where
     kings = λ i. kingSays (phase .in3 i) (phase .layout3) n (king + 1) r j;
     first = λ i k f g. said-matrix (phase .in1 i) (phase .layout1) n k (before k) r j u l h (phase .first i k f g);
     second0 = λ i k f g.
-        said-zeros (phase .in2 i) (phase .layout2) n k (zerosOf (phase .in1 k) (phase .layout1) n t) (onesOf (phase .in1 k) (phase .layout1) n t) r j u l h (phase .second i k f g)
+        said-zeros (phase .in2 i) (phase .layout2) n k (zerosOf (phase .in1 k) (phase .layout1) n t) (onesOf (phase .in1 k) (phase .layout1) n t) r j u l h
+        (phase .second i k f g)
         ∙ cell-zeros (phase .in1 k) (phase .layout1) n t r j u l h;
     second1 = λ i k f g.
-        said-ones (phase .in2 i) (phase .layout2) n k (zerosOf (phase .in1 k) (phase .layout1) n t) (onesOf (phase .in1 k) (phase .layout1) n t) r j u l h (phase .second i k f g)
+        said-ones (phase .in2 i) (phase .layout2) n k (zerosOf (phase .in1 k) (phase .layout1) n t) (onesOf (phase .in1 k) (phase .layout1) n t) r j u l h
+        (phase .second i k f g)
         ∙ cell-ones (phase .in1 k) (phase .layout1) n t r j u l h;
     third = λ i f w.
         king-matrix (phase .in3 i) (phase .layout3) n king (heldOf (phase .in2 king) (phase .layout2) n t) r j u (w .0) l h (phase .third i f w)
         ∙ cell-held (phase .in2 king) (phase .layout2) n t r j u l h;
     result = λ i f.
         ap (λ (m : List ℕ). cell m r j) (phase .result i f)
-        ∙ cell-settled (heldOf (phase .in2 i) (phase .layout2) n t) (weakOf (phase .in2 i) (phase .layout2) n t) (phase .in3 i) (phase .layout3) n (king + 1) r j u l h
+        ∙ cell-settled (heldOf (phase .in2 i) (phase .layout2) n t) (weakOf (phase .in2 i) (phase .layout2) n t) (phase .in3 i) (phase .layout3) n
+        (king + 1) r j u l h
         ∙ ap₂ (λ (x y : Bool). settled x y (kingSays (phase .in3 i) (phase .layout3) n (king + 1) r j))
         (cell-held (phase .in2 i) (phase .layout2) n t r j u l h) (cell-weak (phase .in2 i) (phase .layout2) n t r j u l h);
   }
@@ -195,7 +201,8 @@ module _ (n t : ℕ) (correct : ℕ → Bool) (u : n ≤ 16) where
     last i f =
         let phase = phases t (omega arith) in (
           _,
-          phase .result i f ∙ settled-matrix (heldOf (phase .in2 i) (phase .layout2) n t) (weakOf (phase .in2 i) (phase .layout2) n t) (phase .in3 i) (phase .layout3) n (king t + 1) u,
+          phase .result i f ∙ settled-matrix (heldOf (phase .in2 i) (phase .layout2) n t) (weakOf (phase .in2 i) (phase .layout2) n t) (phase .in3 i)
+              (phase .layout3) n (king t + 1) u,
         )
 
     pub agreed : Agreed n t correct rows

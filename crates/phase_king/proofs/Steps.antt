@@ -18,7 +18,8 @@ use Rattle.bitset.proofs.Laws.{set-ext, set-of-members, insert-next, insert-ski
 use Rattle.wire.specs.declared.slot.Layout.{Layout}
 use Rattle.wire.specs.Slot.{messageOf}
 use Rattle.phase_king.specs.Bit.{zeroSeen, oneSeen, held, support, weak, settled}
-use Rattle.phase_king.specs.Matrix.{limit, cell, matrixOf, said, kingSays, firstMatrix, zerosOf, onesOf, heldOf, weakOf, settledOf, collectAnswer, tallyAnswer, holdAnswer, settleAnswer}
+use Rattle.phase_king.specs.Matrix.{limit, cell, matrixOf, said, kingSays, firstMatrix, zerosOf, onesOf, heldOf, weakOf, settledOf, collectAnswer}
+use Rattle.phase_king.specs.Matrix.{tallyAnswer, holdAnswer, settleAnswer}
 use Rattle.phase_king.specs.Steps.{saidRows, ruleBit, ruleRow, ruleMatrix, kingRow, settledRow, settledRows}
 use Rattle.phase_king.specs.declared.Matrix.{Matrix}
 use Rattle.phase_king.specs.declared.Seen.{Seen}
@@ -63,7 +64,8 @@ count-unsaid inbox layout n r j u =
 pub first-rows : (inbox : List ℕ) (layout : Layout) (n : ℕ) → saidRows inbox layout (limit n) 0 ≡ firstMatrix inbox layout n
 unfolding saidRows firstMatrix matrixOf said
 first-rows inbox layout n =
-    filled-ext (λ i. rowOf (limit n) (messageOf inbox layout (i + 1)) 0) (λ i. setOf (limit n) (member (rowOf (limit n) (messageOf inbox layout (i + 1)) 0))) (limit n) (replicate 16 0)
+    filled-ext (λ i. rowOf (limit n) (messageOf inbox layout (i + 1)) 0) (λ i. setOf (limit n) (member (rowOf (limit n) (messageOf inbox layout (i + 1)) 0)))
+    (limit n) (replicate 16 0)
     (λ i l. sym (set-of-members (limit n) (rowOf (limit n) (messageOf inbox layout (i + 1)) 0) (row-lt (limit n) (messageOf inbox layout (i + 1)) 0)))
 
 -- the matrix of a rule whose bits are those of f
@@ -97,19 +99,22 @@ module _ (inbox : List ℕ) (layout : Layout) (n t : ℕ) where
       ap₂ (λ (z o : ℕ). ltb (cond (ltb t o) o z) (limit n - t))
       (count-said inbox layout (limit n) r j small) (count-said inbox layout (limit n) (limit n + r) j small))
 
-pub settled-rows : (rows weak inbox : List ℕ) (layout : Layout) (n king : ℕ) → settledRows rows weak inbox layout (limit n) king ≡ settledOf rows weak inbox layout n king
+pub settled-rows : (rows weak inbox : List ℕ) (layout : Layout) (n king : ℕ)
+    → settledRows rows weak inbox layout (limit n) king ≡ settledOf rows weak inbox layout n king
 unfolding settledRows settledRow settledOf matrixOf kingRow kingSays
 settled-rows rows weak inbox layout n king = refl
 
 -- the functions' answers, as structs
-pub is-collected : (inbox rows : List ℕ) (layout : Layout) (n m : ℕ) → m ≡ limit n → rows ≡ saidRows inbox layout m 0 → _≡_ {A = Matrix} (record { rows = rows }) (collectAnswer inbox layout n)
+pub is-collected : (inbox rows : List ℕ) (layout : Layout) (n m : ℕ) → m ≡ limit n → rows ≡ saidRows inbox layout m 0
+    → _≡_ {A = Matrix} (record { rows = rows }) (collectAnswer inbox layout n)
 is-collected inbox rows layout n m e h =
     ap (λ (l : List ℕ). matrix l) (h ∙ ap (λ (x : ℕ). saidRows inbox layout x 0) e ∙ first-rows inbox layout n)
   where
     matrix : List ℕ → Matrix
     matrix l = record { rows = l }
 
-pub is-tallied : (inbox zeros ones : List ℕ) (layout : Layout) (n m t : ℕ) → m ≡ limit n → zeros ≡ ruleMatrix ZeroSeen inbox layout m t → ones ≡ ruleMatrix OneSeen inbox layout m t
+pub is-tallied : (inbox zeros ones : List ℕ) (layout : Layout) (n m t : ℕ) → m ≡ limit n → zeros ≡ ruleMatrix ZeroSeen inbox layout m t
+    → ones ≡ ruleMatrix OneSeen inbox layout m t
     → _≡_ {A = Seen} (record { zeros = zeros; ones = ones }) (tallyAnswer inbox layout n t)
 is-tallied inbox zeros ones layout n m t e h k =
     ap₂ (λ (a b : List ℕ). seen a b)
@@ -119,7 +124,8 @@ is-tallied inbox zeros ones layout n m t e h k =
     seen : List ℕ → List ℕ → Seen
     seen a b = record { zeros = a; ones = b }
 
-pub is-kept : (inbox rows weak : List ℕ) (layout : Layout) (n m t : ℕ) → m ≡ limit n → rows ≡ ruleMatrix Hold inbox layout m t → weak ≡ ruleMatrix Weak inbox layout m t
+pub is-kept : (inbox rows weak : List ℕ) (layout : Layout) (n m t : ℕ) → m ≡ limit n → rows ≡ ruleMatrix Hold inbox layout m t
+    → weak ≡ ruleMatrix Weak inbox layout m t
     → _≡_ {A = Held} (record { rows = rows; weak = weak }) (holdAnswer inbox layout n t)
 is-kept inbox rows weak layout n m t e h k =
     ap₂ (λ (a b : List ℕ). two a b)

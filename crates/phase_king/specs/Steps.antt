@@ -1,8 +1,8 @@
 -- For the contracts of private functions; a reader of the public contracts needs none of it.
---   saidRows inbox layout n r           row r of the message of each of the n slots
+--   saidRows inbox layout n r        row r of the message of each of the n slots
 --   ruleBit rule n t first second j  bit j by one of the four rules, from the rows that the slots say: `first` of row r, `second` of row n + r
 --   ruleRow, ruleMatrix              the row of those bits, and the matrix of those rows
---   kingRow inbox layout n king r       row r of the king's message; empty for a number past n
+--   kingRow inbox layout n king r    row r of the king's message; empty for a number past n
 --   settledRow n held weak king      a row after round 3p + 3, from those three
 --   settledRows                      the matrix of those rows
 use mathlib.Core.Bool.{Bool, cond}

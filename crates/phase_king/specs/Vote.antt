@@ -1,14 +1,14 @@
 -- What is supposed of the controllers and of the phases of a vote. `correct` is a test on indices; index i is controller i + 1. Nothing is
 -- supposed of what the others send: it may differ from receiver to receiver.
---   CorrectIndex n correct i     i is one of the n controllers, and correct
---   Resilient n t correct      3t + 1 at most n, and all but at most t of the n controllers are correct
---   phaseCount t            how many phases a vote has
---   Kings n t king          the kings of the phases 0, 1, .. are different controllers
---   BitPhase                a phase for one bit, from the bits held before to those held after
---   MatrixPhase             a phase for matrices, in terms of what the inboxes of its three rounds hold
---   Vote                    the phases of a vote, one after the other: `rows p i` is the matrix of i before phase p, counted from 0
---   Agreed                  after the last phase all correct controllers have one matrix, and a bit or a row on which all correct ones
---                           started equal is still what it was
+--   CorrectIndex n correct i  i is one of the n controllers, and correct
+--   Resilient n t correct     3t + 1 at most n, and all but at most t of the n controllers are correct
+--   phaseCount t              how many phases a vote has
+--   Kings n t king            the kings of the phases 0, 1, .. are different controllers
+--   BitPhase                  a phase for one bit, from the bits held before to those held after
+--   MatrixPhase               a phase for matrices, in terms of what the inboxes of its three rounds hold
+--   Vote                      the phases of a vote, one after the other: `rows p i` is the matrix of i before phase p, counted from 0
+--   Agreed                    after the last phase all correct controllers have one matrix, and a bit or a row on which all correct ones started equal
+--                             is still what it was
 use mathlib.Core.Path.{_≡_}
 use mathlib.Core.Bool.{Bool, true}
 use mathlib.Core.List.{List}

@@ -19,7 +19,8 @@
 --     factor             p(x) = 0 gives p = (X + x) times the quotient
 --     zero-of-roots      as many different roots as coefficients: zero
 --     equal-of-values    two of n coefficients, equal at n different points, are the same
-pub use Rattle.polynomial.proofs.Values.{evaluate-lt, evaluate-horner, horner-nil, horner-cons, horner-lt, horner-at-zero, horner-zero, horner-plus, horner-scale, horner-product, horner-root}
+pub use Rattle.polynomial.proofs.Values.{evaluate-lt, evaluate-horner, horner-nil, horner-cons, horner-lt, horner-at-zero, horner-zero, horner-plus}
+pub use Rattle.polynomial.proofs.Values.{horner-scale, horner-product, horner-root}
 pub use Rattle.polynomial.proofs.Coefficients.{at-plus, at-scale, at-product, at-root, past-end, combined, root-filled}
 pub use Rattle.polynomial.proofs.Coefficients.{length-plus, length-scale, length-root, bytes-plus, bytes-scale, bytes-product, bytes-root}
 pub use Rattle.polynomial.proofs.Coefficients.{below-more, below-length, below-plus, below-scale, below-root, below-product, zero-root, zero-product-r}

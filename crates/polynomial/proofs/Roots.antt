@@ -10,7 +10,8 @@ use borrow.Author.Tests.{eqb-true, eqb-false, eq-eqb, not-true}
 use lib.Dec.{eqb}
 use lib.ListN.{length}
 use Rattle.gf256.specs.Field.{gadd, gmul}
-use Rattle.gf256.proofs.Laws.{gadd-assoc, gadd-comm, gadd-zero-r, gadd-self, gadd-medial, gadd-lt, gadd-zero, gmul-left-comm, gmul-add-l, gmul-add-r, gmul-zero-r, gmul-zero}
+use Rattle.gf256.proofs.Laws.{gadd-assoc, gadd-comm, gadd-zero-r, gadd-self, gadd-medial, gadd-lt, gadd-zero, gmul-left-comm, gmul-add-l, gmul-add-r}
+use Rattle.gf256.proofs.Laws.{gmul-zero-r, gmul-zero}
 use Rattle.lists.specs.Sum.{count}
 use Rattle.lists.proofs.Sums.{count-member, count-without, count-mono}
 use Rattle.lists.proofs.Tests.{and-left, and-right}

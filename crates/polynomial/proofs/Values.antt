@@ -6,7 +6,8 @@ use native.Mathlib.Omega.{arith}
 use lib.Dec.{lit<}
 use lib.ListN.{length, getD}
 use Rattle.gf256.specs.Field.{gadd, gmul, gpow}
-use Rattle.gf256.proofs.Laws.{gadd-assoc, gadd-comm, gadd-zero-l, gadd-zero-r, gadd-self, gadd-medial, gadd-lt, gmul-left-comm, gmul-assoc, gmul-add-l, gmul-add-r, gmul-zero-l, gmul-zero-r, gmul-one-r, gmul-lt, gpow-zero, gpow-suc}
+use Rattle.gf256.proofs.Laws.{gadd-assoc, gadd-comm, gadd-zero-l, gadd-zero-r, gadd-self, gadd-medial, gadd-lt, gmul-left-comm, gmul-assoc, gmul-add-l}
+use Rattle.gf256.proofs.Laws.{gmul-add-r, gmul-zero-l, gmul-zero-r, gmul-one-r, gmul-lt, gpow-zero, gpow-suc}
 use Rattle.lists.specs.Fill.{tabulate}
 use Rattle.lists.proofs.Fills.{tabulate-none, tabulate-front}
 use Rattle.polynomial.specs.Polynomial.{gsum, evaluate, horner, plus, scale, product, timesRoot, Bytes, Zero, Below}
@@ -99,7 +100,8 @@ horner-product (c ∷ p) q z =
 rootFrom : ℕ → ℕ → List ℕ → List ℕ
 rootFrom x before p = tabulate (λ i. gadd (getD (before ∷ p) i 0) (gmul x (getD p i 0))) (length p)
 
-root-from : (x before n : ℕ) (p : List ℕ) (z : ℕ) → n ≤ length p → Below n (before ∷ p) → horner (rootFrom x before p) z ≡ gadd before (gmul (gadd z x) (horner p z))
+root-from : (x before n : ℕ) (p : List ℕ) (z : ℕ) → n ≤ length p → Below n (before ∷ p)
+    → horner (rootFrom x before p) z ≡ gadd before (gmul (gadd z x) (horner p z))
 unfolding horner rootFrom
 root-from x before n [] z l h =
     ap (λ (q : List ℕ). horner q z) (tabulate-none (λ i. gadd (getD (before ∷ []) i 0) (gmul x (getD {A = ℕ} [] i 0))))
@@ -109,7 +111,8 @@ root-from x before n (c ∷ p) z l h =
     let v = horner p z in
     ap (λ (q : List ℕ). horner q z) (tabulate-front (λ i. gadd (getD (before ∷ c ∷ p) i 0) (gmul x (getD (c ∷ p) i 0))) (length p))
     ∙ ap (gadd (gadd before (gmul x c)))
-    (ap (gmul z) (root-from x c (n - 1) p z (omega arith) (λ i g. h (suc i) (omega arith))) ∙ gmul-add-r z c (gmul zx v) ∙ ap (gadd (gmul z c)) (gmul-left-comm z zx v))
+    (ap (gmul z) (root-from x c (n - 1) p z (omega arith) (λ i g. h (suc i) (omega arith))) ∙ gmul-add-r z c (gmul zx v)
+    ∙ ap (gadd (gmul z c)) (gmul-left-comm z zx v))
     ∙ gadd-assoc before (gmul x c) (gadd (gmul z c) (gmul zx (gmul z v)))
     ∙ ap (gadd before)
     (sym (gadd-assoc (gmul x c) (gmul z c) (gmul zx (gmul z v)))

@@ -10,7 +10,8 @@ use native.Mathlib.Omega.{arith}
 use borrow.Author.Tests.{eq-eqb, ne-eqb, eqb-true, eqb-false, not-false}
 use lib.Dec.{eqb}
 use lib.ListN.{length}
-use Rattle.lists.proofs.Tests.{either, and-left, and-right, and-both, and-no-left, and-no-right, and-tail, or-neither, or-left, or-right, cond-yes, cond-no, cond-zero}
+use Rattle.lists.proofs.Tests.{either, and-left, and-right, and-both, and-no-left, and-no-right, and-tail, or-neither, or-left, or-right, cond-yes, cond-no}
+use Rattle.lists.proofs.Tests.{cond-zero}
 use Rattle.settings.specs.declared.Settings.{Settings}
 use Rattle.settings.specs.declared.Entry.the-variants.{Start}
 use Rattle.settings.specs.Refusal.{outside, refusalOf, stateRefusal}
@@ -24,7 +25,8 @@ use Rattle.wire.proofs.Laws.{Fact, call-fact, block-size-is}
 use Rattle.protocol.specs.declared.State.{State}
 use Rattle.protocol.specs.declared.Started.{Started}
 use Rattle.protocol.specs.State.{freshState, zeroState}
-use Rattle.protocol.specs.Calls.{carried, sendCall, receiveCall, compareCall, collectCall, tallyCall, holdCall, settleCall, coreCall, chooseCall, finishCall, callOf}
+use Rattle.protocol.specs.Calls.{carried, sendCall, receiveCall, compareCall, collectCall, tallyCall, holdCall, settleCall, coreCall, chooseCall}
+use Rattle.protocol.specs.Calls.{finishCall, callOf}
 use Rattle.protocol.specs.Step.{startRefusal, startOf, lengthsFit, stepRefusal, After, after, done, stepOf, Ready}
 
 -- ---- start
@@ -95,7 +97,8 @@ module _ (s : State) (b i o : ℕ) where
       let I = eqb i (inboxLength (s .settings .n) (s .settings .t) (s .settings .k) (s .next)) in
       let O = eqb o (outboxLength (s .settings .n) (s .settings .t) (s .settings .k) (s .next)) in
       record {
-        valid = state-0 (s .settings) (s .own) (eqb-true (stateRefusal (s .settings) (s .own)) 0 (not-false (eqb (stateRefusal (s .settings) (s .own)) 0) (parts .0)));
+        valid = state-0 (s .settings) (s .own)
+            (eqb-true (stateRefusal (s .settings) (s .own)) 0 (not-false (eqb (stateRefusal (s .settings) (s .own)) 0) (parts .0)));
         next-least = range .0;
         next-most = omega arith;
         block-length = eqb-true b (blockLength (s .settings .k) (s .settings .t)) (and-left B (I && O) fit);
@@ -115,8 +118,10 @@ module _ (s : State) (b i o : ℕ) where
       ∙ cond-no (eqb (s .next) (3 * s .settings .t + 10)) 8 _ (ne-eqb (s .next) (3 * s .settings .t + 10) (λ e. omega arith))
       ∙ cond-no (not (lengthsFit s b i o)) 6 0
       (ap not (and-both (eqb b (blockLength (s .settings .k) (s .settings .t))) _ (eq-eqb b (blockLength (s .settings .k) (s .settings .t)) (r .block-length))
-      (and-both (eqb i (inboxLength (s .settings .n) (s .settings .t) (s .settings .k) (s .next))) (eqb o (outboxLength (s .settings .n) (s .settings .t) (s .settings .k) (s .next)))
-      (eq-eqb i (inboxLength (s .settings .n) (s .settings .t) (s .settings .k) (s .next)) (r .inbox-length)) (eq-eqb o (outboxLength (s .settings .n) (s .settings .t) (s .settings .k) (s .next)) (r .outbox-length)))))
+      (and-both (eqb i (inboxLength (s .settings .n) (s .settings .t) (s .settings .k) (s .next)))
+      (eqb o (outboxLength (s .settings .n) (s .settings .t) (s .settings .k) (s .next)))
+      (eq-eqb i (inboxLength (s .settings .n) (s .settings .t) (s .settings .k) (s .next)) (r .inbox-length))
+      (eq-eqb o (outboxLength (s .settings .n) (s .settings .t) (s .settings .k) (s .next)) (r .outbox-length)))))
 
   -- a run that is finished
   pub 8-step : Valid (s .settings) (s .own) → s .next ≡ 3 * s .settings .t + 10 → stepRefusal s b i o ≡ 8
@@ -245,10 +250,12 @@ module _ (s : State) (b i o : ℕ) where
   unfolding stepRefusal
   7-next h =
       cond-yes (not (eqb (stateRefusal (s .settings) (s .own)) 0) || outside 1 (3 * s .settings .t + 10) (s .next)) 7 _
-      (or-right (not (eqb (stateRefusal (s .settings) (s .own)) 0)) (outside 1 (3 * s .settings .t + 10) (s .next)) (yes-outside 1 (3 * s .settings .t + 10) (s .next) h))
+      (or-right (not (eqb (stateRefusal (s .settings) (s .own)) 0)) (outside 1 (3 * s .settings .t + 10) (s .next))
+      (yes-outside 1 (3 * s .settings .t + 10) (s .next) h))
 
   pub settings-valid : not (eqb (stateRefusal (s .settings) (s .own)) 0) ≡ false → Valid (s .settings) (s .own)
-  settings-valid y = state-0 (s .settings) (s .own) (eqb-true (stateRefusal (s .settings) (s .own)) 0 (not-false (eqb (stateRefusal (s .settings) (s .own)) 0) y))
+  settings-valid y =
+      state-0 (s .settings) (s .own) (eqb-true (stateRefusal (s .settings) (s .own)) 0 (not-false (eqb (stateRefusal (s .settings) (s .own)) 0) y))
 
   -- where neither 7 nor 8 is met, the lengths decide
   pub lengths-decide : Valid (s .settings) (s .own) → 1 ≤ s .next → s .next ≤ 3 * s .settings .t + 10 → (s .next ≡ 3 * s .settings .t + 10 → ⊥)
@@ -261,17 +268,23 @@ module _ (s : State) (b i o : ℕ) where
   -- the lengths that a step must be lent
   pub fits-not-block : Valid (s .settings) (s .own) → (b ≡ blockSize (s .settings .n) (s .settings .t) (s .settings .k) → ⊥) → lengthsFit s b i o ≡ false
   unfolding lengthsFit
-  fits-not-block v n = and-no-left (eqb b (blockLength (s .settings .k) (s .settings .t))) _ (ne-eqb b (blockLength (s .settings .k) (s .settings .t)) (λ e. n (e ∙ sym (block-size-is (v .coded)))))
+  fits-not-block v n =
+      and-no-left (eqb b (blockLength (s .settings .k) (s .settings .t))) _
+      (ne-eqb b (blockLength (s .settings .k) (s .settings .t)) (λ e. n (e ∙ sym (block-size-is (v .coded)))))
 
   pub fits-not-inbox : (i ≡ inboxLength (s .settings .n) (s .settings .t) (s .settings .k) (s .next) → ⊥) → lengthsFit s b i o ≡ false
   unfolding lengthsFit
   fits-not-inbox n =
       and-no-right (eqb b (blockLength (s .settings .k) (s .settings .t))) _
-      (and-no-left (eqb i (inboxLength (s .settings .n) (s .settings .t) (s .settings .k) (s .next))) _ (ne-eqb i (inboxLength (s .settings .n) (s .settings .t) (s .settings .k) (s .next)) n))
+      (and-no-left (eqb i (inboxLength (s .settings .n) (s .settings .t) (s .settings .k) (s .next))) _
+      (ne-eqb i (inboxLength (s .settings .n) (s .settings .t) (s .settings .k) (s .next)) n))
 
-  pub fits-outbox : Valid (s .settings) (s .own) → b ≡ blockSize (s .settings .n) (s .settings .t) (s .settings .k) → i ≡ inboxLength (s .settings .n) (s .settings .t) (s .settings .k) (s .next)
+  pub fits-outbox : Valid (s .settings) (s .own) → b ≡ blockSize (s .settings .n) (s .settings .t) (s .settings .k)
+      → i ≡ inboxLength (s .settings .n) (s .settings .t) (s .settings .k) (s .next)
       → lengthsFit s b i o ≡ eqb o (outboxLength (s .settings .n) (s .settings .t) (s .settings .k) (s .next))
   unfolding lengthsFit
   fits-outbox v e f =
-      and-tail (eqb b (blockLength (s .settings .k) (s .settings .t))) _ (eq-eqb b (blockLength (s .settings .k) (s .settings .t)) (e ∙ block-size-is (v .coded)))
-      ∙ and-tail (eqb i (inboxLength (s .settings .n) (s .settings .t) (s .settings .k) (s .next))) _ (eq-eqb i (inboxLength (s .settings .n) (s .settings .t) (s .settings .k) (s .next)) f)
+      and-tail (eqb b (blockLength (s .settings .k) (s .settings .t))) _
+      (eq-eqb b (blockLength (s .settings .k) (s .settings .t)) (e ∙ block-size-is (v .coded)))
+      ∙ and-tail (eqb i (inboxLength (s .settings .n) (s .settings .t) (s .settings .k) (s .next))) _
+      (eq-eqb i (inboxLength (s .settings .n) (s .settings .t) (s .settings .k) (s .next)) f)

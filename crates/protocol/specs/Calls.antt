@@ -1,15 +1,15 @@
 -- The calls (document 01, 'Rounds'): what each leaves of the state, the block and the outbox. Call c reads the inbox of round c - 1 and fills
 -- the outbox of round c. Every call but the last sets the outcome to open.
---   Carried, carried s b o      the state, the block and the outbox after a call carried out
---   inboxLayout s               the layout of the slots in the inbox of the next call
---   outboxLayout s              and in its outbox
---   readPhase s, writePhase s   the phase of the round that the next call reads, and of the round that it fills
---   coreOf rows n t             the core: E of the star of the matrix
---   matrixToAll s m o           the outbox with the matrix to all
+--   Carried, carried s b o     the state, the block and the outbox after a call carried out
+--   inboxLayout s              the layout of the slots in the inbox of the next call
+--   outboxLayout s             and in its outbox
+--   readPhase s, writePhase s  the phase of the round that the next call reads, and of the round that it fills
+--   coreOf rows n t            the core: E of the star of the matrix
+--   matrixToAll s m o          the outbox with the matrix to all
 --   sendCall, receiveCall, compareCall, collectCall, tallyCall, holdCall, settleCall, coreCall, chooseCall, finishCall
---                               the calls, in their order
---   settledMatrix s i           the matrix after round 3p + 3, in two of them
---   callOf kind s b i o         the call of a kind on the state s, the block b, the inbox i and the outbox o
+--                              the calls, in their order
+--   settledMatrix s i          the matrix after round 3p + 3, in two of them
+--   callOf kind s b i o        the call of a kind on the state s, the block b, the inbox i and the outbox o
 use mathlib.Core.List.{List}
 use Prim.Native.Nat.{ℕ, _-_}
 use Rattle.bitset.specs.Row.{rowsOf}

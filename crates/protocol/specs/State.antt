@@ -1,14 +1,14 @@
 -- The state of a controller (document 01, 'The house'). It is written out in two places: `initial`, from which the zero and the fresh state are
 -- made, and `changed`, by which each group of fields is changed.
---   initial s own next        the outcome open, and no matrix, weak bits or core
---   zeroState                 all zero, and the outcome open
---   freshState s own          what start returns when carried out
---   changed s ..              the state s with the next call, the outcome, the matrix, the weak bits and the core given
---   withCall s next w         with another next call, and the outcome w
---   advanced s w              the state at the call after its next one, with the outcome w
---   withMatrix s m            with another matrix
---   withVotes s m w           with another matrix, and the bits of it whose count was low
---   withCore s m e            with another matrix, and a core
+--   initial s own next  the outcome open, and no matrix, weak bits or core
+--   zeroState           all zero, and the outcome open
+--   freshState s own    what start returns when carried out
+--   changed s ..        the state s with the next call, the outcome, the matrix, the weak bits and the core given
+--   withCall s next w   with another next call, and the outcome w
+--   advanced s w        the state at the call after its next one, with the outcome w
+--   withMatrix s m      with another matrix
+--   withVotes s m w     with another matrix, and the bits of it whose count was low
+--   withCore s m e      with another matrix, and a core
 use mathlib.Core.List.{List}
 use Prim.Native.Nat.{ℕ, _+_}
 use lib.ListN.{replicate}

@@ -1,12 +1,12 @@
 -- Start and step: the number, the state and every lent byte, for all inputs (document 01, 'The house', 'Turned down').
---   startRefusal s own b                start tries rows 1 to 6, in order; b is the length of the lent block
---   startOf s own b                     the answer; refused, the zero state. Start neither reads nor changes the block
---   lengthsFit s b i o                  the lent block, inbox and outbox are as long as the next call states
---   stepRefusal s b i o                 a step tries 7, 8, 6
---   After, after a b o                  the answer of a step with the block and the outbox as it leaves them
---   done c                              that of a call carried out
---   stepOf s b i o                      a step; refused, it hands the state back as given and changes no lent byte
---   Ready s b i o                       what no row of the table names: the state and the lent lengths of a step that is carried out
+--   startRefusal s own b  start tries rows 1 to 6, in order; b is the length of the lent block
+--   startOf s own b       the answer; refused, the zero state. Start neither reads nor changes the block
+--   lengthsFit s b i o    the lent block, inbox and outbox are as long as the next call states
+--   stepRefusal s b i o   a step tries 7, 8, 6
+--   After, after a b o    the answer of a step with the block and the outbox as it leaves them
+--   done c                that of a call carried out
+--   stepOf s b i o        a step; refused, it hands the state back as given and changes no lent byte
+--   Ready s b i o         what no row of the table names: the state and the lent lengths of a step that is carried out
 use mathlib.Core.Path.{_≡_}
 use mathlib.Core.Bool.{Bool, cond, not, _&&_, _||_}
 use mathlib.Core.List.{List}
@@ -37,7 +37,8 @@ startOf s own b =
 unfoldable pub lengthsFit : State → (b i o : ℕ) → Bool
 lengthsFit s b i o =
     eqb b (blockLength (s .settings .k) (s .settings .t))
-    && (eqb i (inboxLength (s .settings .n) (s .settings .t) (s .settings .k) (s .next)) && eqb o (outboxLength (s .settings .n) (s .settings .t) (s .settings .k) (s .next)))
+    && (eqb i (inboxLength (s .settings .n) (s .settings .t) (s .settings .k) (s .next))
+    && eqb o (outboxLength (s .settings .n) (s .settings .t) (s .settings .k) (s .next)))
 
 unfoldable pub stepRefusal : State → (b i o : ℕ) → ℕ
 stepRefusal s b i o =

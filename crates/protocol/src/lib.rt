@@ -79,7 +79,7 @@ pub fn with_call(s: State, next: usize, outcome: Outcome) -> State
 }
 
 // With another matrix.
-// Shut out: the matrix as it was; the weak bits changed.
+// Shut out: a matrix of zeros; the weak bits changed in its place.
 pub fn with_matrix(s: State, matrix: [u16; 16]) -> State
     ensures { λ r. ⌜ r ≡ withMatrix s matrix ⌝ }
 {
@@ -89,7 +89,7 @@ pub fn with_matrix(s: State, matrix: [u16; 16]) -> State
 }
 
 // With another matrix, and the bits of it whose count was low.
-// Shut out: the weak bits as they were; the two the other way round.
+// Shut out: the matrix for the weak bits; the two the other way round.
 pub fn with_votes(s: State, matrix: [u16; 16], weak: [u16; 16]) -> State
     ensures { λ r. ⌜ r ≡ withVotes s matrix weak ⌝ }
 {
@@ -100,7 +100,7 @@ pub fn with_votes(s: State, matrix: [u16; 16], weak: [u16; 16]) -> State
 }
 
 // With another matrix and core.
-// Shut out: the core as it was; the weak bits changed.
+// Shut out: no core; the weak bits changed in the place of the matrix.
 pub fn with_core(s: State, matrix: [u16; 16], core: u16) -> State
     ensures { λ r. ⌜ r ≡ withCore s matrix core ⌝ }
 {

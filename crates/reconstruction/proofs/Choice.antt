@@ -56,19 +56,23 @@ module _ (n t core : ℕ) (inbox : List ℕ) (layout : Layout) where
     pub chosen-absent : length (messageOf inbox layout (i + 1)) ≡ 0 → member core i ≡ true → isChosen n t core inbox layout i ≡ false
     unfolding isChosen
     chosen-absent z e =
-        and-tail (member core i) _ e ∙ and-no-left (not (eqb (length (messageOf inbox layout (i + 1))) 0)) _ (ap not (eq-eqb (length (messageOf inbox layout (i + 1))) 0 z))
+        and-tail (member core i) _ e ∙ and-no-left (not (eqb (length (messageOf inbox layout (i + 1))) 0)) _
+        (ap not (eq-eqb (length (messageOf inbox layout (i + 1))) 0 z))
 
     pub chosen-votes : (length (messageOf inbox layout (i + 1)) ≡ 0 → ⊥) → member core i ≡ true
         → isChosen n t core inbox layout i ≡ leb (t + 1) (votes n core inbox layout (messageOf inbox layout (i + 1)))
     unfolding isChosen
     chosen-votes z e =
-        and-tail (member core i) _ e ∙ and-tail (not (eqb (length (messageOf inbox layout (i + 1))) 0)) _ (ap not (ne-eqb (length (messageOf inbox layout (i + 1))) 0 z))
+        and-tail (member core i) _ e ∙ and-tail (not (eqb (length (messageOf inbox layout (i + 1))) 0)) _
+        (ap not (ne-eqb (length (messageOf inbox layout (i + 1))) 0 z))
 
     -- a piece that is chosen is there
     pub chosen-there : isChosen n t core inbox layout i ≡ true → length (messageOf inbox layout (i + 1)) ≡ 0 → ⊥
     unfolding isChosen
     chosen-there e =
-        eqb-false (length (messageOf inbox layout (i + 1))) 0 (not-true (eqb (length (messageOf inbox layout (i + 1))) 0) (and-left (not (eqb (length (messageOf inbox layout (i + 1))) 0)) _ (and-right (member core i) _ e)))
+        eqb-false (length (messageOf inbox layout (i + 1))) 0
+        (not-true (eqb (length (messageOf inbox layout (i + 1))) 0)
+        (and-left (not (eqb (length (messageOf inbox layout (i + 1))) 0)) _ (and-right (member core i) _ e)))
 
   -- the search's answer: the piece to all, or silence
   module _ (out : Layout) (i : ℕ) (is-first : i ≡ first n (isChosen n t core inbox layout)) (o : List ℕ) where

@@ -30,7 +30,8 @@ use Rattle.reed_solomon.specs.First.{rebuilt}
 use Rattle.reed_solomon.proofs.Laws.{yes-ready, decode-0, rebuilt-block, rebuilt-none}
 use Rattle.reconstruction.specs.declared.Outcome.the-variants.{Open, None}
 use Rattle.reconstruction.specs.declared.Outcome.the-variants as outcome
-use Rattle.reconstruction.specs.Reconstruction.{inCore, forwarded, votes, isChosen, chosenPiece, ownPiece, sentPiece, shared, finish, finishedBy, finished, FinishedAgreed, FinishedBeyond}
+use Rattle.reconstruction.specs.Reconstruction.{inCore, forwarded, votes, isChosen, chosenPiece, ownPiece, sentPiece, shared, finish, finishedBy}
+use Rattle.reconstruction.specs.Reconstruction.{finished, FinishedAgreed, FinishedBeyond}
 use Rattle.reconstruction.specs.Steps.{decodedOutcome}
 
 -- membership by number
@@ -91,12 +92,14 @@ module _ (n t k own : ℕ) (b : List ℕ) (v : Coded n t k) (w : Numbered n own)
         shared-is ∙ cond-yes (eqb (length m) 0) (replicate (length o) 0) (toAll (kindLayout Rebuild n t k) n m o) (eq-eqb (length m) 0 none)
 
 -- a member's piece is its own
-pub own-member : (n t k own core : ℕ) (inbox : List ℕ) (layout : Layout) (b : List ℕ) → inCore core own ≡ true → ownPiece n t k own core inbox layout b ≡ pieceOf k t b own
+pub own-member : (n t k own core : ℕ) (inbox : List ℕ) (layout : Layout) (b : List ℕ) → inCore core own ≡ true
+    → ownPiece n t k own core inbox layout b ≡ pieceOf k t b own
 unfolding ownPiece
 own-member n t k own core inbox layout b y = cond-yes (inCore core own) (pieceOf k t b own) (chosenPiece n t core inbox layout) y
 
 -- another takes the piece that is chosen
-pub own-other : (n t k own core : ℕ) (inbox : List ℕ) (layout : Layout) (b : List ℕ) → inCore core own ≡ false → ownPiece n t k own core inbox layout b ≡ chosenPiece n t core inbox layout
+pub own-other : (n t k own core : ℕ) (inbox : List ℕ) (layout : Layout) (b : List ℕ) → inCore core own ≡ false
+    → ownPiece n t k own core inbox layout b ≡ chosenPiece n t core inbox layout
 unfolding ownPiece
 own-other n t k own core inbox layout b y = cond-no (inCore core own) (pieceOf k t b own) (chosenPiece n t core inbox layout) y
 
@@ -133,7 +136,8 @@ module _ (n t core : ℕ) (inbox : List ℕ) (layout : Layout) (good : ℕ → B
         count-mono n (λ i. member core i && good i) (λ i. member core i && same (messageOf inbox layout (i + 1)) P)
             (λ i l y.
             let m = and-left (member core i) (good i) y in
-            and-both (member core i) (same (messageOf inbox layout (i + 1)) P) m (eq-same (messageOf inbox layout (i + 1)) P (sent i l m (and-right (member core i) (good i) y)))),
+            and-both (member core i) (same (messageOf inbox layout (i + 1)) P) m
+            (eq-same (messageOf inbox layout (i + 1)) P (sent i l m (and-right (member core i) (good i) y)))),
       )
 
   -- a piece that t + 1 members sent was sent by a good one
@@ -160,7 +164,8 @@ module _ (n t core : ℕ) (inbox : List ℕ) (layout : Layout) (good : ℕ → B
       and-both (member core i) _ m
       (and-both (not (eqb (length (messageOf inbox layout (i + 1))) 0)) (leb (t + 1) (votes n core inbox layout (messageOf inbox layout (i + 1))))
       (ap not (ne-eqb (length (messageOf inbox layout (i + 1))) 0 (λ z. some (sym (ap length s) ∙ z))))
-      (le-leb (t + 1) (votes n core inbox layout (messageOf inbox layout (i + 1))) (subst (λ (y : List ℕ). t + 1 ≤ votes n core inbox layout y) (sym s) many))) in
+      (le-leb (t + 1) (votes n core inbox layout (messageOf inbox layout (i + 1)))
+      (subst (λ (y : List ℕ). t + 1 ≤ votes n core inbox layout y) (sym s) many))) in
       let below : first n q < n = omega (arith, first-some n q i yes, g .1) in
       let passes = first-passes n q below in
       let M : ℕ → List ℕ = λ x. messageOf inbox layout (x + 1) in

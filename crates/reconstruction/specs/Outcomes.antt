@@ -1,7 +1,7 @@
 -- The outcomes with document 01's number and word for each: the numbers in the order of 'The house', the words as the simulator prints them.
---   Listed, listed w     the number and the word of an outcome, in bytes
---   outcomeNumber w      its number
---   outcomeWord w        its word
+--   Listed, listed w  the number and the word of an outcome, in bytes
+--   outcomeNumber w   its number
+--   outcomeWord w     its word
 use mathlib.Core.List.{List, [], _∷_}
 use Prim.Native.Nat.{ℕ}
 use Rattle.reconstruction.specs.declared.Outcome.{Outcome}

@@ -1,20 +1,20 @@
 -- Calls 3t + 7 to 3t + 9 (document 01, 'Rounds'): core members give everyone its piece, everyone sends its piece, the block is decoded.
 -- Controllers are numbered from 1; own is the caller's own number; index i of the set core is controller i + 1. The functions are total:
 -- outside the settings, or with a block or an outbox of another length, nothing is written.
---   inCore core j                       controller j is in the core
---   forwarded n t k own core b o        call 3t + 7: a core member sends to j piece j of its own coding; others are silent
---   votes n core inbox layout m            how many core members sent the piece m, whole pieces compared
---   isChosen n t core inbox layout i       the controller of index i is a member, its slot is present, and at least t + 1 members sent its piece
---   chosenPiece n t core inbox layout      call 3t + 8, outside the core: the piece that at least t + 1 members sent; of several, that of the
---                                       lowest-numbered member; with none the empty list
---   ownPiece n t k own core inbox layout b call 3t + 8: a member's piece is its own
---   sentPiece layout n m o                 the piece to all; silence where there is none
---   shared n t k own core inbox layout b o   call 3t + 8
---   Finished, finish w b                what the last call sets: the outcome, and the block
---   finishedBy len r                    agreed and the block of r; where r is none beyond and len zeros
---   finished n t k core inbox b         the last call: no core: none and zeros; else agreed and the block that meets decoding's rule, or beyond and
---                                       zeros where none does; where decoding is refused, open and the block as it was (never in a run)
---   FinishedAgreed, FinishedBeyond      the same, by decoding's rule (laws `finished-agreed`, `finished-beyond`)
+--   inCore core j                           controller j is in the core
+--   forwarded n t k own core b o            call 3t + 7: a core member sends to j piece j of its own coding; others are silent
+--   votes n core inbox layout m             how many core members sent the piece m, whole pieces compared
+--   isChosen n t core inbox layout i        the controller of index i is a member, its slot is present, and at least t + 1 members sent its piece
+--   chosenPiece n t core inbox layout       call 3t + 8, outside the core: the piece that at least t + 1 members sent; of several, that of the
+--                                           lowest-numbered member; with none the empty list
+--   ownPiece n t k own core inbox layout b  call 3t + 8: a member's piece is its own
+--   sentPiece layout n m o                  the piece to all; silence where there is none
+--   shared n t k own core inbox layout b o  call 3t + 8
+--   Finished, finish w b                    what the last call sets: the outcome, and the block
+--   finishedBy len r                        agreed and the block of r; where r is none beyond and len zeros
+--   finished n t k core inbox b             the last call: no core: none and zeros; else agreed and the block that meets decoding's rule, or beyond and
+--                                           zeros where none does; where decoding is refused, open and the block as it was (never in a run)
+--   FinishedAgreed, FinishedBeyond          the same, by decoding's rule (laws `finished-agreed`, `finished-beyond`)
 use mathlib.Core.Path.{_≡_}
 use mathlib.Core.Bool.{Bool, cond, not, _&&_}
 use mathlib.Core.List.{List, []}

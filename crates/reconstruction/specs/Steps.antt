@@ -1,5 +1,5 @@
 -- For the contracts of private functions; a reader of the public contracts needs none of it.
---   decodedOutcome d   the outcome for each answer of decoding; it is never refused in a run
+--   decodedOutcome d  the outcome for each answer of decoding; it is never refused in a run
 use Rattle.reed_solomon.specs.declared.Decoded.{Decoded}
 use Rattle.reed_solomon.specs.declared.Decoded.the-variants.{Block, Beyond, Refused}
 use Rattle.reconstruction.specs.declared.Outcome.{Outcome}

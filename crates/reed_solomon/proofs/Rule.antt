@@ -32,7 +32,8 @@ use Rattle.reed_solomon.specs.First.{firstBytes, meets, DecodesMeets, Me
 use Rattle.reed_solomon.specs.Steps.{points, column, stripeOf, isFound, Pointed, Tried, Found}
 use Rattle.reed_solomon.proofs.Sizes.{both-true, true-both}
 use Rattle.reed_solomon.proofs.First.{Right, first-right}
-use Rattle.reed_solomon.proofs.Stripes.{length-points, agreeing-points, units-points, points-points, different-numbers, length-stripe, bytes-stripe, length-found, bytes-found, stripe-joined, block-joined}
+use Rattle.reed_solomon.proofs.Stripes.{length-points, agreeing-points, units-points, points-points, different-numbers, length-stripe, bytes-stripe}
+use Rattle.reed_solomon.proofs.Stripes.{length-found, bytes-found, stripe-joined, block-joined}
 use Rattle.lists.specs.Join.{joined}
 use Rattle.lists.proofs.Joins.{joined-ext, length-joined, all-joined}
 
@@ -56,7 +57,8 @@ module _ (n t k : ℕ) (slots : List ℕ) where
   unfolding decodeRefusal
   decode-number block fits r is-fits is-r = is-r ∙ ap (decodingRefusal n t k) is-fits
 
-  pub decode-0 : (block : List ℕ) → decodeRefusal n t k slots block ≡ 0 → Coded n t k × (length slots ≡ n * width (layoutWith k)) × (length block ≡ blockLength k t)
+  pub decode-0 : (block : List ℕ) → decodeRefusal n t k slots block ≡ 0
+      → Coded n t k × (length slots ≡ n * width (layoutWith k)) × (length block ≡ blockLength k t)
   unfolding decodeRefusal
   decode-0 block e =
       let r = decoding-0 n t k (decodeFits n t k slots block) e in
@@ -75,7 +77,8 @@ module _ (n t k : ℕ) (slots : List ℕ) where
     stripe-found : (s : ℕ) (m : List ℕ) → Bytes m → length m ≡ t + 1 → n - t ≤ agreeing n k slots s m → stripeOf n t k slots s ≡ m
     unfolding stripeOf
     stripe-found s m hm lm many =
-        recovers t (points n) (column k slots s (points n)) m (units-points n (omega (arith, v .quorum .n-most))) (points-points n (omega (arith, v .quorum .n-most))) hm lm
+        recovers t (points n) (column k slots s (points n)) m (units-points n (omega (arith, v .quorum .n-most)))
+        (points-points n (omega (arith, v .quorum .n-most))) hm lm
         (omega (arith, length-points n, agreeing-points n k slots s m, v .quorum .t-most))
 
     module _ (block : List ℕ) (d : Decodes n t k slots block) where

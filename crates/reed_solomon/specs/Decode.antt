@@ -1,13 +1,13 @@
 -- Decoding (document 01, 'Field and code'): the rule, and what a call answers.
---   received k slots s j               the value of stripe s in slot j: byte s of its message; an absent slot counts as a piece of zeros
---   agreeing n k slots s m             in how many of the places 1 .. n the code of m agrees with the received values of stripe s
---   Decodes n t k slots block          the rule: for each stripe, the bytes whose code agrees in at least n - t places
---   decodeFits n t k slots block       the lent lengths are the stated ones: n slots of messages of k bytes, and a block
---   decodeRefusal n t k slots block    the number of the refusal table's row, or 0 ('Turned down': decoding tries 1, 2, 3, 6)
---   Answers n t k slots before d after what a call answers, d, and leaves in the lent block: the block that meets the rule; beyond and zeros where
---                                      none does; refused, the row's number, and the block as it was
---   DecodesUnique                      within the settings at most one block meets the rule (law `decodes-unique`)
---   AnswersUnique                      so there is one answer, and one block that is left (law `answers-unique`)
+--   received k slots s j                the value of stripe s in slot j: byte s of its message; an absent slot counts as a piece of zeros
+--   agreeing n k slots s m              in how many of the places 1 .. n the code of m agrees with the received values of stripe s
+--   Decodes n t k slots block           the rule: for each stripe, the bytes whose code agrees in at least n - t places
+--   decodeFits n t k slots block        the lent lengths are the stated ones: n slots of messages of k bytes, and a block
+--   decodeRefusal n t k slots block     the number of the refusal table's row, or 0 ('Turned down': decoding tries 1, 2, 3, 6)
+--   Answers n t k slots before d after  what a call answers, d, and leaves in the lent block: the block that meets the rule; beyond and zeros where
+--                                       none does; refused, the row's number, and the block as it was
+--   DecodesUnique                       within the settings at most one block meets the rule (law `decodes-unique`)
+--   AnswersUnique                       so there is one answer, and one block that is left (law `answers-unique`)
 use mathlib.Core.Path.{_≡_}
 use mathlib.Core.Bool.{Bool, _&&_}
 use mathlib.Core.List.{List}

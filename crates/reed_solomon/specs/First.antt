@@ -1,14 +1,14 @@
 -- The block that meets decoding's rule as a function, for definitions that need one: the first of all blocks, in dictionary order, that meets
 -- it. Within the settings it is the only one (`DecodesUnique`), so the order says nothing. The definition is never computed.
---   firstBelow m f         the first of f 0, .., f (m - 1) that is not none
---   firstBytes len p       the first list of len bytes that passes the test p; none where none does
---   meets n t k slots B    each stripe of B agrees in at least n - t places
---   DecodesMeets           what meets the rule passes the test (law `decodes-meets`)
---   MeetsDecodes           a block that passes the test meets the rule (law `meets-decodes`)
---   rebuilt n t k slots    the block that meets the rule; none where none does
---   RebuiltDecodes         it does meet the rule (law `rebuilt-decodes`)
---   RebuiltBlock           within the settings it is every block that meets the rule (law `rebuilt-block`)
---   RebuiltNone            it is none where no block meets the rule (law `rebuilt-none`)
+--   firstBelow m f       the first of f 0, .., f (m - 1) that is not none
+--   firstBytes len p     the first list of len bytes that passes the test p; none where none does
+--   meets n t k slots B  each stripe of B agrees in at least n - t places
+--   DecodesMeets         what meets the rule passes the test (law `decodes-meets`)
+--   MeetsDecodes         a block that passes the test meets the rule (law `meets-decodes`)
+--   rebuilt n t k slots  the block that meets the rule; none where none does
+--   RebuiltDecodes       it does meet the rule (law `rebuilt-decodes`)
+--   RebuiltBlock         within the settings it is every block that meets the rule (law `rebuilt-block`)
+--   RebuiltNone          it is none where no block meets the rule (law `rebuilt-none`)
 use mathlib.Core.Path.{_≡_}
 use mathlib.Core.Bool.{Bool, true, cond}
 use mathlib.Core.List.{List, [], _∷_}

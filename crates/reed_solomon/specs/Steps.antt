@@ -1,12 +1,12 @@
 -- For the contracts of private functions; a reader of the public contracts needs none of it.
 -- How decoding finds the block: by Kötter's candidate.
---   points n                          the points that are read: 1 .. n
---   column k slots s xs               the values received at the points xs
---   stripeOf n t k slots s            the candidate for stripe s
---   isFound n t k slots s             whether it agrees in at least n - t places
---   Pointed t xs                      xs are the points 1, 2, .. of controllers enough for t faulty ones
---   Tried t xs ys found m             m is the candidate, and found says whether it agrees with all but t of the values
---   Found n t k slots found block     found says whether every stripe was found; then they are the block
+--   points n                       the points that are read: 1 .. n
+--   column k slots s xs            the values received at the points xs
+--   stripeOf n t k slots s         the candidate for stripe s
+--   isFound n t k slots s          whether it agrees in at least n - t places
+--   Pointed t xs                   xs are the points 1, 2, .. of controllers enough for t faulty ones
+--   Tried t xs ys found m          m is the candidate, and found says whether it agrees with all but t of the values
+--   Found n t k slots found block  found says whether every stripe was found; then they are the block
 use mathlib.Core.Path.{_≡_}
 use mathlib.Core.Bool.{Bool, true}
 use mathlib.Core.List.{List}

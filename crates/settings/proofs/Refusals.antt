@@ -220,11 +220,13 @@ starting-fits s own a b h =
     (λ (y : outside 4 16 (s .n) ≡ true). cond-yes (outside 4 16 (s .n)) 1 _ y ∙ sym (cond-yes (outside 4 16 (s .n)) 1 _ y))
     (λ (x : outside 4 16 (s .n) ≡ false).
     ⊎-elim
-    (λ (y : tooMany (s .n) (s .t) ≡ true). ap (cond (outside 4 16 (s .n)) 1) (cond-yes (tooMany (s .n) (s .t)) 2 _ y ∙ sym (cond-yes (tooMany (s .n) (s .t)) 2 _ y)))
+    (λ (y : tooMany (s .n) (s .t) ≡ true). ap (cond (outside 4 16 (s .n)) 1)
+    (cond-yes (tooMany (s .n) (s .t)) 2 _ y ∙ sym (cond-yes (tooMany (s .n) (s .t)) 2 _ y)))
     (λ (y : tooMany (s .n) (s .t) ≡ false).
     ⊎-elim
     (λ (z : outside 1 128 (s .k) ≡ true).
-    ap (λ (r : ℕ). cond (outside 4 16 (s .n)) 1 (cond (tooMany (s .n) (s .t)) 2 r)) (cond-yes (outside 1 128 (s .k)) 3 _ z ∙ sym (cond-yes (outside 1 128 (s .k)) 3 _ z)))
+    ap (λ (r : ℕ). cond (outside 4 16 (s .n)) 1 (cond (tooMany (s .n) (s .t)) 2 r))
+    (cond-yes (outside 1 128 (s .k)) 3 _ z ∙ sym (cond-yes (outside 1 128 (s .k)) 3 _ z)))
     (λ (z : outside 1 128 (s .k) ≡ false). ap (refusalOf Start s own) (h (coded s own a x y z)))
     (either (outside 1 128 (s .k))))
     (either (tooMany (s .n) (s .t))))

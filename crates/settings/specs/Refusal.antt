@@ -1,8 +1,8 @@
 -- The refusal table, rows 1 to 6 (document 01, 'Turned down').
 --   outside low high x    x is outside low .. high
 --   tooMany n t           row 2
---   broken s i fits row   whether the settings s and a controller's number i (its own, or that of a piece) break the row; fits says that each
---                         lent length is exactly the stated one
+--   broken s i fits row   whether the settings s and a controller's number i (its own, or that of a piece) break the row; fits says that each lent
+--                         length is exactly the stated one
 --   tried e               the rows that an entry point tries, in their order
 --   firstOf p rows        the first of the rows that passes p; 0 where none does
 --   refusalOf e s i fits  the number returned: the first row tried that is broken, or 0

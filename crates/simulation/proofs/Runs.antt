@@ -106,10 +106,12 @@ module _ (s : Settings) (block : List ℕ) (faulty faulty′ : ℕ → Bool) (sa
   other : Scenario
   other = record { settings = s; block = block; faulty = faulty′; said = said′ }
 
-  slot-alike : (c : ℕ) (now : ℕ → Playing) (i j : ℕ) → 1 ≤ c → c ≤ 3 * s .t + 8 → 1 ≤ i → i ≤ s .n → 1 ≤ j → j ≤ s .n → slotTo one c now i j ≡ slotTo other c now i j
+  slot-alike : (c : ℕ) (now : ℕ → Playing) (i j : ℕ) → 1 ≤ c → c ≤ 3 * s .t + 8 → 1 ≤ i → i ≤ s .n → 1 ≤ j → j ≤ s .n
+      → slotTo one c now i j ≡ slotTo other c now i j
   unfolding slotTo one other
   slot-alike c now i j a b d e f g =
-      ap₂ (λ (x : Bool) (m : List ℕ). cond x (written (roundLayout (s .n) (s .t) (s .k) c) (sentAs m)) (slotOf (now j .outbox) (roundLayout (s .n) (s .t) (s .k) c) i))
+      ap₂ (λ (x : Bool) (m : List ℕ). cond x (written (roundLayout (s .n) (s .t) (s .k) c) (sentAs m))
+      (slotOf (now j .outbox) (roundLayout (s .n) (s .t) (s .k) c) i))
       (same-faulty j f g) (same-said c j i a b f g d e)
 
   inbox-alike : (c : ℕ) (now : ℕ → Playing) (i : ℕ) → c ≤ 3 * s .t + 8 → 1 ≤ i → i ≤ s .n → inboxOf one c now i ≡ inboxOf other c now i
@@ -123,7 +125,8 @@ module _ (s : Settings) (block : List ℕ) (faulty faulty′ : ℕ → Bool) (sa
   unfolding called outboxOf one other
   called-alike c now i b d e =
       let q = inbox-alike c now i b d e in
-      (λ x. let a = stepOf (now i .state) (now i .block) (q x) (outboxOf one (c + 1)) in record { state = a .answer .state; block = a .block; outbox = a .outbox })
+      (λ x. let a = stepOf (now i .state) (now i .block) (q x)
+      (outboxOf one (c + 1)) in record { state = a .answer .state; block = a .block; outbox = a .outbox })
 
   alike : (c i : ℕ) → c ≤ 3 * s .t + 9 → 1 ≤ i → i ≤ s .n → played one c i ≡ played other c i
   unfolding one other began
@@ -134,7 +137,8 @@ module _ (s : Settings) (block : List ℕ) (faulty faulty′ : ℕ → Bool) (sa
       played-faulty one c i y ∙ alike c i (omega arith) d e ∙ sym (played-faulty other c i (sym (same-faulty i d e) ∙ y)))
       (λ (y : faulty i ≡ false).
       played-correct one c i y
-      ∙ called-ext one c (played one c) (played other c) i (ap (λ (p : Playing). p .state) (alike c i (omega arith) d e)) (ap (λ (p : Playing). p .block) (alike c i (omega arith) d e))
+      ∙ called-ext one c (played one c) (played other c) i (ap (λ (p : Playing). p .state) (alike c i (omega arith) d e))
+      (ap (λ (p : Playing). p .block) (alike c i (omega arith) d e))
       (λ j f g _. ap (λ (p : Playing). p .outbox) (alike c j (omega arith) f g))
       ∙ called-alike c (played other c) i (omega arith) d e
       ∙ sym (played-correct other c i (sym (same-faulty i d e) ∙ y)))

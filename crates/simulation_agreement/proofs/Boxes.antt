@@ -22,7 +22,8 @@ use Rattle.wire.specs.Slot.{width, slotOf}
 use Rattle.wire.proofs.Laws.{length-pos, outbox-is, inbox-is, first-inbox, Sized, sized-silence, sized-bytes, content, written-each, slot-is, length-slot}
 use Rattle.protocol.specs.Step.{After, stepOf}
 use Rattle.simulation.specs.Run.{layoutAt, Scenario, Proper, Playing, sentAs, slotTo, inboxOf, outboxOf, played}
-use Rattle.simulation.proofs.Laws.{began-is, called-is, inbox-first, inbox-later, slot-faulty, slot-correct, cleared, played-start, played-correct, played-faulty}
+use Rattle.simulation.proofs.Laws.{began-is, called-is, inbox-first, inbox-later, slot-faulty, slot-correct, cleared, played-start, played-correct}
+use Rattle.simulation.proofs.Laws.{played-faulty}
 use Rattle.simulation_agreement.proofs.Bytes.{IsBytes, Byte, zeros-bytes, bytes-step}
 
 -- ---- slots
@@ -59,7 +60,9 @@ module _ (F : Scenario) (p : Proper F) where
 
   -- an outbox is lent cleared
   pub lent-bytes : (c : ℕ) → IsBytes (outboxLength (F .settings .n) (F .settings .t) (F .settings .k) c) (outboxOf F c)
-  lent-bytes c = subst (IsBytes (outboxLength (F .settings .n) (F .settings .t) (F .settings .k) c)) (sym (cleared F c)) (zeros-bytes (outboxLength (F .settings .n) (F .settings .t) (F .settings .k) c))
+  lent-bytes c =
+      subst (IsBytes (outboxLength (F .settings .n) (F .settings .t) (F .settings .k) c)) (sym (cleared F c))
+      (zeros-bytes (outboxLength (F .settings .n) (F .settings .t) (F .settings .k) c))
 
   -- block and outbox of a controller after c calls
   pub record HoldsBytes (c i : ℕ) : Type 0 where
@@ -81,14 +84,16 @@ module _ (F : Scenario) (p : Proper F) where
       → IsBytes (length (played F c i .block)) (after c i .block) × IsBytes (length (outboxOf F (c + 1))) (after c i .outbox)
   unfolding after
   after-bytes c i h g =
-      bytes-step (played F c i .state) (played F c i .block) (inboxOf F c (played F c) i) (outboxOf F (c + 1)) h (box-bytes c (played F c) g i) (lent-bytes (c + 1) .bytes)
+      bytes-step (played F c i .state) (played F c i .block) (inboxOf F c (played F c) i) (outboxOf F (c + 1)) h (box-bytes c (played F c) g i)
+      (lent-bytes (c + 1) .bytes)
 
   pub holds-bytes : (c i : ℕ) → HoldsBytes c i
   unfolding taken
   holds-bytes zero i =
       let e = played-start F i ∙ began-is F i in
       record {
-        block-is = subst (λ (x : Playing). IsBytes (blockLength (F .settings .k) (F .settings .t)) (x .block)) (sym e) (record { size = p .block-length; bytes = p .block-bytes });
+        block-is = subst (λ (x : Playing). IsBytes (blockLength (F .settings .k) (F .settings .t)) (x .block)) (sym e)
+            (record { size = p .block-length; bytes = p .block-bytes });
         sends = subst (λ (x : Playing). Bytes (x .outbox)) (sym e) (λ x. lit< tt);
       }
   holds-bytes (suc c) i =
@@ -127,7 +132,8 @@ module _ (F : Scenario) (p : Proper F) where
   some-length : (c : ℕ) → suc c ≤ 3 * F .settings .t + 8 → 1 ≤ layoutAt F (suc c) .length
   some-length c l = length-pos (p .coded) (suc c) (omega arith) l
 
-  slot-size : (c i j : ℕ) → suc c ≤ 3 * F .settings .t + 8 → Numbered (F .settings .n) i → length (slotTo F (suc c) (played F (suc c)) i j) ≡ width (layoutAt F (suc c))
+  slot-size : (c i j : ℕ) → suc c ≤ 3 * F .settings .t + 8 → Numbered (F .settings .n) i
+      → length (slotTo F (suc c) (played F (suc c)) i j) ≡ width (layoutAt F (suc c))
   slot-size c i j l v =
       ⊎-elim
       (λ (y : F .faulty j ≡ true).
@@ -140,7 +146,8 @@ module _ (F : Scenario) (p : Proper F) where
       (mul-le-mul-right (width (layoutAt F (suc c))) (v .most))))
       (either (F .faulty j))
 
-  pub inbox-size : (c i : ℕ) → c ≤ 3 * F .settings .t + 8 → Numbered (F .settings .n) i → length (inboxOf F c (played F c) i) ≡ inboxLength (F .settings .n) (F .settings .t) (F .settings .k) (c + 1)
+  pub inbox-size : (c i : ℕ) → c ≤ 3 * F .settings .t + 8 → Numbered (F .settings .n) i
+      → length (inboxOf F c (played F c) i) ≡ inboxLength (F .settings .n) (F .settings .t) (F .settings .k) (c + 1)
   inbox-size zero i l v = ap length (inbox-first F (played F 0) i) ∙ sym (first-inbox (F .settings .n) (F .settings .t) (F .settings .k))
   inbox-size (suc c) i l v =
       ap length (inbox-later F c (played F (suc c)) i)
@@ -156,5 +163,6 @@ module _ (F : Scenario) (p : Proper F) where
       let e : i - 1 + 1 ≡ i = omega arith in
       slot-is (inboxOf F (suc c) (played F (suc c)) j) (layoutAt F (suc c)) i
       ∙ ap (λ (x : List ℕ). part (width (layoutAt F (suc c))) x (i - 1)) (inbox-later F c (played F (suc c)) j)
-      ∙ part-joined (width (layoutAt F (suc c))) (λ x. slotTo F (suc c) (played F (suc c)) j (x + 1)) (F .settings .n) (λ x d. slot-size c j (x + 1) l w) (i - 1) (omega arith)
+      ∙ part-joined (width (layoutAt F (suc c))) (λ x. slotTo F (suc c) (played F (suc c)) j (x + 1)) (F .settings .n) (λ x d. slot-size c j (x + 1) l w)
+      (i - 1) (omega arith)
       ∙ ap (slotTo F (suc c) (played F (suc c)) j) e

@@ -20,6 +20,7 @@ one-output input c e few =
           simulated-right input c e
           ∙ output-is F
           ∙ ap (λ (l : List ℕ). namesLine ++ l)
-          (results-alike (isFaulty (c .messages)) (isFaulty (c .messages)) (λ i. ended F i .state .outcome) (λ _. r .outcome) (λ i. ended F i .block) (λ _. r .block) (c .settings .n) (λ i l m. refl) (r .all));
+          (results-alike (isFaulty (c .messages)) (isFaulty (c .messages)) (λ i. ended F i .state .outcome) (λ _. r .outcome) (λ i. ended F i .block)
+          (λ _. r .block) (c .settings .n) (λ i l m. refl) (r .all));
       sender-agreed = r .sender-agreed;
     }

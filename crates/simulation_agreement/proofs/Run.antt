@@ -80,7 +80,8 @@ module _ (F : Scenario) (p : Proper F) (i : ℕ) (v : Numbered (F .settings .n) 
         next-least = omega arith;
         next-most = omega (arith, ap (λ (x : Settings). x .t) (a .settings-is));
         block-length = holds-bytes F p c i .block-is .size ∙ sym (λ x. blockLength (a .settings-is x .k) (a .settings-is x .t));
-        inbox-length = inbox-size F p c i (omega arith) v ∙ sym (λ x. inboxLength (a .settings-is x .n) (a .settings-is x .t) (a .settings-is x .k) (a .next-is x));
+        inbox-length = inbox-size F p c i (omega arith) v ∙ sym
+            (λ x. inboxLength (a .settings-is x .n) (a .settings-is x .t) (a .settings-is x .k) (a .next-is x));
         outbox-length = lent-bytes F p (c + 1) .size ∙ sym (λ x. outboxLength (a .settings-is x .n) (a .settings-is x .t) (a .settings-is x .k) (a .next-is x));
       })
 

@@ -24,7 +24,8 @@ calls-made (suc d) h l g =
     ap (calls (h 0)) (tabulate-front l d)
     ∙ cond-yes (carriedOut (h 0) (l 0)) (made (h 0) (l 0) ∷ calls (left (h 0) (l 0)) rest) (calls (left (h 0) (l 0)) rest) (first .out)
     ∙ ap (λ (y : Local). made (h 0) (l 0) ∷ calls y rest) (first .next)
-    ∙ ap (λ (m : List Made). made (h 0) (l 0) ∷ m) (calls-made d (λ x. h (suc x)) (λ x. l (suc x)) (λ x b. let q = g (suc x) (omega arith) in record { next = q .next; out = q .out }))
+    ∙ ap (λ (m : List Made). made (h 0) (l 0) ∷ m)
+    (calls-made d (λ x. h (suc x)) (λ x. l (suc x)) (λ x b. let q = g (suc x) (omega arith) in record { next = q .next; out = q .out }))
     ∙ sym (tabulate-front (λ x. made (h x) (l x)) d)
 
 pub ends-with : (d : ℕ) (h : ℕ → Local) (l : ℕ → Lent) → ((x : ℕ) → x < d → Goes h l x) → leftAfter (h 0) (tabulate l d) ≡ h d

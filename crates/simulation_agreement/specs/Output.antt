@@ -1,8 +1,8 @@
 -- What demand 3 says of the simulator's output (document 01, 'The house program': who stands under `from` is faulty; one line for each of the
 -- others).
---   OneOutput input c      for the file `input`, which says c: the lines of the correct controllers differ in their numbers only; if the sender
---                          is correct, they say agreed and the block that the file gives
---   SimulatorAgrees        a file that has its form and has at most t faulty controllers has one output
+--   OneOutput input c  for the file `input`, which says c: the lines of the correct controllers differ in their numbers only; if the sender is correct,
+--                      they say agreed and the block that the file gives
+--   SimulatorAgrees    a file that has its form and has at most t faulty controllers has one output
 use mathlib.Core.Path.{_≡_}
 use mathlib.Core.Bool.{false}
 use mathlib.Core.List.{List, _++_}

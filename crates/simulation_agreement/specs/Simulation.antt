@@ -1,7 +1,7 @@
 -- What demand 3 says of a simulated run (document 01, 'The house program': the others follow the steps).
---   Tolerated F        at most t controllers are faulty
---   OneResult F        the correct controllers end with one outcome and one block; if the sender is correct, with agreed and its block
---   SimulationAgrees   a run of a proper scenario with at most t faulty controllers has one result
+--   Tolerated F       at most t controllers are faulty
+--   OneResult F       the correct controllers end with one outcome and one block; if the sender is correct, with agreed and its block
+--   SimulationAgrees  a run of a proper scenario with at most t faulty controllers has one result
 use mathlib.Core.Path.{_≡_}
 use mathlib.Core.Bool.{false}
 use mathlib.Core.List.{List}

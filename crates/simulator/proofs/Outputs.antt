@@ -74,12 +74,15 @@ table-output input c e =
     → textOf input (messageLength (c .settings .n) (c .settings .t) (c .settings .k) r) (placeIn (tableOf (c .messages)) r f j) ≡ saidOf input c r f j =
     λ r f j a b d g h k.
     ap (textOf input (messageLength (c .settings .n) (c .settings .t) (c .settings .k) r))
-    (table-place (c .messages) r f j a (omega (arith, few, q .coded .quorum .t-most)) d (omega (arith, few)) h (omega (arith, few))) ∙ sym (said-is input c r f j) in
+    (table-place (c .messages) r f j a (omega (arith, few, q .coded .quorum .t-most)) d (omega (arith, few)) h (omega (arith, few)))
+    ∙ sym (said-is input c r f j) in
     let same : (i : ℕ) → 1 ≤ i → i ≤ c .settings .n → ended T i ≡ ended F i =
     λ i a b. played-alike (c .settings) (c .block) (λ j. member set (j - 1)) (isFaulty (c .messages))
-    (λ r f j. textOf input (messageLength (c .settings .n) (c .settings .t) (c .settings .k) r) (placeIn (tableOf (c .messages)) r f j)) (saidOf input c) faulty said (3 * c .settings .t + 9) i (omega arith) a b in
+    (λ r f j. textOf input (messageLength (c .settings .n) (c .settings .t) (c .settings .k) r) (placeIn (tableOf (c .messages)) r f j))
+    (saidOf input c) faulty said (3 * c .settings .t + 9) i (omega arith) a b in
     output-is T
     ∙ ap (λ (l : List ℕ). namesLine ++ l)
-    (results-alike (λ j. member set (j - 1)) (isFaulty (c .messages)) (λ i. ended T i .state .outcome) (λ i. ended F i .state .outcome) (λ i. ended T i .block) (λ i. ended F i .block) (c .settings .n) faulty
+    (results-alike (λ j. member set (j - 1)) (isFaulty (c .messages)) (λ i. ended T i .state .outcome) (λ i. ended F i .state .outcome)
+    (λ i. ended T i .block) (λ i. ended F i .block) (c .settings .n) faulty
     (λ i a b _. (ap (λ (p : Playing). p .state .outcome) (same i a b), ap (λ (p : Playing). p .block) (same i a b))))
     ∙ sym (output-is F)

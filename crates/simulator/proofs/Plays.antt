@@ -41,7 +41,12 @@ playable-calling input places S c blocks₀ blocks sent sending v rooms room sam
       blocks-room = omega (arith, room, same);
       sent-room = omega (arith, is-sent, mul-le-mul {n₁ = S .n} {m₁ = inboxLength (S .n) (S .t) (S .k) (c + 1)} {n₂ = 16} {m₂ = 3088} few (inbox-le v c most));
       sent-most = omega (arith, is-sent);
-      sending-room = omega (arith, is-sending, mul-le-mul {n₁ = S .n} {m₁ = outboxLength (S .n) (S .t) (S .k) (c + 1)} {n₂ = 16} {m₂ = 3088} few (outbox-le v (c + 1) (omega arith) (omega arith)));
+      sending-room = omega (
+        arith,
+        is-sending,
+        mul-le-mul {n₁ = S .n} {m₁ = outboxLength (S .n) (S .t) (S .k) (c + 1)} {n₂ = 16} {m₂ = 3088} few
+            (outbox-le v (c + 1) (omega arith) (omega arith)),
+      );
     }
 
 module _ (S : Settings) (block : List ℕ) (faulty : ℕ) (places input : List ℕ) (v : FileSettings S) where
@@ -68,25 +73,28 @@ module _ (S : Settings) (block : List ℕ) (faulty : ℕ) (places input : List �
 
     -- one call more
     pub held-next : (sent′ : List ℕ) → sent′ ≡ sending
-        → AfterCalls (tableScenario S block faulty places input) (c + 1) next blocks′ (blockLength (S .k) (S .t)) sent′ (inboxLength (S .n) (S .t) (S .k) (c + 1 + 1))
+        → AfterCalls (tableScenario S block faulty places input) (c + 1) next blocks′ (blockLength (S .k) (S .t)) sent′
+        (inboxLength (S .n) (S .t) (S .k) (c + 1 + 1))
     unfolding F now after
-    held-next sent′ is-sent = subst (λ (d : ℕ). AfterCalls F d next blocks′ (blockLength (S .k) (S .t)) sent′ (inboxLength (S .n) (S .t) (S .k) (c + 1 + 1))) (sym (add-one c)) (record {
-      state = λ i a b. ⊎-elim
-          (λ (f : member faulty (i - 1) ≡ true).
-          C .state i a b f ∙ H .state i a b ∙ ap (λ (p : Playing). p .state) (sym (played-faulty F c i f)))
-          (λ (f : member faulty (i - 1) ≡ false). ap (λ (p : Playing). p .state) (correct-is i a b f))
-          (either (member faulty (i - 1)));
-      block = λ i a b. ⊎-elim
-          (λ (f : member faulty (i - 1) ≡ true).
-          C .block i a b f ∙ H .block i a b ∙ ap (λ (p : Playing). p .block) (sym (played-faulty F c i f)))
-          (λ (f : member faulty (i - 1) ≡ false). ap (λ (p : Playing). p .block) (correct-is i a b f))
-          (either (member faulty (i - 1)));
-      outbox = λ i a b l f.
-          let pos = length-pos (v .coded) (c + 1) (omega arith) (omega arith) in
-          ap (λ (x : List ℕ). part (inboxLength (S .n) (S .t) (S .k) (c + 1 + 1)) x (i - 1)) is-sent
-          ∙ ap (λ (w : ℕ). part w sending (i - 1)) (inbox-is (S .n) (S .t) (S .k) (c + 1) pos ∙ sym (outbox-is (S .n) (S .t) (S .k) (c + 1) pos))
-          ∙ ap (λ (p : Playing). p .outbox) (correct-is i a b f);
-    })
+    held-next sent′ is-sent =
+        subst (λ (d : ℕ). AfterCalls F d next blocks′ (blockLength (S .k) (S .t)) sent′ (inboxLength (S .n) (S .t) (S .k) (c + 1 + 1))) (sym (add-one c))
+        (record {
+          state = λ i a b. ⊎-elim
+              (λ (f : member faulty (i - 1) ≡ true).
+              C .state i a b f ∙ H .state i a b ∙ ap (λ (p : Playing). p .state) (sym (played-faulty F c i f)))
+              (λ (f : member faulty (i - 1) ≡ false). ap (λ (p : Playing). p .state) (correct-is i a b f))
+              (either (member faulty (i - 1)));
+          block = λ i a b. ⊎-elim
+              (λ (f : member faulty (i - 1) ≡ true).
+              C .block i a b f ∙ H .block i a b ∙ ap (λ (p : Playing). p .block) (sym (played-faulty F c i f)))
+              (λ (f : member faulty (i - 1) ≡ false). ap (λ (p : Playing). p .block) (correct-is i a b f))
+              (either (member faulty (i - 1)));
+          outbox = λ i a b l f.
+              let pos = length-pos (v .coded) (c + 1) (omega arith) (omega arith) in
+              ap (λ (x : List ℕ). part (inboxLength (S .n) (S .t) (S .k) (c + 1 + 1)) x (i - 1)) is-sent
+              ∙ ap (λ (w : ℕ). part w sending (i - 1)) (inbox-is (S .n) (S .t) (S .k) (c + 1) pos ∙ sym (outbox-is (S .n) (S .t) (S .k) (c + 1) pos))
+              ∙ ap (λ (p : Playing). p .outbox) (correct-is i a b f);
+        })
 
 -- ---- what the run begins with
 -- block i was copied behind the others
@@ -97,17 +105,22 @@ module _ (n i : ℕ) (block blocks v : List ℕ) (l : i < n) (room : n * length 
       (sym (lent-length (length block) blocks i (omega (arith, slot-within n (length block) i l))))
 
   pub blocks-turn : ((x : ℕ) → x < i → part (length block) blocks x ≡ block) → (x : ℕ) → x < i + 1
-      → part (length block) (take (i * length block) blocks ++ (v ++ drop (i * length block + length block - i * length block) (drop (i * length block) blocks))) x ≡ block
+      → part (length block) (take (i * length block)
+      blocks ++ (v ++ drop (i * length block + length block - i * length block) (drop (i * length block) blocks))) x ≡ block
   blocks-turn h x g =
       ⊎-elim
       (λ (e : x ≡ i).
-      ap (part (length block) (take (i * length block) blocks ++ (v ++ drop (i * length block + length block - i * length block) (drop (i * length block) blocks)))) e
+      ap (part (length block) (take (i * length block)
+      blocks ++ (v ++ drop (i * length block + length block - i * length block) (drop (i * length block) blocks)))) e
       ∙ part-put-same (length block) blocks v n i l room (ap length copied-is) ∙ copied-is)
       (λ (d : x < i). part-put-other (length block) blocks v n i l room (ap length copied-is) x (λ e. omega arith) ∙ h x d)
       (below-suc (omega arith))
 
-  pub blocks-kept : length (take (i * length block) blocks ++ (v ++ drop (i * length block + length block - i * length block) (drop (i * length block) blocks))) ≡ length blocks
-  blocks-kept = length-put blocks v (i * length block) (i * length block + length block) (omega arith) (omega (arith, slot-within n (length block) i l)) (ap length copied-is ∙ omega arith)
+  pub blocks-kept : length (take (i * length block)
+      blocks ++ (v ++ drop (i * length block + length block - i * length block) (drop (i * length block) blocks))) ≡ length blocks
+  blocks-kept =
+      length-put blocks v (i * length block) (i * length block + length block) (omega arith) (omega (arith, slot-within n (length block) i l))
+      (ap length copied-is ∙ omega arith)
 
 -- the states that start returns
 pub first-state : (S : Settings) (block : List ℕ) (s : State) → s ≡ startOf S 1 (length block) .state → (x : ℕ) → x < 1
@@ -122,6 +135,7 @@ pub next-state : (S : Settings) (block : List ℕ) (states : List State) (i : �
 next-state S block states i s l e h x g =
     ⊎-elim
     (λ (q : x ≡ i).
-    ap (λ (y : ℕ). getD (set states i s) y zeroState) q ∙ getD-set-same states i s zeroState l ∙ e ∙ ap (λ (y : ℕ). startOf S (y + 1) (length block) .state) (sym q))
+    ap (λ (y : ℕ). getD (set states i s) y zeroState) q ∙ getD-set-same states i s zeroState l ∙ e
+    ∙ ap (λ (y : ℕ). startOf S (y + 1) (length block) .state) (sym q))
     (λ (d : x < i). getD-set-other states i x s zeroState (λ q. omega arith) ∙ h x d)
     (below-suc (omega arith))

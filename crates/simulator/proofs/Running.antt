@@ -25,7 +25,9 @@ use Rattle.wire.specs.declared.Round.the-variants.{Block, Pieces, Marks, Matrix
 use Rattle.wire.specs.Round.{roundKind}
 use Rattle.wire.specs.Length.{blockLength, rowLength, messageLength, inboxLength, outboxLength}
 use Rattle.wire.specs.Slot.{width, slotOf, bytes, written, putSlot, relayed}
-use Rattle.wire.proofs.Laws.{width-le, message-length-is, block-length-is, row-block, row-pieces, row-marks, row-matrix, row-seen, row-king, row-forward, row-rebuild, row-outside, length-pos, outbox-is, inbox-is, first-inbox, last-outbox, sized-bytes, length-slot, silent-slot, put-into, relay-into}
+use Rattle.wire.proofs.Laws.{width-le, message-length-is, block-length-is, row-block, row-pieces, row-marks, row-matrix, row-seen, row-king, row-forward}
+use Rattle.wire.proofs.Laws.{row-rebuild, row-outside, length-pos, outbox-is, inbox-is, first-inbox, last-outbox, sized-bytes, length-slot, silent-slot}
+use Rattle.wire.proofs.Laws.{put-into, relay-into}
 use Rattle.protocol.specs.declared.State.{State}
 use Rattle.system_file.specs.Table.{textOf, placeIn}
 use Rattle.system_file.proofs.Laws.{text-none, text-some}
@@ -35,7 +37,8 @@ use Rattle.simulator.specs.Steps.{layoutIn, FileSettings, Filling, Makin
 
 -- the digits of a message that stands in the file, read into m
 pub read-text : (input m : List ℕ) (len place : ℕ) → (place ≡ 0 → ⊥) → length m ≡ len → place + 2 * len ≤ length input
-    → take (length m) (bytesOf (take (place + 2 * len - place) (drop place input))) ++ drop (length (bytesOf (take (place + 2 * len - place) (drop place input)))) m
+    → take (length m) (bytesOf (take (place + 2 * len - place) (drop place input))) ++ drop
+    (length (bytesOf (take (place + 2 * len - place) (drop place input)))) m
     ≡ textOf input len place
 read-text input m len place some size room =
     let e : place + 2 * len - place ≡ 2 * len = omega arith in
@@ -117,7 +120,14 @@ module _ (input places : List ℕ) (faulty : ℕ) (S : Settings) (c i o : ℕ) (
 
   room-of : (x : ℕ) → x < S .n → i * width (layoutIn S c) ≤ length (part o sent x)
   room-of x l =
-      omega (arith, length-part o sent (S .n) x l (h .sent-room), h .outbox-is, slot-within (S .n) (width (layoutIn S c)) (i - 1) (omega (arith, h .number-least, h .number-most)), last-slot)
+      omega (
+        arith,
+        length-part o sent (S .n) x l (h .sent-room),
+        h .outbox-is,
+        slot-within (S .n) (width (layoutIn S c)) (i - 1)
+            (omega (arith, h .number-least, h .number-most)),
+        last-slot,
+      )
     where
       last-slot : (i - 1) * width (layoutIn S c) + width (layoutIn S c) ≡ i * width (layoutIn S c)
       last-slot =
@@ -158,7 +168,9 @@ module _ (input places : List ℕ) (faulty : ℕ) (S : Settings) (c i o : ℕ) (
 
     -- the turn of the loop
     turn : (inbox′ : List ℕ)
-        → inbox′ ≡ cond (member faulty j) (cond (eqb (placeIn places c (j + 1) i) 0) (filled j) (putSlot (filled j) (layoutIn S c) (j + 1) (textOf input (messageLength (S .n) (S .t) (S .k) c) (placeIn places c (j + 1) i))))
+        → inbox′ ≡ cond (member faulty j)
+        (cond (eqb (placeIn places c (j + 1) i) 0) (filled j)
+        (putSlot (filled j) (layoutIn S c) (j + 1) (textOf input (messageLength (S .n) (S .t) (S .k) c) (placeIn places c (j + 1) i))))
         (relayed (filled j) (layoutIn S c) (j + 1) (part o sent j) i)
         → inbox′ ≡ filled (j + 1)
     unfolding said
@@ -180,18 +192,21 @@ module _ (input places : List ℕ) (faulty : ℕ) (S : Settings) (c i o : ℕ) (
         (same-or-not (placeIn places c (j + 1) i) 0))
         (λ (f : member faulty j ≡ false).
         e ∙ cond-no (member faulty j) _ _ f
-        ∙ relay-into (layoutIn S c) (joined slot j) (zeros ((S .n - j) * width (layoutIn S c))) j front-is room-left (part o sent j) i (h .number-least) (room-of j l)
+        ∙ relay-into (layoutIn S c) (joined slot j) (zeros ((S .n - j) * width (layoutIn S c))) j front-is room-left (part o sent j) i (h .number-least)
+        (room-of j l)
         ∙ goes-on (slotOf (part o sent j) (layoutIn S c) i) (at-correct j f))
         (either (member faulty j))
 
-    pub fill-turn : (inbox inbox′ src : List ℕ) (layout : Layout) (place : ℕ) (b : Bool) → inbox ≡ filledTo input places faulty S c i o sent j → layout ≡ layoutIn S c
+    pub fill-turn : (inbox inbox′ src : List ℕ) (layout : Layout) (place : ℕ) (b : Bool) → inbox ≡ filledTo input places faulty S c i o sent j
+        → layout ≡ layoutIn S c
         → place ≡ placeIn places c (j + 1) i → b ≡ member faulty j → src ≡ part o sent j
         → inbox′ ≡ cond b (cond (eqb place 0) inbox (putSlot inbox layout (j + 1) (textOf input (layout .length) place))) (relayed inbox layout (j + 1) src i)
         → inbox′ ≡ filledTo input places faulty S c i o sent (j + 1)
     fill-turn inbox inbox′ src layout place b is-inbox is-layout is-place is-b is-src e =
         turn inbox′
         (e
-        ∙ (λ x. cond (is-b x) (cond (eqb (is-place x) 0) (is-inbox x) (putSlot (is-inbox x) (is-layout x) (j + 1) (textOf input (is-layout x .length) (is-place x))))
+        ∙ (λ x. cond (is-b x) (cond (eqb (is-place x) 0) (is-inbox x)
+        (putSlot (is-inbox x) (is-layout x) (j + 1) (textOf input (is-layout x .length) (is-place x))))
         (relayed (is-inbox x) (is-layout x) (j + 1) (is-src x) i)))
 
   pub fill-start : inbox₀ ≡ filledTo input places faulty S c i o sent 0
@@ -211,7 +226,8 @@ module _ (input places : List ℕ) (faulty : ℕ) (S : Settings) (c i o : ℕ) (
   fill-length j e =
       ap length (fill-all j e) ∙ length-joined (width (layoutIn S c)) slot (S .n) slot-size ∙ sym (h .outbox-is)
 
-  pub place-room : (j place len : ℕ) → len ≡ messageLength (S .n) (S .t) (S .k) c → place ≡ placeIn places c (j + 1) i → (place ≡ 0 → ⊥) → place + 2 * len ≤ length input
+  pub place-room : (j place len : ℕ) → len ≡ messageLength (S .n) (S .t) (S .k) c → place ≡ placeIn places c (j + 1) i → (place ≡ 0 → ⊥)
+      → place + 2 * len ≤ length input
   place-room j place len is-len is-place some =
       omega (arith, is-len, is-place, h .rooms .room c (j + 1) i (λ z. some (is-place ∙ z)))
 
@@ -230,10 +246,21 @@ small-row Outside n t k a b c = omega (arith, row-outside n t k)
 module _ {S : Settings} (v : FileSettings S) where
   pub message-le : (c : ℕ) → messageLength (S .n) (S .t) (S .k) c ≤ 192
   message-le c =
-      omega (arith, message-length-is (v .coded) c, small-row (roundKind (S .t) c) (S .n) (S .t) (S .k) (v .coded .quorum .n-most) (omega (arith, v .coded .quorum .t-most, v .coded .quorum .n-most)) (v .few-stripes))
+      omega (
+        arith,
+        message-length-is (v .coded) c,
+        small-row (roundKind (S .t) c) (S .n) (S .t) (S .k) (v .coded .quorum .n-most)
+            (omega (arith, v .coded .quorum .t-most, v .coded .quorum .n-most)) (v .few-stripes),
+      )
 
   pub block-le : blockLength (S .k) (S .t) ≤ 192
-  block-le = omega (arith, row-block (S .n) (S .t) (S .k), small-row Block (S .n) (S .t) (S .k) (v .coded .quorum .n-most) (omega (arith, v .coded .quorum .t-most, v .coded .quorum .n-most)) (v .few-stripes))
+  block-le =
+      omega (
+        arith,
+        row-block (S .n) (S .t) (S .k),
+        small-row Block (S .n) (S .t) (S .k) (v .coded .quorum .n-most)
+            (omega (arith, v .coded .quorum .t-most, v .coded .quorum .n-most)) (v .few-stripes),
+      )
 
   box-most : (layout : Layout) → layout .length ≤ 192 → S .n * width layout ≤ 3088
   box-most layout l =
@@ -253,7 +280,8 @@ module _ {S : Settings} (v : FileSettings S) where
       (same-or-not c (3 * S .t + 9))
 
 -- ---- the inbox of a call
-pub first-made : (F : Scenario) (now : ℕ → Playing) (c i : ℕ) (inbox : List ℕ) → c ≡ 0 → inbox ≡ zeros (inboxLength (F .settings .n) (F .settings .t) (F .settings .k) (c + 1)) → inbox ≡ inboxOf F c now i
+pub first-made : (F : Scenario) (now : ℕ → Playing) (c i : ℕ) (inbox : List ℕ) → c ≡ 0
+    → inbox ≡ zeros (inboxLength (F .settings .n) (F .settings .t) (F .settings .k) (c + 1)) → inbox ≡ inboxOf F c now i
 first-made F now c i inbox z e =
     e ∙ ap (λ (x : ℕ). zeros (inboxLength (F .settings .n) (F .settings .t) (F .settings .k) (x + 1))) z
     ∙ ap zeros (first-inbox (F .settings .n) (F .settings .t) (F .settings .k))

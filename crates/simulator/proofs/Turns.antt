@@ -23,7 +23,8 @@ use Rattle.simulation.proofs.Laws.{inbox-ext, called-is, cleared}
 use Rattle.simulator.specs.Steps.{Parted, Called, taken, tableScenario, sentBy, nowOf}
 
 -- the controllers before index i made their calls; the others, and the faulty ones, are as they were
-pub record Turned (F : Scenario) (faulty c : ℕ) (now : ℕ → Playing) (b o i : ℕ) (states next : List State) (blocks₀ blocks sending₀ sending : List ℕ) : Type 0 where
+pub record Turned (F : Scenario) (faulty c : ℕ) (now : ℕ → Playing) (b o i : ℕ) (states next : List State)
+    (blocks₀ blocks sending₀ sending : List ℕ) : Type 0 where
   pub next-length : length next ≡ length states
   pub blocks-length : length blocks ≡ length blocks₀
   pub sending-length : length sending ≡ length sending₀
@@ -47,7 +48,8 @@ turn-start F faulty c now b o i states blocks sending z = record {
 }
 
 module _ (S : Settings) (faulty c : ℕ) (places input : List ℕ) (states : List State) (blocks₀ sent sending₀ : List ℕ)
-    (few : S .n ≤ length states) (blocks-room : S .n * blockLength (S .k) (S .t) ≤ length blocks₀) (sending-room : S .n * outboxLength (S .n) (S .t) (S .k) (c + 1) ≤ length sending₀) where
+    (few : S .n ≤ length states) (blocks-room : S .n * blockLength (S .k) (S .t) ≤ length blocks₀)
+    (sending-room : S .n * outboxLength (S .n) (S .t) (S .k) (c + 1) ≤ length sending₀) where
   F : Scenario
   F = tableScenario S [] faulty places input
 
@@ -55,11 +57,13 @@ module _ (S : Settings) (faulty c : ℕ) (places input : List ℕ) (states : Lis
   now = nowOf states blocks₀ (blockLength (S .k) (S .t)) sent (inboxLength (S .n) (S .t) (S .k) (c + 1))
 
   module _ (i : ℕ) (l : i < S .n) (next : List State) (blocks sending : List ℕ)
-      (T : Turned (tableScenario S [] faulty places input) faulty c (nowOf states blocks₀ (blockLength (S .k) (S .t)) sent (inboxLength (S .n) (S .t) (S .k) (c + 1)))
+      (T : Turned (tableScenario S [] faulty places input) faulty c
+      (nowOf states blocks₀ (blockLength (S .k) (S .t)) sent (inboxLength (S .n) (S .t) (S .k) (c + 1)))
       (blockLength (S .k) (S .t)) (outboxLength (S .n) (S .t) (S .k) (c + 1)) i states next blocks₀ blocks sending₀ sending) where
     -- a faulty one stays
     pub turn-faulty : member faulty i ≡ true
-        → Turned (tableScenario S [] faulty places input) faulty c (nowOf states blocks₀ (blockLength (S .k) (S .t)) sent (inboxLength (S .n) (S .t) (S .k) (c + 1)))
+        → Turned (tableScenario S [] faulty places input) faulty c
+        (nowOf states blocks₀ (blockLength (S .k) (S .t)) sent (inboxLength (S .n) (S .t) (S .k) (c + 1)))
         (blockLength (S .k) (S .t)) (outboxLength (S .n) (S .t) (S .k) (c + 1)) (i + 1) states next blocks₀ blocks sending₀ sending
     turn-faulty f = record {
       next-length = T .next-length;
@@ -86,7 +90,8 @@ module _ (S : Settings) (faulty c : ℕ) (places input : List ℕ) (states : Lis
     -- a correct one makes its call
     module _ (s r : State) (blocks′ sending′ : List ℕ) (is-s : s ≡ getD next i zeroState) (f : member faulty i ≡ false)
         (P : Parted (blockLength (S .k) (S .t)) (outboxLength (S .n) (S .t) (S .k) (c + 1)) i s
-        (inboxOf (tableScenario S [] faulty places input) c (sentBy sent (inboxLength (S .n) (S .t) (S .k) (c + 1))) (i + 1)) blocks sending r blocks′ sending′) where
+        (inboxOf (tableScenario S [] faulty places input) c (sentBy sent (inboxLength (S .n) (S .t) (S .k) (c + 1))) (i + 1)) blocks sending r blocks′
+        sending′) where
       result-is : P .result ≡ called F c now (i + 1)
       unfolding F now
       result-is =
@@ -118,9 +123,12 @@ module _ (S : Settings) (faulty c : ℕ) (places input : List ℕ) (states : Lis
       sending-fit = omega (arith, T .sending-length, sending-room)
 
       block-other : (x : ℕ) → (x ≡ i → ⊥) → part (blockLength (S .k) (S .t)) blocks′ x ≡ part (blockLength (S .k) (S .t)) blocks x
-      block-other x d = ap (λ (y : List ℕ). part (blockLength (S .k) (S .t)) y x) (P .blocks-is) ∙ part-put-other (blockLength (S .k) (S .t)) blocks (P .result .block) (S .n) i l blocks-fit (P .block-length) x d
+      block-other x d =
+          ap (λ (y : List ℕ). part (blockLength (S .k) (S .t)) y x) (P .blocks-is)
+          ∙ part-put-other (blockLength (S .k) (S .t)) blocks (P .result .block) (S .n) i l blocks-fit (P .block-length) x d
 
-      outbox-other : (x : ℕ) → (x ≡ i → ⊥) → part (outboxLength (S .n) (S .t) (S .k) (c + 1)) sending′ x ≡ part (outboxLength (S .n) (S .t) (S .k) (c + 1)) sending x
+      outbox-other : (x : ℕ) → (x ≡ i → ⊥) → part (outboxLength (S .n) (S .t) (S .k) (c + 1)) sending′ x ≡ part (outboxLength (S .n) (S .t) (S .k) (c + 1))
+          sending x
       outbox-other x d =
           ap (λ (y : List ℕ). part (outboxLength (S .n) (S .t) (S .k) (c + 1)) y x) (P .sending-is)
           ∙ part-put-other (outboxLength (S .n) (S .t) (S .k) (c + 1)) sending (P .result .outbox) (S .n) i l sending-fit (P .outbox-length) x d
@@ -128,16 +136,20 @@ module _ (S : Settings) (faulty c : ℕ) (places input : List ℕ) (states : Lis
       state-other : (x : ℕ) → (x ≡ i → ⊥) → getD (set next i r) x zeroState ≡ getD next x zeroState
       state-other x d = getD-set-other next i x r zeroState d
 
-      put-long : (w : ℕ) (d v : List ℕ) → length v ≡ w → S .n * w ≤ length d → length (take (i * w) d ++ (v ++ drop (i * w + w - i * w) (drop (i * w) d))) ≡ length d
+      put-long : (w : ℕ) (d v : List ℕ) → length v ≡ w → S .n * w ≤ length d
+          → length (take (i * w) d ++ (v ++ drop (i * w + w - i * w) (drop (i * w) d))) ≡ length d
       put-long w d v e h = length-put d v (i * w) (i * w + w) (omega arith) (omega (arith, slot-within (S .n) w i l)) (e ∙ omega arith)
 
-      pub turn-correct : Turned (tableScenario S [] faulty places input) faulty c (nowOf states blocks₀ (blockLength (S .k) (S .t)) sent (inboxLength (S .n) (S .t) (S .k) (c + 1)))
+      pub turn-correct : Turned (tableScenario S [] faulty places input) faulty c
+          (nowOf states blocks₀ (blockLength (S .k) (S .t)) sent (inboxLength (S .n) (S .t) (S .k) (c + 1)))
           (blockLength (S .k) (S .t)) (outboxLength (S .n) (S .t) (S .k) (c + 1)) (i + 1) states (set next i r) blocks₀ blocks′ sending₀ sending′
       unfolding F now
       turn-correct = record {
         next-length = length-set next i r ∙ T .next-length;
-        blocks-length = ap length (P .blocks-is) ∙ put-long (blockLength (S .k) (S .t)) blocks (P .result .block) (P .block-length) blocks-fit ∙ T .blocks-length;
-        sending-length = ap length (P .sending-is) ∙ put-long (outboxLength (S .n) (S .t) (S .k) (c + 1)) sending (P .result .outbox) (P .outbox-length) sending-fit ∙ T .sending-length;
+        blocks-length = ap length (P .blocks-is) ∙ put-long (blockLength (S .k) (S .t)) blocks (P .result .block) (P .block-length) blocks-fit
+            ∙ T .blocks-length;
+        sending-length = ap length (P .sending-is) ∙ put-long (outboxLength (S .n) (S .t) (S .k) (c + 1)) sending (P .result .outbox) (P .outbox-length)
+            sending-fit ∙ T .sending-length;
         state = λ x h g. ⊎-elim
             (λ (e : x ≡ i).
             ap (λ (y : ℕ). getD (set next i r) y zeroState) e ∙ getD-set-same next i r zeroState (omega (arith, T .next-length, few)) ∙ P .state
@@ -153,7 +165,8 @@ module _ (S : Settings) (faulty c : ℕ) (places input : List ℕ) (states : Lis
             (below-suc (omega arith));
         outbox = λ x h g. ⊎-elim
             (λ (e : x ≡ i).
-            ap (part (outboxLength (S .n) (S .t) (S .k) (c + 1)) sending′) e ∙ ap (λ (y : List ℕ). part (outboxLength (S .n) (S .t) (S .k) (c + 1)) y i) (P .sending-is)
+            ap (part (outboxLength (S .n) (S .t) (S .k) (c + 1)) sending′) e
+            ∙ ap (λ (y : List ℕ). part (outboxLength (S .n) (S .t) (S .k) (c + 1)) y i) (P .sending-is)
             ∙ part-put-same (outboxLength (S .n) (S .t) (S .k) (c + 1)) sending (P .result .outbox) (S .n) i l sending-fit (P .outbox-length)
             ∙ ap (λ (p : Playing). p .outbox) result-is ∙ ap (λ (y : ℕ). called F c now (y + 1) .outbox) (sym e))
             (λ (d : x < i). outbox-other x (other x d) ∙ T .outbox x d g)
@@ -163,7 +176,8 @@ module _ (S : Settings) (faulty c : ℕ) (places input : List ℕ) (states : Lis
       }
 
   pub turned-called : (i : ℕ) (next : List State) (blocks sending : List ℕ) → i ≡ S .n
-      → Turned (tableScenario S [] faulty places input) faulty c (nowOf states blocks₀ (blockLength (S .k) (S .t)) sent (inboxLength (S .n) (S .t) (S .k) (c + 1)))
+      → Turned (tableScenario S [] faulty places input) faulty c
+      (nowOf states blocks₀ (blockLength (S .k) (S .t)) sent (inboxLength (S .n) (S .t) (S .k) (c + 1)))
       (blockLength (S .k) (S .t)) (outboxLength (S .n) (S .t) (S .k) (c + 1)) i states next blocks₀ blocks sending₀ sending
       → Called (tableScenario S [] faulty places input) c (nowOf states blocks₀ (blockLength (S .k) (S .t)) sent (inboxLength (S .n) (S .t) (S .k) (c + 1)))
       (nowOf next blocks (blockLength (S .k) (S .t)) sending (outboxLength (S .n) (S .t) (S .k) (c + 1)))

@@ -47,7 +47,8 @@ module _ {input places : List ℕ} {S : Settings} {block blocks sent sending out
   }
 
 -- what the run begins with
-pub held-start : (S : Settings) (block : List ℕ) (faulty : ℕ) (places input : List ℕ) (states : List State) (blocks sent : List ℕ) → length block ≡ blockLength (S .k) (S .t)
+pub held-start : (S : Settings) (block : List ℕ) (faulty : ℕ) (places input : List ℕ) (states : List State) (blocks sent : List ℕ)
+    → length block ≡ blockLength (S .k) (S .t)
     → ((x : ℕ) → x < S .n → getD states x zeroState ≡ startOf S (x + 1) (length block) .state)
     → ((x : ℕ) → x < S .n → part (length block) blocks x ≡ block)
     → AfterCalls (tableScenario S block faulty places input) 0 states blocks (blockLength (S .k) (S .t)) sent (inboxLength (S .n) (S .t) (S .k) 1)
@@ -64,7 +65,8 @@ held-start S block faulty places input states blocks sent size s b =
     }
 
 -- what it ends with
-pub held-output : (S : Settings) (block : List ℕ) (faulty : ℕ) (places input : List ℕ) (states : List State) (blocks : List ℕ) (b : ℕ) (sent : List ℕ) (o : ℕ) → b ≡ blockLength (S .k) (S .t)
+pub held-output : (S : Settings) (block : List ℕ) (faulty : ℕ) (places input : List ℕ) (states : List State) (blocks : List ℕ) (b : ℕ) (sent : List ℕ) (o : ℕ)
+    → b ≡ blockLength (S .k) (S .t)
     → AfterCalls (tableScenario S block faulty places input) (3 * S .t + 9) states blocks (blockLength (S .k) (S .t)) sent o
     → namesLine ++ results (λ i. member faulty (i - 1)) (λ i. getD states (i - 1) zeroState .outcome) (λ i. part b blocks (i - 1)) (S .n)
     ≡ outputOf (tableScenario S block faulty places input)
@@ -85,7 +87,8 @@ cleared-wrote {out} {s} {out′} {r} e w = zeros-wrote 6400 (subst (λ (o : List
 pub record FileRun (input : List ℕ) (file : SystemFile) (b : ℕ) : Type 0 where
   pub block-le : b ≤ length (file .block)
   pub block-long : length (take b (file .block)) ≡ b
-  pub runnable : Runnable input (file .places) (file .settings) (take b (file .block)) (replicate 3072 0) (replicate 49408 0) (replicate 49408 0) (replicate 6400 0)
+  pub runnable : Runnable input (file .places) (file .settings) (take b (file .block)) (replicate 3072 0) (replicate 49408 0) (replicate 49408 0)
+      (replicate 6400 0)
   pub output : outputOf (tableScenario (file .settings) (take b (file .block)) (file .faulty) (file .places) input) ≡ simulated input
 
 module _ (input : List ℕ) (c : Contents) (e : readOf input ≡ right c) (b : ℕ) (is-b : b ≡ blockSize (c .settings .n) (c .settings .t) (c .settings .k)) where
@@ -122,7 +125,8 @@ module _ (input : List ℕ) (c : Contents) (e : readOf input ≡ right c) (b : �
         ∙ table-output input c e ∙ sym (simulated-right input c e);
   }
 
-pub file-run : (input : List ℕ) (file : SystemFile) (b : ℕ) → file ≡ fileOf (readOf input) → file .form ≡ Right → b ≡ blockSize (file .settings .n) (file .settings .t) (file .settings .k) → FileRun input file b
+pub file-run : (input : List ℕ) (file : SystemFile) (b : ℕ) → file ≡ fileOf (readOf input) → file .form ≡ Right
+    → b ≡ blockSize (file .settings .n) (file .settings .t) (file .settings .k) → FileRun input file b
 file-run input file b is form is-b =
     let q = file-right (readOf input) (ap (λ (f : SystemFile). f .form) (sym is) ∙ form) in
     let i : file ≡ fileOf (right (q .0)) = is ∙ ap fileOf (q .1) in

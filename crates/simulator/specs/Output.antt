@@ -1,13 +1,13 @@
 -- What the simulator writes (document 01, 'The house program'): for a file that has its form a line of names, then one line for each correct
 -- controller, in rising order; for any other file one line that says which line is wrong.
---   namesLine              controller,outcome,block
---   resultLine i w b       number, outcome, block
---   results faulty w b n   the lines of the correct ones among 1 .. n; w and b have the outcome and the block of each
---   outputOf F             the output for a scenario
---   badLine x              the output for a file whose first wrong line is x
---   scenarioOf input c     what the simulator plays for a file
---   writtenFor input r     the output for what was read
---   simulated input        the output for a file: the simulator's definition
+--   namesLine             controller,outcome,block
+--   resultLine i w b      number, outcome, block
+--   results faulty w b n  the lines of the correct ones among 1 .. n; w and b have the outcome and the block of each
+--   outputOf F            the output for a scenario
+--   badLine x             the output for a file whose first wrong line is x
+--   scenarioOf input c    what the simulator plays for a file
+--   writtenFor input r    the output for what was read
+--   simulated input       the output for a file: the simulator's definition
 use mathlib.Core.Bool.{Bool, cond}
 use mathlib.Core.List.{List, [], _∷_, _++_}
 use Prim.Native.Nat.{ℕ, zero, suc}

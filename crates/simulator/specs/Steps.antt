@@ -1,22 +1,22 @@
 -- For the contracts of private functions; a reader of the public contracts needs none of it.
---   layoutIn S c               the layout of the slots of round c
---   FileSettings S                    the settings of a system file
---   Rooms input len places     each message of the table stands in the file
---   Filling ..                 what filling an inbox finds: lengths, and a cleared inbox
---   putPart w l i y            l with part i, counted from 0, replaced by y
---   tableScenario ..           the scenario of the table that the reader answers
---   sentBy sent o              what each sent, as the code keeps it: outboxes of o bytes one behind the other
---   nowOf ..                   what each controller holds, as the code keeps it: states, and blocks and outboxes one behind the other
---   Making ..                  what making an inbox finds
---   Calling ..                 what a call finds: settings, lengths, and messages that stand in the file
---   taken a                    what is held after a step
---   Parted ..                  a step of one controller, whose block and outbox stand among those of all
---   Called F c now ..          each correct controller made call c + 1, and the others stay
---   AfterCalls F c ..                each controller holds what it holds after c calls
---   Playable ..                what the run finds: settings, lengths, and messages that stand in the file
---   Runnable ..                what the whole run finds: settings, a block, room for all blocks and boxes, a cleared output
---   Room out at m              the text ends at `at`, zeros follow, and m more bytes fit
---   Wrote out at s out′ r      s was appended
+--   layoutIn S c            the layout of the slots of round c
+--   FileSettings S          the settings of a system file
+--   Rooms input len places  each message of the table stands in the file
+--   Filling ..              what filling an inbox finds: lengths, and a cleared inbox
+--   putPart w l i y         l with part i, counted from 0, replaced by y
+--   tableScenario ..        the scenario of the table that the reader answers
+--   sentBy sent o           what each sent, as the code keeps it: outboxes of o bytes one behind the other
+--   nowOf ..                what each controller holds, as the code keeps it: states, and blocks and outboxes one behind the other
+--   Making ..               what making an inbox finds
+--   Calling ..              what a call finds: settings, lengths, and messages that stand in the file
+--   taken a                 what is held after a step
+--   Parted ..               a step of one controller, whose block and outbox stand among those of all
+--   Called F c now ..       each correct controller made call c + 1, and the others stay
+--   AfterCalls F c ..       each controller holds what it holds after c calls
+--   Playable ..             what the run finds: settings, lengths, and messages that stand in the file
+--   Runnable ..             what the whole run finds: settings, a block, room for all blocks and boxes, a cleared output
+--   Room out at m           the text ends at `at`, zeros follow, and m more bytes fit
+--   Wrote out at s out′ r   s was appended
 use mathlib.Core.Path.{_≡_}
 use mathlib.Core.Bool.{true, false}
 use mathlib.Core.List.{List, [], _++_}

@@ -58,7 +58,8 @@ module _ (bits : List ℕ) (n t : ℕ) where
     carry r e = record { refused = λ z. absurd (z taken); carried = λ _. (pairsOf m, big, e) }
 
     pub answered : (s : Sets) → s ≡ setsFrom n t adj (pairsOf m) → isLarge n t s ≡ true → IsStar n t adj s
-    answered s e y = let S = setsFrom n t adj (pairsOf m) in carry s (e ∙ sym (cond-yes (isLarge n t S) S (noSets 0) (subst (λ (x : Sets). isLarge n t x ≡ true) e y)))
+    answered s e y =
+        let S = setsFrom n t adj (pairsOf m) in carry s (e ∙ sym (cond-yes (isLarge n t S) S (noSets 0) (subst (λ (x : Sets). isLarge n t x ≡ true) e y)))
 
     pub not-large : (s r : Sets) → s ≡ setsFrom n t adj (pairsOf m) → isLarge n t s ≡ false → r ≡ noSets 0 → IsStar n t adj r
     not-large s r e y h =

@@ -106,7 +106,8 @@ module _ (rows : List ℕ) (n t : ℕ) where
   unfolding setsFrom noSets
   joined c d =
       by-cases (λ s. member (s .c) c ≡ true → member (s .d) d ≡ true → neighbour rows c d ≡ true)
-      (λ _ _ a b. core.complete n t (neighbour rows) (neighbour-sym rows) (neighbour-self rows) (matchingOf n (neighbour rows)) (matching-first n (neighbour rows)) c d a b)
+      (λ _ _ a b. core.complete n t (neighbour rows) (neighbour-sym rows) (neighbour-self rows) (matchingOf n (neighbour rows))
+      (matching-first n (neighbour rows)) c d a b)
       (λ _ a. absurd (none-in-0 c a))
 
   pub f-neighbours : (f : ℕ) → member (starOf rows n t .f) f ≡ true → t + 1 ≤ count n (λ x. member (starOf rows n t .c) x && neighbour rows f x)
@@ -133,7 +134,8 @@ module _ (rows : List ℕ) (n t : ℕ) where
 
   -- the sizes, as counts of the indices below n
   sizes : (s : Sets) → Quorum n t → s .c < 2 ^ n → s .d < 2 ^ n → s .f < 2 ^ n → s .e < 2 ^ n → isLarge n t s ≡ true
-      → (n ≤ count n (member (s .c)) + 2 * t) × (n ≤ count n (member (s .d)) + t) × (2 * t + 1 ≤ count n (member (s .f))) × (2 * t + 1 ≤ count n (member (s .e)))
+      → (n ≤ count n (member (s .c)) + 2 * t) × (n ≤ count n (member (s .d)) + t) × (2 * t + 1 ≤ count n (member (s .f))) × (2 * t + 1 ≤ count n
+      (member (s .e)))
   unfolding isLarge
   sizes s q bc bd bf be y =
       let c = leb (n - 2 * t) (sizeOf (s .c)) in
@@ -149,11 +151,14 @@ module _ (rows : List ℕ) (n t : ℕ) where
       )
 
   four : found (starOf rows n t) ≡ true
-      → (n ≤ count n (member (starOf rows n t .c)) + 2 * t) × (n ≤ count n (member (starOf rows n t .d)) + t) × (2 * t + 1 ≤ count n (member (starOf rows n t .f))) × (2 * t + 1 ≤ count n (member (starOf rows n t .e)))
+      → (n ≤ count n (member (starOf rows n t .c)) + 2 * t) × (n ≤ count n (member (starOf rows n t .d)) + t) × (2 * t + 1 ≤ count n
+      (member (starOf rows n t .f))) × (2 * t + 1 ≤ count n (member (starOf rows n t .e)))
   unfolding setsFrom
   four =
-      by-cases (λ s. found s ≡ true → (n ≤ count n (member (s .c)) + 2 * t) × (n ≤ count n (member (s .d)) + t) × (2 * t + 1 ≤ count n (member (s .f))) × (2 * t + 1 ≤ count n (member (s .e))))
-      (λ q y _. sizes S q (c-lt n (neighbour rows) (matchingOf n (neighbour rows))) (d-lt-set n (neighbour rows) (matchingOf n (neighbour rows))) (f-lt-set n t (neighbour rows) (matchingOf n (neighbour rows)))
+      by-cases (λ s. found s ≡ true → (n ≤ count n (member (s .c)) + 2 * t) × (n ≤ count n (member (s .d)) + t) × (2 * t + 1 ≤ count n
+      (member (s .f))) × (2 * t + 1 ≤ count n (member (s .e))))
+      (λ q y _. sizes S q (c-lt n (neighbour rows) (matchingOf n (neighbour rows))) (d-lt-set n (neighbour rows) (matchingOf n (neighbour rows)))
+      (f-lt-set n t (neighbour rows) (matchingOf n (neighbour rows)))
       (e-lt-set n t (neighbour rows) (matchingOf n (neighbour rows))) y)
       (λ r h. absurd (not-none r h))
 
@@ -198,7 +203,8 @@ module _ (rows : List ℕ) (n t : ℕ) where
   has-found x = by-cases (λ s. member (s .e) x ≡ true → found s ≡ true) (λ _ y _. large-found y) (λ r h. absurd (none-in-0 x h))
 
   -- ---- a clique of at least n - t
-  module _ (q : Quorum n t) (H : ℕ → Bool) (clique : (x y : ℕ) → x < n → y < n → H x ≡ true → H y ≡ true → neighbour rows x y ≡ true) (many : n ≤ count n H + t) where
+  module _ (q : Quorum n t) (H : ℕ → Bool) (clique : (x y : ℕ) → x < n → y < n → H x ≡ true → H y ≡ true → neighbour rows x y ≡ true)
+      (many : n ≤ count n H + t) where
     abbrev adj : ℕ → ℕ → Bool
     adj = neighbour rows
 
@@ -214,12 +220,24 @@ module _ (rows : List ℕ) (n t : ℕ) where
         let E = setE n t adj M in
         let big = matching-first n adj in
         and-both (leb (n - 2 * t) (sizeOf C)) _
-        (le-leb (n - 2 * t) (sizeOf C) (omega (arith, core.C-large n t adj (neighbour-sym rows) (neighbour-self rows) M big H clique many, size-below n C (q .n-most) (c-lt n adj M))))
+        (le-leb (n - 2 * t) (sizeOf C) (omega
+        (arith, core.C-large n t adj (neighbour-sym rows) (neighbour-self rows) M big H clique many, size-below n C (q .n-most) (c-lt n adj M))))
         (and-both (leb (n - t) (sizeOf D)) _
-        (le-leb (n - t) (sizeOf D) (omega (arith, core.D-large n t adj (neighbour-sym rows) (neighbour-self rows) M big H clique many, size-below n D (q .n-most) (d-lt-set n adj M))))
+        (le-leb (n - t) (sizeOf D) (omega
+        (arith, core.D-large n t adj (neighbour-sym rows) (neighbour-self rows) M big H clique many, size-below n D (q .n-most) (d-lt-set n adj M))))
         (and-both (leb (2 * t + 1) (sizeOf F)) _
-        (le-leb (2 * t + 1) (sizeOf F) (omega (arith, core.F-large n t adj (neighbour-sym rows) (neighbour-self rows) M big H clique many (q .t-most), size-below n F (q .n-most) (f-lt-set n t adj M))))
-        (le-leb (2 * t + 1) (sizeOf E) (omega (arith, core.E-large n t adj (neighbour-sym rows) (neighbour-self rows) M big H clique many (q .t-most), size-below n E (q .n-most) (e-lt-set n t adj M))))))
+        (le-leb (2 * t + 1) (sizeOf F) (omega (
+          arith,
+          core.F-large n t adj (neighbour-sym rows) (neighbour-self rows) M big H clique many (q .t-most),
+          size-below n F (q .n-most)
+              (f-lt-set n t adj M),
+        )))
+        (le-leb (2 * t + 1) (sizeOf E) (omega (
+          arith,
+          core.E-large n t adj (neighbour-sym rows) (neighbour-self rows) M big H clique many (q .t-most),
+          size-below n E (q .n-most)
+              (e-lt-set n t adj M),
+        )))))
 
     is-S : starOf rows n t ≡ S
     unfolding starOf starFrom
@@ -232,11 +250,15 @@ module _ (rows : List ℕ) (n t : ℕ) where
 
     pub clique-core : (x : ℕ) → x < n → H x ≡ true → member (starOf rows n t .e) x ≡ true
     unfolding setsFrom
-    clique-core x l h = ap (λ (s : Sets). member (s .e) x) is-S ∙ core.clique-in-E n t adj (neighbour-sym rows) (neighbour-self rows) M (matching-first n adj) H clique many (q .t-most) x l h
+    clique-core x l h =
+        ap (λ (s : Sets). member (s .e) x) is-S ∙ core.clique-in-E n t adj (neighbour-sym rows) (neighbour-self rows) M (matching-first n adj) H clique many
+        (q .t-most) x l h
 
     pub clique-f : (x : ℕ) → x < n → H x ≡ true → member (starOf rows n t .f) x ≡ true
     unfolding setsFrom
-    clique-f x l h = ap (λ (s : Sets). member (s .f) x) is-S ∙ core.clique-in-F n t adj (neighbour-sym rows) (neighbour-self rows) M (matching-first n adj) H clique many (q .t-most) x l h
+    clique-f x l h =
+        ap (λ (s : Sets). member (s .f) x) is-S ∙ core.clique-in-F n t adj (neighbour-sym rows) (neighbour-self rows) M (matching-first n adj) H clique many
+        (q .t-most) x l h
 
   -- ---- the correct, of whom at most t of the n are lacking
   module _ (correct : ℕ → Bool) (most : n ≤ count n correct + t) where
@@ -261,10 +283,14 @@ module _ (rows : List ℕ) (n t : ℕ) where
       shared y =
           let bound = found-valid y .t-most in
           let s = starOf rows n t in (
-            agree.h n t (s .c) (s .d) (s .f) (s .e) (neighbour rows) (neighbour-sym rows) bound (c-size y) (d-size y) joined f-neighbours e-neighbours correct most W word code near,
-            (λ c hc g. agree.C-word n t (s .c) (s .d) (s .f) (s .e) (neighbour rows) (neighbour-sym rows) bound (c-size y) (d-size y) joined f-neighbours e-neighbours correct most W word code near c (c-member c hc) hc g),
-            (λ f hf g. agree.F-own n t (s .c) (s .d) (s .f) (s .e) (neighbour rows) (neighbour-sym rows) bound (c-size y) (d-size y) joined f-neighbours e-neighbours correct most W word code near f (f-member f hf) hf g),
-            λ e he g. agree.E-word n t (s .c) (s .d) (s .f) (s .e) (neighbour rows) (neighbour-sym rows) bound (c-size y) (d-size y) joined f-neighbours e-neighbours correct most W word code near e (e-member e he) he g,
+            agree.h n t (s .c) (s .d) (s .f) (s .e) (neighbour rows) (neighbour-sym rows) bound (c-size y)
+                (d-size y) joined f-neighbours e-neighbours correct most W word code near,
+            (λ c hc g. agree.C-word n t (s .c) (s .d) (s .f) (s .e) (neighbour rows) (neighbour-sym rows) bound (c-size y)
+                (d-size y) joined f-neighbours e-neighbours correct most W word code near c (c-member c hc) hc g),
+            (λ f hf g. agree.F-own n t (s .c) (s .d) (s .f) (s .e) (neighbour rows) (neighbour-sym rows) bound (c-size y)
+                (d-size y) joined f-neighbours e-neighbours correct most W word code near f (f-member f hf) hf g),
+            λ e he g. agree.E-word n t (s .c) (s .d) (s .f) (s .e) (neighbour rows) (neighbour-sym rows) bound (c-size y)
+                (d-size y) joined f-neighbours e-neighbours correct most W word code near e (e-member e he) he g,
           )
 
       pub one-word : (a b : ℕ) → member (starOf rows n t .e) a ≡ true → member (starOf rows n t .e) b ≡ true → correct a ≡ true → correct b ≡ true
@@ -272,7 +298,8 @@ module _ (rows : List ℕ) (n t : ℕ) where
       unfolding Shared
       one-word a b ha hb ga gb x l = let s = shared (has-found a ha) in s .3 a ha ga x l ∙ sym (s .3 b hb gb x l)
 
-      pub own-place : (f e : ℕ) → member (starOf rows n t .f) f ≡ true → member (starOf rows n t .e) e ≡ true → correct f ≡ true → correct e ≡ true → word f f ≡ word e f
+      pub own-place : (f e : ℕ) → member (starOf rows n t .f) f ≡ true → member (starOf rows n t .e) e ≡ true → correct f ≡ true → correct e ≡ true
+          → word f f ≡ word e f
       unfolding Shared
       own-place f e hf he gf ge = let s = shared (has-found e he) in s .2 f hf gf ∙ sym (s .3 e he ge f (f-member f hf))
 

@@ -24,4 +24,6 @@
 --   c-word              the correct members of C hold that word
 pub use Rattle.star.proofs.Answer.{refusal-0, 0-refusal}
 pub use Rattle.star.proofs.Same.{star-is-one, star-of, star-of-pairs, same-is-star, same-star, same-rows, same-bits, star-of-bits, core-of-bits}
-pub use Rattle.star.proofs.Found.{star-refusal, c-below, d-below, f-below, e-below, c-member, d-member, f-member, e-member, joined, f-neighbours, e-neighbours, found-valid, c-size, d-size, f-size, e-size, not-found, has-found, clique-found, clique-core, clique-f, core-correct, one-word, own-place, c-word, no-sets}
+pub use Rattle.star.proofs.Found.{star-refusal, c-below, d-below, f-below, e-below, c-member, d-member, f-member, e-member, joined, f-neighbours}
+pub use Rattle.star.proofs.Found.{e-neighbours, found-valid, c-size, d-size, f-size, e-size, not-found, has-found, clique-found, clique-core, clique-f}
+pub use Rattle.star.proofs.Found.{core-correct, one-word, own-place, c-word, no-sets}

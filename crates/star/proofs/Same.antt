@@ -40,7 +40,12 @@ star-is-one n t adj s = (to, from)
     from e =
         record {
           refused = λ ne. e ∙ cond-no (eqb (refusalFor n t) 0) (starFrom n t adj) (noSets (refusalFor n t)) (ne-eqb (refusalFor n t) 0 ne);
-          carried = λ z. (matchingOf n adj, matching-first n adj, e ∙ cond-yes (eqb (refusalFor n t) 0) (starFrom n t adj) (noSets (refusalFor n t)) (eq-eqb (refusalFor n t) 0 z));
+          carried = λ z. (
+            matchingOf n adj,
+            matching-first n adj,
+            e
+                ∙ cond-yes (eqb (refusalFor n t) 0) (starFrom n t adj) (noSets (refusalFor n t)) (eq-eqb (refusalFor n t) 0 z),
+          );
         }
 
 pub star-of : (rows : List ℕ) (n t : ℕ) (s : Sets) → IsStar n t (neighbour rows) s → s ≡ starOf rows n t
@@ -73,7 +78,8 @@ pub same-star : (rows nrows : List ℕ) (n t : ℕ) → ((i j : ℕ) → i < n �
 unfolding starOf
 same-star rows nrows n t same = same-for n t (neighbour rows) (neighbour nrows) (λ _. same)
 
-pub same-rows : (rows nrows : List ℕ) (n t : ℕ) → ((i j : ℕ) → i < n → j < n → member (getD rows i 0) j ≡ member (getD nrows i 0) j) → starOf rows n t ≡ starOf nrows n t
+pub same-rows : (rows nrows : List ℕ) (n t : ℕ) → ((i j : ℕ) → i < n → j < n → member (getD rows i 0) j ≡ member (getD nrows i 0) j)
+    → starOf rows n t ≡ starOf nrows n t
 same-rows rows nrows n t same = same-star rows nrows n t (λ i j li lj. neighbour-same rows nrows i j (same i j li lj) (same j i lj li))
 
 -- bits of indices past n are not read
@@ -85,7 +91,8 @@ same-bits a b n t same = same-for n t (adjacent a) (adjacent b) (λ q. adjacent-
 bits-say : (rows : List ℕ) (n t : ℕ) → Quorum n t → (i j : ℕ) → i < n → j < n → adjacent (bitsOf n (neighbour rows)) i j ≡ neighbour rows i j
 bits-say rows n t q = adjacent-of n (neighbour rows) (neighbour-self rows) (neighbour-sym rows) (q .n-most)
 
-pub bits-star : (rows : List ℕ) (n t : ℕ) (bits : List ℕ) (s : Sets) → bits ≡ bitsOf n (neighbour rows) → IsStar n t (adjacent bits) s → IsStar n t (neighbour rows) s
+pub bits-star : (rows : List ℕ) (n t : ℕ) (bits : List ℕ) (s : Sets) → bits ≡ bitsOf n (neighbour rows) → IsStar n t (adjacent bits) s
+    → IsStar n t (neighbour rows) s
 bits-star rows n t bits s e r =
     same-is-star n t (adjacent (bitsOf n (neighbour rows))) (neighbour rows) (bits-say rows n t) s (subst (λ (b : List ℕ). IsStar n t (adjacent b) s) e r)
 

@@ -1,20 +1,20 @@
 -- The star and the core (document 01, 'Star and core'; source 001, Find-STAR and its quadruple). Index i stands for controller i + 1;
 -- `adj i j` says whether i and j are neighbours; M is the matching used, of pairs below n that are not neighbours.
---   struck adj M i       i is a non-neighbour of both ends of one pair of M
---   setC n adj M         C: the unmatched, without those struck
---   lacks n adj s i      i has a non-neighbour in the set s
---   setD n adj M         D: all but B, the matched with a non-neighbour in C
---   atLeast n adj s k    those with at least k neighbours in the set s
---   setF n t adj M       F: those with at least t + 1 neighbours in C
---   setE n t adj M       E: those with at least 2t + 1 neighbours in F
---   setsFrom n t adj M   the four sets
---   noSets r             four empty sets, with the refusal's number
---   isLarge n t s        C has at least n - 2t members, D at least n - t, F and E at least 2t + 1
---   starWith n t adj M   the four sets if they are large enough, else none
---   refusalFor n t       the number with which the star refuses n and t; 0 where it does not
---   IsStar n t adj s     s is the star of the graph: refused, the number and no sets; else the star with the matching that, of the largest
---                        ones, is the first in dictionary order (`FirstLargest`)
---   found s              the core is found: E is not empty
+--   struck adj M i      i is a non-neighbour of both ends of one pair of M
+--   setC n adj M        C: the unmatched, without those struck
+--   lacks n adj s i     i has a non-neighbour in the set s
+--   setD n adj M        D: all but B, the matched with a non-neighbour in C
+--   atLeast n adj s k   those with at least k neighbours in the set s
+--   setF n t adj M      F: those with at least t + 1 neighbours in C
+--   setE n t adj M      E: those with at least 2t + 1 neighbours in F
+--   setsFrom n t adj M  the four sets
+--   noSets r            four empty sets, with the refusal's number
+--   isLarge n t s       C has at least n - 2t members, D at least n - t, F and E at least 2t + 1
+--   starWith n t adj M  the four sets if they are large enough, else none
+--   refusalFor n t      the number with which the star refuses n and t; 0 where it does not
+--   IsStar n t adj s    s is the star of the graph: refused, the number and no sets; else the star with the matching that, of the largest ones, is the
+--                       first in dictionary order (`FirstLargest`)
+--   found s             the core is found: E is not empty
 -- The star as a function, for callers that need one:
 --   starFrom n t adj     the star with `matchingOf n adj`
 --   starFor n t adj      the star of the graph

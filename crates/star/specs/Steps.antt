@@ -1,5 +1,5 @@
 -- For the contracts of private functions; a reader of the public contracts needs none of it.
---   Ends n m   the matching has at most 8 pairs, of indices below n
+--   Ends n m  the matching has at most 8 pairs, of indices below n
 use Prim.Native.Nat.{ℕ, _≤_, _<_}
 use lib.ListN.{getD}
 use Rattle.matching.specs.declared.Matching.{Matching}

@@ -25,7 +25,8 @@ use Rattle.reconstruction.specs.Outcomes.{outcomeNumber}
 use Rattle.settings.specs.declared.Settings.{Settings}
 use Rattle.protocol.specs.declared.State.{State}
 use Rattle.protocol.specs.State.{initial, withCall, withVotes, withCore}
-use Rattle.state_bytes.specs.State.{littleEndian, widths, widthOf, offset, stateLength, numbersOf, fieldBytes, stateBytes, fieldIn, fieldNumber, fieldRows, outcomeFrom, stateIn}
+use Rattle.state_bytes.specs.State.{littleEndian, widths, widthOf, offset, stateLength, numbersOf, fieldBytes, stateBytes, fieldIn, fieldNumber}
+use Rattle.state_bytes.specs.State.{fieldRows, outcomeFrom, stateIn}
 use Rattle.state_bytes.proofs.Digits.{length-digits}
 
 -- ---- widths and offsets
@@ -211,6 +212,14 @@ built {first} {told} {voted} {all} {s} {own} {next} {o} {m} {w} {c} e-first e-to
 pub made : (b : List ℕ) {n t k own sender next : ℕ} {o : Outcome} {m w : List ℕ} {c : ℕ} → n ≡ fieldNumber b 0 → t ≡ fieldNumber b 1 → k ≡ fieldNumber b 2
     → own ≡ fieldNumber b 3 → sender ≡ fieldNumber b 4 → next ≡ fieldNumber b 5 → o ≡ outcomeFrom (fieldNumber b 6) → m ≡ fieldRows b 7 → w ≡ fieldRows b 8
     → c ≡ rowOf 16 (fieldIn b 9) 0
-    → _≡_ {A = State} (record { settings = record { n = n; t = t; k = k; sender = sender }; own = own; next = next; outcome = o; matrix = m; weak = w; core = c }) (stateIn b)
+    → _≡_ {A = State} (record {
+      settings = record { n = n; t = t; k = k; sender = sender };
+      own = own;
+      next = next;
+      outcome = o;
+      matrix = m;
+      weak = w;
+      core = c;
+    }) (stateIn b)
 unfolding stateIn
 made b e-n e-t e-k e-own e-sender e-next e-o e-m e-w e-c = rw (e-n, e-t, e-k, e-own, e-sender, e-next, e-o, e-m, e-w, e-c)

@@ -20,7 +20,8 @@ use Rattle.reconstruction.specs.declared.Outcome.the-variants.{Open, Agreed, No
 use Rattle.reconstruction.specs.Outcomes.{outcomeNumber}
 use Rattle.protocol.specs.declared.State.{State}
 use Rattle.protocol.specs.State.{zeroState}
-use Rattle.state_bytes.specs.State.{littleEndian, numberOf, widths, widthOf, offset, stateLength, numbersOf, fieldBytes, stateBytes, fieldIn, fieldNumber, outcomeFrom, stateIn, stateOf, Words}
+use Rattle.state_bytes.specs.State.{littleEndian, numberOf, widths, widthOf, offset, stateLength, numbersOf, fieldBytes, stateBytes, fieldIn}
+use Rattle.state_bytes.specs.State.{fieldNumber, outcomeFrom, stateIn, stateOf, Words}
 use Rattle.state_bytes.proofs.Digits.{number-lt, number-back}
 use Rattle.state_bytes.proofs.Fields.{number-field, length-fields, field-read, made}
 
@@ -89,7 +90,8 @@ read-written s w =
 
 -- ---- every list of bytes is a state
 -- six numbers below 2 ^ 64; there is no seventh
-pub numbers-lt : (s : State) → s .settings .n < 2 ^ 64 → s .settings .t < 2 ^ 64 → s .settings .k < 2 ^ 64 → s .own < 2 ^ 64 → s .settings .sender < 2 ^ 64 → s .next < 2 ^ 64
+pub numbers-lt : (s : State) → s .settings .n < 2 ^ 64 → s .settings .t < 2 ^ 64 → s .settings .k < 2 ^ 64 → s .own < 2 ^ 64 → s .settings .sender < 2 ^ 64
+    → s .next < 2 ^ 64
     → (i : ℕ) → getD (numbersOf s) i 0 < 2 ^ 64
 numbers-lt s n t k own sender next zero = n
 numbers-lt s n t k own sender next (suc zero) = t

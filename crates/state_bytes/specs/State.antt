@@ -9,10 +9,10 @@
 --   numbersOf s          the first six fields, which are numbers
 --   fieldsOf s           the bytes of the ten fields: numbers, and 16 rows of marks for each matrix
 --   fieldBytes s i       those of field i
---   stateBytes s            the bytes of a state
+--   stateBytes s         the bytes of a state
 --   fieldIn bytes i      field i in the bytes of a state
---   fieldNumber bytes i     the number in it
---   fieldRows bytes i       the 16 rows in it
+--   fieldNumber bytes i  the number in it
+--   fieldRows bytes i    the 16 rows in it
 --   outcomeFrom x        the outcome of a number (the listing is reconstruction's `outcomeNumber`); open where it is no outcome's
 --   stateIn bytes        the state whose fields stand in the bytes
 --   stateOf bytes        the state that the bytes stand for: every list of that length is a state; the zero state where it has another length

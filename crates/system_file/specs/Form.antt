@@ -1,19 +1,19 @@
 -- The form of a system file, and what a file of that form says (document 01, 'The house program': it calls a system a house).
---   fileLimit                          the most bytes that a file has
---   settingsNames, messageNames    the two lines of names
---   isSettings l                   n 4 to 16; t at least 1, 3t + 1 at most n; k 1 to 32; the sender 1 to n; a block of k(t + 1) bytes
---   isMessage s l                  a round of the run; from 1 to n; to 0 to n; a message of its round's length
---   Message                        one line: its round, from, to, and the byte of the file where its message starts
---   messageAt input a              the message in the line at a
---   clashes m m′                   both give the same (round, from, to); `to` 0 gives all
---   isRepeated ms m                m clashes with one of ms
---   Contents                       what a file says: settings, block, messages (the last line first)
---   withMessage c m                with a message more
---   Read                           the first wrong or missing line, 0 for a file that is too long; or what the file says
---   readFrom fuel input c a line   the message lines from byte a on, the first of which is line number `line`, after the contents c
---   settingsIn l                   the settings that the settings line says
---   contentsOf l                   what a file with this settings line says before its first message
---   readOf input                   the whole file
+--   fileLimit                     the most bytes that a file has
+--   settingsNames, messageNames   the two lines of names
+--   isSettings l                  n 4 to 16; t at least 1, 3t + 1 at most n; k 1 to 32; the sender 1 to n; a block of k(t + 1) bytes
+--   isMessage s l                 a round of the run; from 1 to n; to 0 to n; a message of its round's length
+--   Message                       one line: its round, from, to, and the byte of the file where its message starts
+--   messageAt input a             the message in the line at a
+--   clashes m m′                  both give the same (round, from, to); `to` 0 gives all
+--   isRepeated ms m               m clashes with one of ms
+--   Contents                      what a file says: settings, block, messages (the last line first)
+--   withMessage c m               with a message more
+--   Read                          the first wrong or missing line, 0 for a file that is too long; or what the file says
+--   readFrom fuel input c a line  the message lines from byte a on, the first of which is line number `line`, after the contents c
+--   settingsIn l                  the settings that the settings line says
+--   contentsOf l                  what a file with this settings line says before its first message
+--   readOf input                  the whole file
 use mathlib.Core.Bool.{Bool, false, cond, not, _&&_, _||_}
 use mathlib.Core.List.{List, [], _∷_}
 use Prim.Native.Nat.{ℕ, zero, suc, _+_, _-_, _*_}

@@ -1,16 +1,16 @@
 -- The messages of a file by round, sender and receiver, and what the reader answers.
---   isFaulty ms i          controller i stands under `from` (document 01: who stands under `from` is faulty)
---   reaches m r f j        m is of round r, from f, and to j, or to all
---   placeOf ms r f j       where the message of round r from f to j starts in the file; 0 where there is none
---   textOf input len p     the message of len bytes that starts at byte p of the file; empty for p 0
---   saidOf input c r f j   the message of round r from f to j, as the file says it; empty where there is none
---   tableSize              23 rounds of 16 by 16 places
---   tableIndex r f j       the place of (r, f, j) in the table, counted from 0; the table has the places of all messages
---   tableOf ms             the table
---   inTable r f j          r is one of 23 rounds, f and j are among 16 controllers
---   placeIn places r f j   what a table has for (r, f, j); 0 outside
---   fileOf r               the reader's answer: the settings, the block, the faulty controllers, the table; zeros for a wrong file
---   Properly input c       what holds of each file that is read: settings, block and messages within their bounds
+--   isFaulty ms i         controller i stands under `from` (document 01: who stands under `from` is faulty)
+--   reaches m r f j       m is of round r, from f, and to j, or to all
+--   placeOf ms r f j      where the message of round r from f to j starts in the file; 0 where there is none
+--   textOf input len p    the message of len bytes that starts at byte p of the file; empty for p 0
+--   saidOf input c r f j  the message of round r from f to j, as the file says it; empty where there is none
+--   tableSize             23 rounds of 16 by 16 places
+--   tableIndex r f j      the place of (r, f, j) in the table, counted from 0; the table has the places of all messages
+--   tableOf ms            the table
+--   inTable r f j         r is one of 23 rounds, f and j are among 16 controllers
+--   placeIn places r f j  what a table has for (r, f, j); 0 outside
+--   fileOf r              the reader's answer: the settings, the block, the faulty controllers, the table; zeros for a wrong file
+--   Properly input c      what holds of each file that is read: settings, block and messages within their bounds
 use mathlib.Core.Path.{_≡_}
 use mathlib.Core.Bool.{Bool, true, false, cond, _&&_, _||_}
 use mathlib.Core.List.{List, [], _∷_}

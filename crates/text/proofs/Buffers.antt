@@ -49,7 +49,8 @@ module _ (at : ℕ) (s out : List ℕ) where
   -- the buffer's length stays
   pub length-appended : length (appended at s out) ≡ length out
   length-appended =
-      ⊎-elim (λ (h : length out < at + length s). ap length (appended-full h)) (λ (h : at + length s ≤ length out). ap length (appended-room h) ∙ length-placed h)
+      ⊎-elim (λ (h : length out < at + length s). ap length (appended-full h))
+      (λ (h : at + length s ≤ length out). ap length (appended-room h) ∙ length-placed h)
       (lt-or-le (length out) (at + length s))
 
 -- ---- the loops that write

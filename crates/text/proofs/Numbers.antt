@@ -12,7 +12,8 @@ use borrow.Author.Tests.{eq-eqb, ne-eqb, le-leb, lt-leb, leb-true}
 use lib.Dec.{eqb, leb}
 use lib.ListN.{length, getD, drop}
 use lib.Seq.{drop-cons}
-use Rattle.lists.proofs.Tests.{true≢false, either, fails, and-left, and-right, and-both, and-no-left, and-no-right, and-tail, or-left, or-tail, cond-yes, cond-no}
+use Rattle.lists.proofs.Tests.{true≢false, either, fails, and-left, and-right, and-both, and-no-left, and-no-right, and-tail, or-left, or-tail, cond-yes}
+use Rattle.lists.proofs.Tests.{cond-no}
 use Rattle.text.specs.declared.Number.the-variants.{Value, Wrong}
 use Rattle.text.specs.Read.{every, isDigit, digitOf, isNumber, valueFrom, valueOf, numberIn, numberRead}
 use Rattle.text.specs.Steps.{headed, capped}

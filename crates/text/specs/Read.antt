@@ -1,18 +1,18 @@
 -- Fields of lines, decimal numbers and lower-case hexadecimal bytes, as they are read (document 01, 'The house program': numbers have no
 -- leading zero, bytes are lower case, every line ends in a newline).
---   newline, comma        the byte that ends a line, and the one between two fields
---   before c l            the bytes of l before its first c; all of l where it has none
+--   newline, comma         the byte that ends a line, and the one between two fields
+--   before c l             the bytes of l before its first c; all of l where it has none
 --   behind c l             the bytes of l behind its first c; none where it has none
---   every p l             each byte of l passes the test p
---   isDigit b, digitOf b  a decimal digit, and its value
---   isNumber f            decimal digits, at least one, and no leading zero
---   valueFrom x f         the number that the digits of x and then the digits f say
---   valueOf f             the number that decimal digits say
---   numberIn low high f   f is a number from low to high
---   numberRead low high f   that number, or that f is none
---   isHex b, hexOf b      a lower-case hexadecimal digit, and its value; 0 for any other byte
---   isBytes len f         exactly len bytes, each two lower-case hexadecimal digits
---   bytesOf f             the bytes that hexadecimal digits say, two digits a byte, the high one first
+--   every p l              each byte of l passes the test p
+--   isDigit b, digitOf b   a decimal digit, and its value
+--   isNumber f             decimal digits, at least one, and no leading zero
+--   valueFrom x f          the number that the digits of x and then the digits f say
+--   valueOf f              the number that decimal digits say
+--   numberIn low high f    f is a number from low to high
+--   numberRead low high f  that number, or that f is none
+--   isHex b, hexOf b       a lower-case hexadecimal digit, and its value; 0 for any other byte
+--   isBytes len f          exactly len bytes, each two lower-case hexadecimal digits
+--   bytesOf f              the bytes that hexadecimal digits say, two digits a byte, the high one first
 use mathlib.Core.Bool.{Bool, true, false, cond, not, _&&_, _||_}
 use mathlib.Core.List.{List, [], _∷_}
 use Prim.Native.Nat.{ℕ, _+_, _-_, _*_}

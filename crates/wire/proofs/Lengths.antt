@@ -108,7 +108,8 @@ length-pos {n} {t} {k} v c h l =
     (λ (a : c ≡ 1 → ⊥). ⊎-elim (λ (e : c ≡ 2). at e (round-pieces t) (omega (arith, row-pieces n t k, v .k-least)))
     (λ (b : c ≡ 2 → ⊥). ⊎-elim (λ (e : c ≡ 3). at e (round-marks t) (omega (arith, row-marks n t k)))
     (λ (d : c ≡ 3 → ⊥). ⊎-elim
-    (λ (m : c < 3 * t + 7). subst (λ (r : Round). 1 ≤ rowLength r n t k) (sym (round-vote t c (from-four c (λ e. omega arith) a b d) (omega arith))) (phase-pos n t k (c % 3) v))
+    (λ (m : c < 3 * t + 7). subst (λ (r : Round). 1 ≤ rowLength r n t k) (sym (round-vote t c (from-four c (λ e. omega arith) a b d) (omega arith)))
+    (phase-pos n t k (c % 3) v))
     (λ (m : 3 * t + 7 ≤ c). ⊎-elim (λ (e : c ≡ 3 * t + 7). at e (round-forward t) (omega (arith, row-forward n t k, v .k-least)))
     (λ (f : c ≡ 3 * t + 7 → ⊥). at (end c l m f) (round-rebuild t) (omega (arith, row-rebuild n t k, v .k-least)))
     (same-or-not c (3 * t + 7)))
@@ -132,7 +133,8 @@ pub length-none : (n t k c : ℕ) → roundKind t c ≡ Outside → messageLengt
 unfolding kindLength
 length-none n t k c e =
     ⊎-elim
-    (λ (q : inSettings n t k ≡ true). cond-yes (inSettings n t k) (rowLength (roundKind t c) n t k) 0 q ∙ ap (λ (r : Round). rowLength r n t k) e ∙ row-outside n t k)
+    (λ (q : inSettings n t k ≡ true). cond-yes (inSettings n t k) (rowLength (roundKind t c) n t k) 0 q ∙ ap (λ (r : Round). rowLength r n t k) e
+    ∙ row-outside n t k)
     (λ (q : inSettings n t k ≡ false). cond-no (inSettings n t k) (rowLength (roundKind t c) n t k) 0 q)
     (either (inSettings n t k))
 

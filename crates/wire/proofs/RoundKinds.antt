@@ -219,7 +219,8 @@ call-fact t c =
     (λ d. pick t c (eqb c 3) Compare _ (eqb-true c 3)
     (λ e. pick t c (eqb c 4) Collect _ (eqb-true c 4)
     (λ f. pick t c (leb c (3 * t + 6)) (phaseCall (c % 3)) (lastCall (c - 3 * t))
-    (λ g. phase-fact t c (five c (from-four c (eqb-false c 0 a) (eqb-false c 1 b) (eqb-false c 2 d) (eqb-false c 3 e)) (eqb-false c 4 f)) (leb-true c (3 * t + 6) g))
+    (λ g. phase-fact t c (five c (from-four c (eqb-false c 0 a) (eqb-false c 1 b) (eqb-false c 2 d) (eqb-false c 3 e)) (eqb-false c 4 f))
+    (leb-true c (3 * t + 6) g))
     (λ g. last-fact t c (after t c (leb-false c (3 * t + 6) g))))))))
   where
     five : (c : ℕ) → 4 ≤ c → (c ≡ 4 → ⊥) → 5 ≤ c

@@ -10,14 +10,16 @@ use native.Mathlib.Numerals.{add-one}
 use native.Mathlib.Omega.{arith}
 use borrow.Author.Tests.{eq-eqb, ne-eqb, le-leb, lt-leb, eqb-false, leb-true}
 use lib.Dec.{leb, eqb}
-use lib.ListN.{length, getD, set, take, drop, replicate, length-append, length-drop, length-take, replicate-append-replicate, drop-of-length-le, getD-replicate, length-replicate}
+use lib.ListN.{length, getD, set, take, drop, replicate, length-append, length-drop, length-take, replicate-append-replicate, drop-of-length-le}
+use lib.ListN.{getD-replicate, length-replicate}
 use lib.Seq.{length-take-le, take-all, take-append-le, drop-append-le, take-at, drop-at, drop-drop, getD-take, getD-drop}
 use Rattle.lists.proofs.Tests.{either, and-left, and-right, and-both, and-no-left, and-no-right, cond-yes, cond-no, lt-or-le}
 use Rattle.lists.specs.Join.{part}
 use Rattle.lists.proofs.Parts.{all-take, all-drop, all-zeros, next-offset, drop-take}
 use Rattle.lists.proofs.Joins.{joined-none, joined-more, joined-ext, length-joined, part-joined, all-joined, joined-zeros}
 use Rattle.wire.specs.declared.slot.Layout.{Layout}
-use Rattle.wire.specs.Slot.{header, width, slotOf, holds, isPresent, messageOf, offsetOf, Sent, silence, bytes, written, slots, toAll, putSlot, relayed, copied}
+use Rattle.wire.specs.Slot.{header, width, slotOf, holds, isPresent, messageOf, offsetOf, Sent, silence, bytes, written, slots, toAll, putSlot, relayed}
+use Rattle.wire.specs.Slot.{copied}
 
 -- ---- the layout
 pub width-pos : (layout : Layout) → 0 < width layout
@@ -33,7 +35,8 @@ slot-end j w h =
 -- ---- what a box holds
 pub yes-holds : (box : List ℕ) (layout : Layout) (j : ℕ) → 1 ≤ j → j * width layout ≤ length box → holds box layout j ≡ true
 unfolding holds
-yes-holds box layout j h l = and-both (not (eqb j 0)) (leb (j * width layout) (length box)) (ap not (ne-eqb j 0 (λ e. omega arith))) (le-leb (j * width layout) (length box) l)
+yes-holds box layout j h l =
+    and-both (not (eqb j 0)) (leb (j * width layout) (length box)) (ap not (ne-eqb j 0 (λ e. omega arith))) (le-leb (j * width layout) (length box) l)
 
 pub holds-zero : (box : List ℕ) (layout : Layout) (j : ℕ) → j ≡ 0 → holds box layout j ≡ false
 unfolding holds
@@ -53,15 +56,21 @@ holds-yes box layout j e =
 module _ (box : List ℕ) (layout : Layout) (j : ℕ) where
   pub message-none : holds box layout j ≡ false → messageOf box layout j ≡ []
   unfolding messageOf
-  message-none e = cond-no (holds box layout j && isPresent (slotOf box layout j)) (drop header (slotOf box layout j)) [] (and-no-left (holds box layout j) (isPresent (slotOf box layout j)) e)
+  message-none e =
+      cond-no (holds box layout j && isPresent (slotOf box layout j)) (drop header (slotOf box layout j)) []
+      (and-no-left (holds box layout j) (isPresent (slotOf box layout j)) e)
 
   pub message-absent : isPresent (slotOf box layout j) ≡ false → messageOf box layout j ≡ []
   unfolding messageOf
-  message-absent e = cond-no (holds box layout j && isPresent (slotOf box layout j)) (drop header (slotOf box layout j)) [] (and-no-right (holds box layout j) (isPresent (slotOf box layout j)) e)
+  message-absent e =
+      cond-no (holds box layout j && isPresent (slotOf box layout j)) (drop header (slotOf box layout j)) []
+      (and-no-right (holds box layout j) (isPresent (slotOf box layout j)) e)
 
   pub message-held : holds box layout j ≡ true → isPresent (slotOf box layout j) ≡ true → messageOf box layout j ≡ drop header (slotOf box layout j)
   unfolding messageOf
-  message-held h e = cond-yes (holds box layout j && isPresent (slotOf box layout j)) (drop header (slotOf box layout j)) [] (and-both (holds box layout j) (isPresent (slotOf box layout j)) h e)
+  message-held h e =
+      cond-yes (holds box layout j && isPresent (slotOf box layout j)) (drop header (slotOf box layout j)) []
+      (and-both (holds box layout j) (isPresent (slotOf box layout j)) h e)
 
   -- a slot that is held is as wide as a slot
   pub length-held : holds box layout j ≡ true → length (slotOf box layout j) ≡ width layout
@@ -89,15 +98,21 @@ module _ (box : List ℕ) (layout : Layout) (j : ℕ) where
 module _ (box : List ℕ) (layout : Layout) (j : ℕ) where
   pub offset-none : holds box layout j ≡ false → offsetOf box layout j ≡ 0
   unfolding offsetOf
-  offset-none e = cond-no (holds box layout j && isPresent (slotOf box layout j)) ((j - 1) * width layout + header) 0 (and-no-left (holds box layout j) (isPresent (slotOf box layout j)) e)
+  offset-none e =
+      cond-no (holds box layout j && isPresent (slotOf box layout j)) ((j - 1) * width layout + header) 0
+      (and-no-left (holds box layout j) (isPresent (slotOf box layout j)) e)
 
   pub offset-absent : isPresent (slotOf box layout j) ≡ false → offsetOf box layout j ≡ 0
   unfolding offsetOf
-  offset-absent e = cond-no (holds box layout j && isPresent (slotOf box layout j)) ((j - 1) * width layout + header) 0 (and-no-right (holds box layout j) (isPresent (slotOf box layout j)) e)
+  offset-absent e =
+      cond-no (holds box layout j && isPresent (slotOf box layout j)) ((j - 1) * width layout + header) 0
+      (and-no-right (holds box layout j) (isPresent (slotOf box layout j)) e)
 
   pub offset-held : holds box layout j ≡ true → isPresent (slotOf box layout j) ≡ true → offsetOf box layout j ≡ (j - 1) * width layout + header
   unfolding offsetOf
-  offset-held h e = cond-yes (holds box layout j && isPresent (slotOf box layout j)) ((j - 1) * width layout + header) 0 (and-both (holds box layout j) (isPresent (slotOf box layout j)) h e)
+  offset-held h e =
+      cond-yes (holds box layout j && isPresent (slotOf box layout j)) ((j - 1) * width layout + header) 0
+      (and-both (holds box layout j) (isPresent (slotOf box layout j)) h e)
 
 -- a message starts at 0 only where there is none
 pub record Placed (box : List ℕ) (layout : Layout) (j : ℕ) : Type 0 where
@@ -147,7 +162,8 @@ message-at box layout j =
     ⊎-elim
     (λ (p : Placed box layout j).
     let l : length (messageOf box layout j) ≡ layout .length
-    = ap length (p .here) ∙ length-take-le (layout .length) (drop (offsetOf box layout j) box) (omega (arith, p .within, length-drop (offsetOf box layout j) box)) in
+    = ap length (p .here) ∙ length-take-le (layout .length) (drop (offsetOf box layout j) box)
+    (omega (arith, p .within, length-drop (offsetOf box layout j) box)) in
     ap (λ (i : ℕ). take i (drop (offsetOf box layout j) box)) l ∙ sym (p .here))
     (λ (e : (offsetOf box layout j ≡ 0) × (messageOf box layout j ≡ [])).
     ap (λ (m : List ℕ). take (length m) (drop (offsetOf box layout j) box)) (e .1) ∙ sym (e .1))
@@ -168,12 +184,15 @@ length-message box layout j n =
     (either (holds box layout j))
 
 -- what holds of 0 and of each byte of the box holds of each byte of a message
-pub message-all : (P : ℕ → Type 0) → P 0 → (box : List ℕ) (layout : Layout) (j : ℕ) → ((i : ℕ) → P (getD box i 0)) → (i : ℕ) → P (getD (messageOf box layout j) i 0)
+pub message-all : (P : ℕ → Type 0) → P 0 → (box : List ℕ) (layout : Layout) (j : ℕ) → ((i : ℕ) → P (getD box i 0)) → (i : ℕ)
+    → P (getD (messageOf box layout j) i 0)
 unfolding messageOf slotOf part
 message-all P z box layout j h i = go (holds box layout j && isPresent (slotOf box layout j))
   where
     go : (b : Bool) → P (getD (cond b (drop header (slotOf box layout j)) []) i 0)
-    go true = all-drop P z header (slotOf box layout j) (all-take P z (width layout) (drop ((j - 1) * width layout) box) (all-drop P z ((j - 1) * width layout) box h)) i
+    go true =
+        all-drop P z header (slotOf box layout j)
+        (all-take P z (width layout) (drop ((j - 1) * width layout) box) (all-drop P z ((j - 1) * width layout) box h)) i
     go false = z
 
 -- ---- slots written in full
@@ -213,7 +232,8 @@ unfolding slots written
 silent-slots layout n = joined-zeros (width layout) n
 
 -- slot j of an outbox written slot by slot
-pub slot-of-slots : (layout : Layout) (f : ℕ → Sent) → ((j : ℕ) → Sized layout (f j)) → (n j : ℕ) → 1 ≤ j → j ≤ n → slotOf (slots layout f n) layout j ≡ written layout (f j)
+pub slot-of-slots : (layout : Layout) (f : ℕ → Sent) → ((j : ℕ) → Sized layout (f j)) → (n j : ℕ) → 1 ≤ j → j ≤ n
+    → slotOf (slots layout f n) layout j ≡ written layout (f j)
 unfolding slotOf slots
 slot-of-slots layout f sized n j least most =
     let back : j - 1 + 1 ≡ j = omega arith in
@@ -225,10 +245,12 @@ abbrev pub content : Sent → List ℕ
 content silence = []
 content (bytes m) = m
 
-pub message-of-slot : (box : List ℕ) (layout : Layout) (j : ℕ) (s : Sent) → 1 ≤ j → j * width layout ≤ length box → slotOf box layout j ≡ written layout s → messageOf box layout j ≡ content s
+pub message-of-slot : (box : List ℕ) (layout : Layout) (j : ℕ) (s : Sent) → 1 ≤ j → j * width layout ≤ length box → slotOf box layout j ≡ written layout s
+    → messageOf box layout j ≡ content s
 unfolding written isPresent
 message-of-slot box layout j silence least fits e =
-    message-absent box layout j (ap isPresent e ∙ ne-eqb (getD (replicate (width layout) 0) 0 0) 1 (λ z. omega (arith, getD-replicate {A = ℕ} (width layout) 0 0 0 (width-pos layout))))
+    message-absent box layout j (ap isPresent e ∙ ne-eqb (getD (replicate (width layout) 0) 0 0) 1
+    (λ z. omega (arith, getD-replicate {A = ℕ} (width layout) 0 0 0 (width-pos layout))))
 message-of-slot box layout j (bytes m) least fits e =
     message-held box layout j (yes-holds box layout j least fits) (ap isPresent e) ∙ ap (drop header) e
 
@@ -247,11 +269,14 @@ module _ (P : ℕ → Type 0) (none : P 0) (mark : P 1) where
 -- ---- writing one slot
 pub put-none : (box : List ℕ) (layout : Layout) (j : ℕ) (m : List ℕ) → holds box layout j ≡ false → putSlot box layout j m ≡ box
 unfolding putSlot
-put-none box layout j m e = cond-no (holds box layout j && eqb (length m) (layout .length)) _ box (and-no-left (holds box layout j) (eqb (length m) (layout .length)) e)
+put-none box layout j m e =
+    cond-no (holds box layout j && eqb (length m) (layout .length)) _ box (and-no-left (holds box layout j) (eqb (length m) (layout .length)) e)
 
 pub put-other : (box : List ℕ) (layout : Layout) (j : ℕ) (m : List ℕ) → (length m ≡ layout .length → ⊥) → putSlot box layout j m ≡ box
 unfolding putSlot
-put-other box layout j m n = cond-no (holds box layout j && eqb (length m) (layout .length)) _ box (and-no-right (holds box layout j) (eqb (length m) (layout .length)) (ne-eqb (length m) (layout .length) n))
+put-other box layout j m n =
+    cond-no (holds box layout j && eqb (length m) (layout .length)) _ box
+    (and-no-right (holds box layout j) (eqb (length m) (layout .length)) (ne-eqb (length m) (layout .length) n))
 
 pub put-held : (box : List ℕ) (layout : Layout) (j : ℕ) (m : List ℕ) → 1 ≤ j → j * width layout ≤ length box → length m ≡ layout .length
     → putSlot box layout j m ≡ take ((j - 1) * width layout) box ++ (written layout (bytes m) ++ drop (j * width layout) box)
@@ -282,7 +307,8 @@ pub to-all : (layout : Layout) (n : ℕ) (m o : List ℕ) → length m ≡ layou
     → toAll layout n m o ≡ slots layout (λ _. bytes m) n
 to-all layout n m o d e =
     cond-yes (eqb (length m) (layout .length) && eqb (length o) (n * width layout)) (slots layout (λ _. bytes m) n) o
-    (and-both (eqb (length m) (layout .length)) (eqb (length o) (n * width layout)) (eq-eqb (length m) (layout .length) d) (eq-eqb (length o) (n * width layout) e))
+    (and-both (eqb (length m) (layout .length)) (eqb (length o) (n * width layout)) (eq-eqb (length m) (layout .length) d)
+    (eq-eqb (length o) (n * width layout) e))
 
 pub to-all-no : (layout : Layout) (n : ℕ) (m o : List ℕ) → (eqb (length m) (layout .length) && eqb (length o) (n * width layout)) ≡ false
     → toAll layout n m o ≡ o
@@ -301,12 +327,14 @@ put-next-slot layout f sized o box m j room is-box is-m is-layout =
     ap length is-box ∙ length-append (slots layout f j) (drop (j * w) o) ∙ omega (arith, length-drop (j * w) o, next-offset j w) in
     put-held box layout (j + 1) m (omega arith) (omega arith) is-layout
     ∙ ap (λ (x : List ℕ). take ((j + 1 - 1) * w) x ++ (written layout (bytes m) ++ drop ((j + 1) * w) x)) is-box
-    ∙ ap (λ (x : ℕ). take (x * w) (slots layout f j ++ drop (j * w) o) ++ (written layout (bytes m) ++ drop ((j + 1) * w) (slots layout f j ++ drop (j * w) o))) back
+    ∙ ap (λ (x : ℕ). take (x * w) (slots layout f j ++ drop (j * w) o) ++ (written layout (bytes m) ++ drop ((j + 1) * w)
+    (slots layout f j ++ drop (j * w) o))) back
     ∙ ap₂ (λ (x y : List ℕ). x ++ (written layout (bytes m) ++ y)) (take-at (slots layout f j) (drop (j * w) o) (j * w) size) (rest size)
     ∙ sym (mathlib.Core.List.append-assoc (slots layout f j) (written layout (bytes m)) (drop ((j + 1) * w) o))
     ∙ ap (λ (x : List ℕ). x ++ drop ((j + 1) * w) o) (ap (λ (s : Sent). slots layout f j ++ written layout s) (sym is-m) ∙ sym (slots-next layout f j))
   where
-    rest : length (slots layout f j) ≡ j * width layout → drop ((j + 1) * width layout) (slots layout f j ++ drop (j * width layout) o) ≡ drop ((j + 1) * width layout) o
+    rest : length (slots layout f j) ≡ j * width layout
+        → drop ((j + 1) * width layout) (slots layout f j ++ drop (j * width layout) o) ≡ drop ((j + 1) * width layout) o
     rest size =
         ap (λ (x : ℕ). drop x (slots layout f j ++ drop (j * width layout) o)) (next-offset j (width layout))
         ∙ sym (drop-drop (width layout) (j * width layout) (slots layout f j ++ drop (j * width layout) o))
@@ -315,7 +343,8 @@ put-next-slot layout f sized o box m j room is-box is-m is-layout =
         ∙ ap (λ (x : ℕ). drop x o) (sym (next-offset j (width layout)))
 
 -- after the last turn the outbox is the slots
-pub slots-all : (layout : Layout) (f : ℕ → Sent) (o box : List ℕ) (n : ℕ) → box ≡ slots layout f n ++ drop (n * width layout) o → length o ≡ n * width layout → box ≡ slots layout f n
+pub slots-all : (layout : Layout) (f : ℕ → Sent) (o box : List ℕ) (n : ℕ) → box ≡ slots layout f n ++ drop (n * width layout) o → length o ≡ n * width layout
+    → box ≡ slots layout f n
 slots-all layout f o box n is-box is-o =
     is-box ∙ ap (λ (x : List ℕ). slots layout f n ++ x) (drop-of-length-le o (le-of-eq is-o)) ∙ append-nil (slots layout f n)
 
@@ -379,9 +408,11 @@ module _ (box : List ℕ) (layout : Layout) (j : ℕ) where
 
       -- slot j written with a message that was lent to it
       pub put-part : (m v : List ℕ) → length m ≡ layout .length → v ≡ written layout (bytes m)
-          → take ((j - 1) * width layout) box ++ (v ++ drop ((j - 1) * width layout + width layout - (j - 1) * width layout) (drop ((j - 1) * width layout) box)) ≡ putSlot box layout j m
+          → take ((j - 1) * width layout)
+          box ++ (v ++ drop ((j - 1) * width layout + width layout - (j - 1) * width layout) (drop ((j - 1) * width layout) box)) ≡ putSlot box layout j m
       put-part m v e is-v =
-          let u : (j - 1) * width layout + ((j - 1) * width layout + width layout - (j - 1) * width layout) ≡ j * width layout = omega (arith, slot-end j (width layout) some) in
+          let u : (j - 1) * width layout + ((j - 1) * width layout + width layout - (j - 1) * width layout) ≡ j * width layout = omega
+          (arith, slot-end j (width layout) some) in
           ap₂ (λ (x y : List ℕ). take ((j - 1) * width layout) box ++ (x ++ y)) is-v
           (drop-drop ((j - 1) * width layout + width layout - (j - 1) * width layout) ((j - 1) * width layout) box ∙ ap (λ (i : ℕ). drop i box) u)
           ∙ sym (put-held box layout j m some within e)
@@ -470,9 +501,11 @@ module _ (layout : Layout) (p r : List ℕ) (j : ℕ) (front : length p ≡ j * 
 
 -- ---- what arrives
 -- slot j of what was written, read back
-pub read-back : (layout : Layout) (f : ℕ → Sent) → ((i : ℕ) → Sized layout (f i)) → (n j : ℕ) → 1 ≤ j → j ≤ n → messageOf (slots layout f n) layout j ≡ content (f j)
+pub read-back : (layout : Layout) (f : ℕ → Sent) → ((i : ℕ) → Sized layout (f i)) → (n j : ℕ) → 1 ≤ j → j ≤ n
+    → messageOf (slots layout f n) layout j ≡ content (f j)
 read-back layout f sized n j h l =
-    message-of-slot (slots layout f n) layout j (f j) h (subst (λ (m : ℕ). j * width layout ≤ m) (sym (length-slots layout f sized n)) (mul-le-mul-right (width layout) l))
+    message-of-slot (slots layout f n) layout j (f j) h
+    (subst (λ (m : ℕ). j * width layout ≤ m) (sym (length-slots layout f sized n)) (mul-le-mul-right (width layout) l))
     (slot-of-slots layout f sized n j h l)
 
 -- a slot that arrived, byte for byte, as it was sent is read as what was sent

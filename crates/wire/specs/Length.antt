@@ -1,16 +1,16 @@
 -- Message lengths, and the lengths of inboxes and outboxes (document 01, 'The house' and 'Rounds').
---   blockLength k t         the bytes of a block, stripe after stripe
---   rowIndex r              the place of a kind of round in the table, counted from 0; 8 for Outside
---   rowLength r n t k       the length column of the table
---   factorsOf r             the factors of k × (t + 1), k, n and 1 in that length
---   kinds, factorsAt i      the rows of the table in their order, and the factors in row i
---   inSettings n t k        rows 1 to 3 of the refusal table let the settings pass
---   blockSize n t k         the length of a block; 0 outside the settings
---   kindLayout r n t k      the layout of the slots of a kind of round, its messages of length 0 outside the settings
---   roundLayout n t k c     the layout of the slots of round c
---   messageLength n t k c   the length of a message of round c; 0 outside the settings and rounds
---   boxLength n t k c       the length of an inbox or outbox of round c: n slots; 0 outside the settings and rounds
---   inboxLength, outboxLength n t k c   the length that call c is lent; 0 for the first inbox and the last outbox
+--   blockLength k t                    the bytes of a block, stripe after stripe
+--   rowIndex r                         the place of a kind of round in the table, counted from 0; 8 for Outside
+--   rowLength r n t k                  the length column of the table
+--   factorsOf r                        the factors of k × (t + 1), k, n and 1 in that length
+--   kinds, factorsAt i                 the rows of the table in their order, and the factors in row i
+--   inSettings n t k                   rows 1 to 3 of the refusal table let the settings pass
+--   blockSize n t k                    the length of a block; 0 outside the settings
+--   kindLayout r n t k                 the layout of the slots of a kind of round, its messages of length 0 outside the settings
+--   roundLayout n t k c                the layout of the slots of round c
+--   messageLength n t k c              the length of a message of round c; 0 outside the settings and rounds
+--   boxLength n t k c                  the length of an inbox or outbox of round c: n slots; 0 outside the settings and rounds
+--   inboxLength, outboxLength n t k c  the length that call c is lent; 0 for the first inbox and the last outbox
 use mathlib.Core.Bool.{Bool, true, cond}
 use mathlib.Core.List.{List, [], _∷_}
 use Prim.Native.Nat.{ℕ, _+_, _-_, _*_}

@@ -1,11 +1,11 @@
 -- Rounds and calls (document 01, 'The house': a run has 3t + 8 rounds and 3t + 9 calls; 'Rounds': the table).
---   roundCount t, callCount t   how many there are
---   phaseRound m, lastRound m   the kinds of rounds of a phase, by their remainder by 3, and of those after the vote, without their 3t
---   roundKind t c               the row of the table in which round c stands: 1, 2, 3, then 3p + 1, 3p + 2, 3p + 3 for p = 1 .. t + 1,
---                               then 3t + 7, 3t + 8; Outside for every other number
---   phaseCall m, lastCall m     the same of calls
---   callKind t c                the kind of call c, which reads the inbox of round c - 1 and fills the outbox of round c
---   phaseOf c                   the phase p of the rounds 3p + 1, 3p + 2 and 3p + 3, whose king is controller p
+--   roundCount t, callCount t  how many there are
+--   phaseRound m, lastRound m  the kinds of rounds of a phase, by their remainder by 3, and of those after the vote, without their 3t
+--   roundKind t c              the row of the table in which round c stands: 1, 2, 3, then 3p + 1, 3p + 2, 3p + 3 for p = 1 .. t + 1, then 3t + 7, 3t +
+--                              8; Outside for every other number
+--   phaseCall m, lastCall m    the same of calls
+--   callKind t c               the kind of call c, which reads the inbox of round c - 1 and fills the outbox of round c
+--   phaseOf c                  the phase p of the rounds 3p + 1, 3p + 2 and 3p + 3, whose king is controller p
 use mathlib.Core.Bool.{cond}
 use Prim.Native.Nat.{ℕ, _+_, _-_, _*_, _/_, _%_}
 use lib.Dec.{leb, eqb}

@@ -9,12 +9,12 @@
 --   Sent                        what one controller sends to another in a round: silence, or a message
 --   written layout s            a slot written in full: 01 and the message, or all 00
 --   slots layout f n            the n slots of an outbox whose slot j is f j
---   toAll layout n m outbox     the outbox with the message m in its n slots; as it is where it is not exactly as long, or m is not of the
---                               layout's length
---   putSlot box layout j m      the box with slot j written with the message m; the box as it is where it does not hold the slot whole or m is
---                               not of the layout's length
---   relayed box layout j src i  the box with slot j replaced by slot i of the box src, byte for byte; the box as it is where either does not
---                               hold its slot whole
+--   toAll layout n m outbox     the outbox with the message m in its n slots; as it is where it is not exactly as long, or m is not of the layout's
+--                               length
+--   putSlot box layout j m      the box with slot j written with the message m; the box as it is where it does not hold the slot whole or m is not of
+--                               the layout's length
+--   relayed box layout j src i  the box with slot j replaced by slot i of the box src, byte for byte; the box as it is where either does not hold its
+--                               slot whole
 --   copied s d                  d with its first bytes replaced by those of s, as far as both reach
 use mathlib.Core.Bool.{Bool, cond, not, _&&_}
 use mathlib.Core.List.{List, [], _∷_, _++_}

@@ -90,7 +90,8 @@ faulty-sender = record {
 
 faulty-sender-meets : Meets faulty-sender
 unfolding faulty-sender stepsOf lents tabulate filled sum count same gadd gmul gpow polyMul reduce member setOf sizeOf restricted first
-    wordAt rowOf rowByte rowsOf outside tooMany broken refusalOf stateRefusal lengthsRefusal starRefusal encodingRefusal blockLength rowLength inSettings kindLength boxLength inboxLength
+    wordAt rowOf rowByte rowsOf outside tooMany broken refusalOf stateRefusal lengthsRefusal starRefusal encodingRefusal blockLength rowLength inSettings
+    kindLength boxLength inboxLength
     outboxLength roundKind callKind phaseOf width slotOf part holds isPresent messageOf written slots joined copied gsum evaluate stripe pieceOf isReady
     sentBlock receivedBlock twoPieces sentPieces isMarked marksOf marksMessage sentMarks zeroSeen oneSeen held support weak settled matrixOf
     said kingSays firstMatrix zerosOf onesOf heldOf weakOf settledOf seenMessage sentByKing neighbour matched firstFound ofSize upTo matchingOf struck
@@ -118,7 +119,8 @@ pub faulty-sender-agreed :
     Holds faulty-sender 2 (0x0a ∷ 0x14 ∷ [])
     × (Holds faulty-sender 3 (0x0a ∷ 0x14 ∷ []) × Holds faulty-sender 4 (0x0a ∷ 0x14 ∷ []))
 unfolding faulty-sender stepsOf lents tabulate filled sum count same gadd gmul gpow polyMul reduce member setOf sizeOf restricted first
-    wordAt rowOf rowByte rowsOf outside tooMany broken refusalOf stateRefusal lengthsRefusal starRefusal encodingRefusal blockLength rowLength inSettings kindLength boxLength inboxLength
+    wordAt rowOf rowByte rowsOf outside tooMany broken refusalOf stateRefusal lengthsRefusal starRefusal encodingRefusal blockLength rowLength inSettings
+    kindLength boxLength inboxLength
     outboxLength roundKind callKind phaseOf width slotOf part holds isPresent messageOf written slots joined copied gsum evaluate stripe pieceOf isReady
     sentBlock receivedBlock twoPieces sentPieces isMarked marksOf marksMessage sentMarks zeroSeen oneSeen held support weak settled matrixOf
     said kingSays firstMatrix zerosOf onesOf heldOf weakOf settledOf seenMessage sentByKing neighbour matched firstFound ofSize upTo matchingOf struck
@@ -126,5 +128,9 @@ unfolding faulty-sender stepsOf lents tabulate filled sum count same gadd gmul g
     chosenPiece ownPiece sentPiece shared callOf startRefusal startOf lengthsFit stepRefusal stepOf decodingRefusal received agreeing meets
 faulty-sender-agreed = (
   ends 2 (record { least = omega arith; most = omega arith; is = refl }) refl refl,
-  (ends 3 (record { least = omega arith; most = omega arith; is = refl }) refl refl, ends 4 (record { least = omega arith; most = omega arith; is = refl }) refl refl),
+  (
+    ends 3 (record { least = omega arith; most = omega arith; is = refl }) refl refl,
+    ends 4
+        (record { least = omega arith; most = omega arith; is = refl }) refl refl,
+  ),
 )

@@ -146,7 +146,8 @@ two-faced = record {
 
 two-faced-meets : Meets two-faced
 unfolding two-faced stepsOf from4-1 from4-2 from4-3 lents tabulate filled sum count same gadd gmul gpow polyMul reduce member setOf
-    sizeOf restricted first wordAt rowOf rowByte rowsOf outside tooMany broken refusalOf stateRefusal lengthsRefusal starRefusal encodingRefusal blockLength rowLength inSettings kindLength
+    sizeOf restricted first wordAt rowOf rowByte rowsOf outside tooMany broken refusalOf stateRefusal lengthsRefusal starRefusal encodingRefusal blockLength
+    rowLength inSettings kindLength
     boxLength inboxLength outboxLength roundKind callKind phaseOf width slotOf part holds isPresent messageOf written slots joined copied gsum evaluate
     stripe pieceOf isReady sentBlock receivedBlock twoPieces sentPieces isMarked marksOf marksMessage sentMarks zeroSeen oneSeen held support
     weak settled matrixOf said kingSays firstMatrix zerosOf onesOf heldOf weakOf settledOf seenMessage sentByKing neighbour matched firstFound ofSize
@@ -157,7 +158,8 @@ two-faced-meets = record { tolerance = tt; few = tt; started = tt; finished = tt
 -- what the steps of a correct controller return
 two-faced-answers :
     T (each 3 (λ i. same (answers (atStart two-faced i) (two-faced .steps i)) (6 ∷ 0 ∷ 0 ∷ 0 ∷ 0 ∷ 6 ∷ 0 ∷ 6 ∷ 0 ∷ 0 ∷ 0 ∷ 0 ∷ 0 ∷ 0 ∷ 0 ∷ 8 ∷ [])))
-unfolding two-faced stepsOf from4-1 from4-2 from4-3 lents answers same outside tooMany broken refusalOf stateRefusal lengthsRefusal starRefusal encodingRefusal blockLength rowLength inSettings
+unfolding two-faced stepsOf from4-1 from4-2 from4-3 lents answers same outside tooMany broken refusalOf stateRefusal lengthsRefusal starRefusal
+    encodingRefusal blockLength rowLength inSettings
     kindLength boxLength inboxLength outboxLength roundKind callKind width slotOf part holds isPresent messageOf receivedBlock copied callOf
     startRefusal startOf lengthsFit stepRefusal stepOf
 two-faced-answers = tt

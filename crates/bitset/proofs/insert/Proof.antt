@@ -15,7 +15,8 @@ member-requires : tie.Need-member-requires
 member-requires c κs = search needs
 
 -- a new member: the bit's worth is added
-new : (c : tie.After-bit) → c .before .before .before .before .args .s + c .bit .result ≡ inserted (c .before .before .before .before .args .s) (c .before .before .before .before .args .i)
+new : (c : tie.After-bit) → c .before .before .before .before .args .s + c .bit .result ≡ inserted (c .before .before .before .before .args .s)
+    (c .before .before .before .before .args .i)
 new c =
     let S = c .before .before .before .before in
     ap (λ (x : ℕ). S .args .s + x) (c .bit .ensures)

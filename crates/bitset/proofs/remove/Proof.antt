@@ -20,7 +20,8 @@ bit-requires : tie.Need-bit-requires
 bit-requires c κs = search needs
 
 -- a member: the set is what is left and the bit's worth
-less : (c : tie.After-bit) → removed (c .before .before .before .before .args .s) (c .before .before .before .before .args .i) + c .bit .result ≡ c .before .before .before .before .args .s
+less : (c : tie.After-bit) → removed (c .before .before .before .before .args .s)
+    (c .before .before .before .before .args .i) + c .bit .result ≡ c .before .before .before .before .args .s
 less c =
     let S = c .before .before .before .before in
     ap (λ (x : ℕ). removed (S .args .s) (S .args .i) + x) (c .bit .ensures)

@@ -56,7 +56,8 @@ loop-again c =
     let same : length (L .loop .out) ≡ length o = ap length (L .loop .inv .2) ∙ length-filled _ (L .loop .b) o in (
       L .loop .inv .0,
       omega arith,
-      fill-more (rowByte (S .args .n) (now (S .args .rows))) (L .loop .b) o (L .loop .out) (c .row-byte .result) (omega arith) (L .loop .inv .2) (c .row-byte .ensures),
+      fill-more (rowByte (S .args .n) (now (S .args .rows))) (L .loop .b) o (L .loop .out) (c .row-byte .result) (omega arith) (L .loop .inv .2)
+          (c .row-byte .ensures),
     )
 
 same-length-2 : tie.Need-same-length-2 Inv-loop μ-loop

@@ -25,13 +25,15 @@ block-length-requires c κs = search needs
 returns-2 : tie.Need-returns-2
 returns-2 c =
     let a = c .before .before .before .before .before .before .before .before .args in
-    let size = c .before .block-length .ensures ∙ ap (λ (s : State). blockSize (s .settings .n) (s .settings .t) (s .settings .k)) (c .before .before .read .ensures) in
+    let size = c .before .block-length .ensures ∙ ap (λ (s : State). blockSize (s .settings .n) (s .settings .t) (s .settings .k))
+    (c .before .before .read .ensures) in
     final-wrong-block (now (a .state)) (now (a .block)) (now (a .out)) (λ e. c .if2 .taken (e ∙ sym size))
 
 returns-3 : tie.Need-returns-3
 returns-3 c =
     let a = c .before .before .before .before .before .before .before .before .before .args in
-    let size = c .before .before .block-length .ensures ∙ ap (λ (s : State). blockSize (s .settings .n) (s .settings .t) (s .settings .k)) (c .before .before .before .read .ensures) in
+    let size = c .before .before .block-length .ensures
+    ∙ ap (λ (s : State). blockSize (s .settings .n) (s .settings .t) (s .settings .k)) (c .before .before .before .read .ensures) in
     final-wrong-out (now (a .state)) (now (a .block)) (now (a .out)) (λ e. c .if3 .taken (e ∙ sym size))
 
 potekawhi-outcome-requires : tie.Need-potekawhi-outcome-requires
@@ -40,8 +42,11 @@ potekawhi-outcome-requires c κs = search needs
 returns-4 : tie.Need-returns-4
 returns-4 c =
     let a = c .before .before .before .before .before .before .before .before .before .before .before .args in
-    let size = c .before .before .before .before .block-length .ensures ∙ ap (λ (s : State). blockSize (s .settings .n) (s .settings .t) (s .settings .k)) (c .before .before .before .before .before .read .ensures) in
-    final-open (now (a .state)) (now (a .block)) (now (a .out)) (c .before .before .before .before .before .before .if1 .left ∙ c .before .before .before .before .before .before .before .length .ensures) (c .before .before .before .if2 .left ∙ size) (c .before .before .if3 .left ∙ size)
+    let size = c .before .before .before .before .block-length .ensures
+    ∙ ap (λ (s : State). blockSize (s .settings .n) (s .settings .t) (s .settings .k)) (c .before .before .before .before .before .read .ensures) in
+    final-open (now (a .state)) (now (a .block)) (now (a .out))
+    (c .before .before .before .before .before .before .if1 .left ∙ c .before .before .before .before .before .before .before .length .ensures)
+    (c .before .before .before .if2 .left ∙ size) (c .before .before .if3 .left ∙ size)
     (sym (c .before .potekawhi-outcome .ensures) ∙ c .if4 .taken)
 
 copy-requires : tie.Need-copy-requires
@@ -53,9 +58,15 @@ same-length c = search needs
 returns-5 : tie.Need-returns-5
 returns-5 c =
     let a = c .before .before .before .before .before .before .before .before .before .before .before .before .before .before .before .args in
-    let size = c .before .before .before .before .before .before .before .before .block-length .ensures ∙ ap (λ (s : State). blockSize (s .settings .n) (s .settings .t) (s .settings .k)) (c .before .before .before .before .before .before .before .before .before .read .ensures) in
-    final-copied (now (a .state)) (now (a .block)) (now (a .out)) (c .before .before .before .before .before .before .before .before .before .before .if1 .left ∙ c .before .before .before .before .before .before .before .before .before .before .before .length .ensures) (c .before .before .before .before .before .before .before .if2 .left ∙ size) (c .before .before .before .before .before .before .if3 .left ∙ size)
-    (c .before .before .before .before .before .potekawhi-outcome .result) (c .before .before .before .before .before .potekawhi-outcome .ensures) (c .before .before .before .before .if4 .left) (c .before .before .copy .last .0) (c .before .before .copy .ensures)
+    let size = c .before .before .before .before .before .before .before .before .block-length .ensures
+    ∙ ap (λ (s : State). blockSize (s .settings .n) (s .settings .t) (s .settings .k))
+    (c .before .before .before .before .before .before .before .before .before .read .ensures) in
+    final-copied (now (a .state)) (now (a .block)) (now (a .out))
+    (c .before .before .before .before .before .before .before .before .before .before .if1 .left
+    ∙ c .before .before .before .before .before .before .before .before .before .before .before .length .ensures)
+    (c .before .before .before .before .before .before .before .if2 .left ∙ size) (c .before .before .before .before .before .before .if3 .left ∙ size)
+    (c .before .before .before .before .before .potekawhi-outcome .result) (c .before .before .before .before .before .potekawhi-outcome .ensures)
+    (c .before .before .before .before .if4 .left) (c .before .before .copy .last .0) (c .before .before .copy .ensures)
 
 pub potekawhi-final-block-spec : {M : Type 1} → statement M
 potekawhi-final-block-spec =

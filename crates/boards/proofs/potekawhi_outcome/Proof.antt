@@ -22,7 +22,8 @@ outcome-number-requires c κs = search needs
 returns-2 : tie.Need-returns-2
 returns-2 c =
     c .outcome-number .ensures
-    ∙ outcome-read (now (c .before .before .before .before .before .args .state)) (c .before .before .if1 .left ∙ c .before .before .before .length .ensures) (c .before .read .result) (c .before .read .ensures)
+    ∙ outcome-read (now (c .before .before .before .before .before .args .state)) (c .before .before .if1 .left ∙ c .before .before .before .length .ensures)
+    (c .before .read .result) (c .before .read .ensures)
 
 pub potekawhi-outcome-spec : {M : Type 1} → statement M
 potekawhi-outcome-spec =

@@ -33,8 +33,12 @@ returns-2 : tie.Need-returns-2
 returns-2 c =
     let a = c .before .before .before .before .before .before .before .before .before .before .before .before .before .before .before .before .args in
     let r = c .before .before .before .before .before .step in
-    step-refused (now (a .state)) (now (a .block)) (now (a .inbox)) (now (a .outbox)) (c .before .before .before .before .before .before .before .before .before .before .if1 .left ∙ c .before .before .before .before .before .before .before .before .before .before .before .length .ensures)
-    (c .before .before .before .before .before .before .before .before .read .result) (c .before .before .before .before .before .before .before .before .read .ensures) (r .result) (r .last .1 .0) (r .last .1 .1 .1 .0) (r .ensures) (c .if2 .taken)
+    step-refused (now (a .state)) (now (a .block)) (now (a .inbox)) (now (a .outbox))
+    (c .before .before .before .before .before .before .before .before .before .before .if1 .left
+    ∙ c .before .before .before .before .before .before .before .before .before .before .before .length .ensures)
+    (c .before .before .before .before .before .before .before .before .read .result)
+    (c .before .before .before .before .before .before .before .before .read .ensures) (r .result) (r .last .1 .0) (r .last .1 .1 .1 .0) (r .ensures)
+    (c .if2 .taken)
 
 write-requires : tie.Need-write-requires
 write-requires c κs = search needs
@@ -52,8 +56,12 @@ returns-3 : tie.Need-returns-3
 returns-3 c =
     let a = c .before .before .before .before .before .before .before .before .before .before .before .before .before .before .before .before .before .before .before .before .before .args in
     let r = c .before .before .before .before .before .before .before .before .before .before .step in
-    step-carried (now (a .state)) (now (a .block)) (now (a .inbox)) (now (a .outbox)) (c .before .before .before .before .before .before .before .before .before .before .before .before .before .before .before .if1 .left ∙ c .before .before .before .before .before .before .before .before .before .before .before .before .before .before .before .before .length .ensures)
-    (c .before .before .before .before .before .before .before .before .before .before .before .before .before .read .result) (c .before .before .before .before .before .before .before .before .before .before .before .before .before .read .ensures) (r .result) (r .last .1 .0) (r .last .1 .1 .1 .0) (r .ensures) (c .before .before .before .before .before .if2 .left)
+    step-carried (now (a .state)) (now (a .block)) (now (a .inbox)) (now (a .outbox))
+    (c .before .before .before .before .before .before .before .before .before .before .before .before .before .before .before .if1 .left
+    ∙ c .before .before .before .before .before .before .before .before .before .before .before .before .before .before .before .before .length .ensures)
+    (c .before .before .before .before .before .before .before .before .before .before .before .before .before .read .result)
+    (c .before .before .before .before .before .before .before .before .before .before .before .before .before .read .ensures) (r .result) (r .last .1 .0)
+    (r .last .1 .1 .1 .0) (r .ensures) (c .before .before .before .before .before .if2 .left)
     (c .before .before .write .last .1 .0) (c .before .before .write .ensures)
 
 pub potekawhi-step-spec : {M : Type 1} → statement M

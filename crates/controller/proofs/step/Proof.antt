@@ -24,8 +24,14 @@ perform-requires : tie.Need-perform-requires
 perform-requires c κs =
     let I = c .before .before in
     let a = I .before .before .before .before .before .args in
-    let r = step-0 (a .s) (length (now (a .block))) (length (now (a .inbox))) (length (now (a .outbox))) (sym (I .before .step-refusal .ensures) ∙ I .if1 .left) in
-    record { few = r .valid .coded .quorum .n-most; least = r .next-least; most = omega (arith, r .next-most, r .valid .coded .quorum .t-most, r .valid .coded .quorum .n-most) }
+    let r = step-0 (a .s) (length (now (a .block))) (length (now (a .inbox))) (length (now (a .outbox)))
+    (sym (I .before .step-refusal .ensures) ∙ I .if1 .left) in
+    record {
+      few =
+          r .valid .coded .quorum .n-most;
+      least = r .next-least;
+      most = omega (arith, r .next-most, r .valid .coded .quorum .t-most, r .valid .coded .quorum .n-most);
+    }
 
 same-length : tie.Need-same-length
 same-length c = search needs

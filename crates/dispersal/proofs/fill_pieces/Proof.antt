@@ -19,7 +19,8 @@ use Rattle.dispersal.proofs.fill_pieces.Tie as tie
 
 abbrev Inv-loop : tie.InvT-loop
 Inv-loop layout n t k own block m₀ outbox₀ j₀ m outbox j =
-    (j ≤ n) × (length m ≡ layout .length) × (take k m ≡ pieceOf k t block own) × (outbox ≡ slots layout (twoPieces k t own block) j ++ drop (j * width layout) outbox₀)
+    (j ≤ n) × (length m ≡ layout .length) × (take k m ≡ pieceOf k t block own) × (outbox ≡ slots layout (twoPieces k t own block) j ++ drop
+    (j * width layout) outbox₀)
 
 abbrev μ-loop : tie.MeasureT-loop
 μ-loop layout n t k own block m₀ outbox₀ j₀ m outbox j = n - j
@@ -72,8 +73,15 @@ loop-again c =
       long,
       ap (take (a .k)) pair ∙ take-at p q (a .k) (length-piece (a .k) (a .t) (a .block .now) (a .own)),
       c .before .before .send-one .ensures
-          ∙ put-next-slot (a .layout) (twoPieces (a .k) (a .t) (a .own) (a .block .now)) (two-pieces-sized (a .k) (a .t) (a .own) (a .block .now) (a .layout) (S .pre .1)) (a .outbox .now) (L .loop .outbox) m' (L .loop .j)
-          (omega (arith, slot-within (a .n) (width (a .layout)) (L .loop .j) (omega (arith, T .loop-test .taken)), next-offset (L .loop .j) (width (a .layout)), S .pre .3)) (L .loop .inv .3)
+          ∙ put-next-slot (a .layout) (twoPieces (a .k) (a .t) (a .own) (a .block .now))
+          (two-pieces-sized (a .k) (a .t) (a .own) (a .block .now) (a .layout) (S .pre .1)) (a .outbox .now) (L .loop .outbox) m' (L .loop .j)
+          (omega (
+            arith,
+            slot-within (a .n) (width (a .layout)) (L .loop .j) (omega (arith, T .loop-test .taken)),
+            next-offset (L .loop .j)
+                (width (a .layout)),
+            S .pre .3,
+          )) (L .loop .inv .3)
           (two-pieces-is (a .k) (a .t) (a .own) (a .block .now) (L .loop .j + 1) ∙ ap Rattle.wire.specs.Slot.bytes (sym pair)) long,
     )
 
@@ -89,7 +97,8 @@ same-length-2 c =
     let S = L .before .before .before .before .before .before .before .before in
     let a = S .args in
     let all : L .loop .j ≡ a .n = omega (arith, c .loop-test .left) in
-    length-rest (a .layout) (twoPieces (a .k) (a .t) (a .own) (a .block .now)) (two-pieces-sized (a .k) (a .t) (a .own) (a .block .now) (a .layout) (S .pre .1)) (a .outbox .now) (L .loop .outbox) (L .loop .j)
+    length-rest (a .layout) (twoPieces (a .k) (a .t) (a .own) (a .block .now))
+    (two-pieces-sized (a .k) (a .t) (a .own) (a .block .now) (a .layout) (S .pre .1)) (a .outbox .now) (L .loop .outbox) (L .loop .j)
     (le-of-eq (ap (λ (x : ℕ). x * width (a .layout)) all ∙ sym (S .pre .3))) (L .loop .inv .3)
 
 returns : tie.Need-returns Inv-loop μ-loop

@@ -65,7 +65,8 @@ loop-again c =
       K .is-marked .kept .1 .1 .1 .1 .1 .1 .1 .0 ∙ L .loop .inv .1,
       K .is-marked .ensures .1,
       c .insert .ensures ∙ ap (λ (x : ℕ). inserted x i) (L .loop .inv .3)
-          ∙ insert-next i marked (omega (arith, K .before .before .loop-test .taken, S .pre .0 .coded .quorum .n-most)) (sym (K .is-marked .ensures .0) ∙ c .before .if1 .taken),
+          ∙ insert-next i marked (omega (arith, K .before .before .loop-test .taken, S .pre .0 .coded .quorum .n-most))
+          (sym (K .is-marked .ensures .0) ∙ c .before .if1 .taken),
     )
 
 loop-less-2 : tie.Need-loop-less-2 Inv-loop μ-loop

@@ -24,14 +24,16 @@ unfolding marksOf
 returns c =
     let a = c .before .before .before .before .before .args in
     c .mark .ensures
-    ∙ sym (cond-yes (isReady (a .n) (a .t) (a .k) (a .own) (a .block .now) true) (setOf (a .n) (λ i. isMarked (a .k) (a .t) (a .own) (a .inbox .now) (a .layout) (a .block .now) (i + 1))) 0
+    ∙ sym (cond-yes (isReady (a .n) (a .t) (a .k) (a .own) (a .block .now) true)
+    (setOf (a .n) (λ i. isMarked (a .k) (a .t) (a .own) (a .inbox .now) (a .layout) (a .block .now) (i + 1))) 0
     (sym (c .before .before .is-ready .ensures) ∙ c .before .if1 .taken))
 
 returns-2 : tie.Need-returns-2
 unfolding marksOf
 returns-2 c =
     let a = c .before .before .before .before .args in
-    sym (cond-no (isReady (a .n) (a .t) (a .k) (a .own) (a .block .now) true) (setOf (a .n) (λ i. isMarked (a .k) (a .t) (a .own) (a .inbox .now) (a .layout) (a .block .now) (i + 1))) 0
+    sym (cond-no (isReady (a .n) (a .t) (a .k) (a .own) (a .block .now) true)
+    (setOf (a .n) (λ i. isMarked (a .k) (a .t) (a .own) (a .inbox .now) (a .layout) (a .block .now) (i + 1))) 0
     (sym (c .before .is-ready .ensures) ∙ c .if1 .left))
 
 pub marks-spec : {M : Type 1} → statement M

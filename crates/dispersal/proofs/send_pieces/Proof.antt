@@ -38,8 +38,13 @@ send-both-requires c κs =
 -- the test that is made is the one that the definition makes
 ready : (c : tie.After-is-ready)
     → c .is-ready .result
-    ≡ isReady (c .before .before .before .before .before .before .args .n) (c .before .before .before .before .before .before .args .t) (c .before .before .before .before .before .before .args .k) (c .before .before .before .before .before .before .args .own) (c .before .before .before .before .before .before .args .block .now)
-    (eqb (length (c .before .before .before .before .before .before .args .outbox .now)) (c .before .before .before .before .before .before .args .n * width (kindLayout Pieces (c .before .before .before .before .before .before .args .n) (c .before .before .before .before .before .before .args .t) (c .before .before .before .before .before .before .args .k))))
+    ≡ isReady (c .before .before .before .before .before .before .args .n) (c .before .before .before .before .before .before .args .t)
+    (c .before .before .before .before .before .before .args .k) (c .before .before .before .before .before .before .args .own)
+    (c .before .before .before .before .before .before .args .block .now)
+    (eqb (length (c .before .before .before .before .before .before .args .outbox .now))
+    (c .before .before .before .before .before .before .args .n * width
+    (kindLayout Pieces (c .before .before .before .before .before .before .args .n) (c .before .before .before .before .before .before .args .t)
+    (c .before .before .before .before .before .before .args .k))))
 ready c =
     let a = c .before .before .before .before .before .before .args in
     c .is-ready .ensures

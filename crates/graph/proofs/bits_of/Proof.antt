@@ -69,7 +69,8 @@ loop2-again c =
     let told : c .before .is-missing .result ≡ (ltb (J .loop2 .j) (A .n) && not (adj (I .loop .i) (J .loop2 .j))) = c .before .is-missing .ensures in (
       omega (arith, J .loop2 .inv .0),
       omega arith,
-      bits-more (A .n) adj (J .loop2 .bits) p (c .with-bit .result) (c .before .is-missing .result) (P .place .ensures .1) (J .loop2 .inv .2 ∙ ap (bitsTo (A .n) adj) (sym at))
+      bits-more (A .n) adj (J .loop2 .bits) p (c .with-bit .result) (c .before .is-missing .result) (P .place .ensures .1)
+          (J .loop2 .inv .2 ∙ ap (bitsTo (A .n) adj) (sym at))
           (told ∙ sym (ap (missingAt (A .n) adj) at ∙ missing-place (A .n) adj (I .loop .i) (J .loop2 .j) (J .loop2 .inv .0) (T .loop2-test .taken)))
           (c .with-bit .ensures)
           ∙ ap (bitsTo (A .n) adj) (ap (λ (x : ℕ). x + 1) at ∙ sym (place-next (I .loop .i) (J .loop2 .j) (J .loop2 .inv .0))),
@@ -87,8 +88,11 @@ loop-again c =
     let T = J .before in
     let I = T .before in
     let A = I .before .args in
-    let all : J .loop2 .j ≡ 16 = omega arith in
-    (omega arith, J .loop2 .inv .2 ∙ ap (bitsTo (A .n) (neighbour (A .rows .now))) (ap (place (I .loop .i)) all ∙ place-turn (I .loop .i) (T .loop-test .taken)))
+    let all : J .loop2 .j ≡ 16 = omega arith in (
+      omega arith,
+      J .loop2 .inv .2 ∙ ap (bitsTo (A .n) (neighbour (A .rows .now)))
+          (ap (place (I .loop .i)) all ∙ place-turn (I .loop .i) (T .loop-test .taken)),
+    )
 
 returns : tie.Need-returns Inv-loop2 μ-loop2 Inv-loop μ-loop
 returns c =

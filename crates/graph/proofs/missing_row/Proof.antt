@@ -24,7 +24,8 @@ at-most-16-requires c κs = tt
 returns : tie.Need-returns Inv-loop μ-loop
 returns c =
     let A = c .before .before .args in
-    sym (missing-16 (A .bits) (A .n) (A .i) ∙ missing-none (min (A .n) 16) (adjacent (A .bits)) (A .i) (subst (λ (x : ℕ). x ≤ A .i) (c .before .at-most-16 .ensures) (c .if1 .taken)))
+    sym (missing-16 (A .bits) (A .n) (A .i) ∙ missing-none (min (A .n) 16) (adjacent (A .bits)) (A .i)
+    (subst (λ (x : ℕ). x ≤ A .i) (c .before .at-most-16 .ensures) (c .if1 .taken)))
 
 loop-holds : tie.Need-loop-holds Inv-loop μ-loop
 loop-holds c = (omega arith, sym (set-none _))

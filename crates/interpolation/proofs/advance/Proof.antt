@@ -41,9 +41,11 @@ returns c =
     record {
       result =
           sym
-          (advance-right (a .x) (a .y) s (sym (c .before .before .before .before .before .before .before .before .before .wrong-by .ensures) ∙ c .before .before .before .before .before .before .before .before .if1 .taken)
+          (advance-right (a .x) (a .y) s (sym (c .before .before .before .before .before .before .before .before .before .wrong-by .ensures)
+          ∙ c .before .before .before .before .before .before .before .before .if1 .taken)
           ∙ ap (λ (P : Ratio). ratios (ratio (a .qa .now) (a .ea .now)) (a .u) P (a .v + 1))
-          (root-pair (a .x) (a .qb .now) (a .eb .now) ∙ sym (ap₂ ratio (c .before .before .before .before .before .before .times-root .ensures) (c .before .before .times-root2 .ensures))));
+          (root-pair (a .x) (a .qb .now) (a .eb .now) ∙ sym
+          (ap₂ ratio (c .before .before .before .before .before .before .times-root .ensures) (c .before .before .times-root2 .ensures))));
       total = omega arith;
     }
 
@@ -92,11 +94,13 @@ returns-2 c =
           sym
           (advance-wrong (a .x) (a .y) s (λ e. c .before .before .before .before .before .before .before .before .before .before .before .before .before .before .before .before .before .before .before .before .before .if1 .left (wa ∙ e))
           ∙ ap₂ (λ (A B : Ratio). ratios A (a .u + 1) B (a .v))
-          (root-pair (a .x) qa ea ∙ sym (ap₂ ratio (c .before .before .before .before .before .before .times-root3 .ensures) (c .before .before .times-root4 .ensures)))
+          (root-pair (a .x) qa ea ∙ sym (ap₂ ratio (c .before .before .before .before .before .before .times-root3 .ensures)
+          (c .before .before .times-root4 .ensures)))
           (combine-pair (wrongBy (a .y) (ratio qa ea) (a .x)) (wrongBy (a .y) (ratio qb eb) (a .x)) qb eb qa ea
           ∙ sym
           (ap₂ ratio (c .before .before .before .before .before .before .before .before .before .before .before .before .before .before .before .combine .ensures ∙ ap₂ (λ k l. plus (scale k qb) (scale l qa)) wa wb)
-          (c .before .before .before .before .before .before .before .before .before .before .combine2 .ensures ∙ ap₂ (λ k l. plus (scale k eb) (scale l ea)) wa wb))));
+          (c .before .before .before .before .before .before .before .before .before .before .combine2 .ensures
+          ∙ ap₂ (λ k l. plus (scale k eb) (scale l ea)) wa wb))));
       total = omega arith;
     }
 

@@ -36,7 +36,8 @@ returns-5 : tie.Need-returns-5
 returns-5 c =
     let a = c .before .before .before .before .before .before .before .before .before .before .before .args in
     c .before .before .recover .ensures
-    ∙ sym (into-candidate (a .xs .now) (a .ys .now) (a .m .now) (length (a .m .now) - 1) (c .before .before .before .before .before .before .before .if1 .left) (omega arith) (omega arith))
+    ∙ sym (into-candidate (a .xs .now) (a .ys .now) (a .m .now) (length (a .m .now) - 1)
+    (c .before .before .before .before .before .before .before .if1 .left) (omega arith) (omega arith))
 
 pub candidate-spec : {M : Type 1} → statement M
 candidate-spec =

@@ -55,7 +55,8 @@ loop-again c =
       length-set (l .p) (l .i) (c .add .result) ∙ l .inv .1,
       fill-more f (l .i) p₀ (l .p) (c .add .result) (omega arith) (l .inv .2)
           (c .add .ensures
-          ∙ ap₂ gadd (c .before .before .before .mul .ensures ∙ ap (gmul (a .a)) (unread f (l .i) p₀ (l .p) (l .inv .2) (l .i) (omega arith))) (c .before .mul2 .ensures)),
+          ∙ ap₂ gadd (c .before .before .before .mul .ensures ∙ ap (gmul (a .a)) (unread f (l .i) p₀ (l .p) (l .inv .2) (l .i) (omega arith)))
+          (c .before .mul2 .ensures)),
     )
 
 same-length : tie.Need-same-length Inv-loop μ-loop

@@ -13,7 +13,8 @@ use Rattle.interpolation.proofs.divide.Statement.{statement}
 use Rattle.interpolation.proofs.divide.Tie as tie
 
 abbrev Inv-loop : tie.InvT-loop
-Inv-loop q₀ e m₀ inverse j₀ q m j = (j ≤ length m₀) × (length m ≡ length m₀) × (length q ≡ length q₀) × (take j m ++ series (length m₀ - j) q e ≡ series (length m₀) q₀ e)
+Inv-loop q₀ e m₀ inverse j₀ q m j =
+    (j ≤ length m₀) × (length m ≡ length m₀) × (length q ≡ length q₀) × (take j m ++ series (length m₀ - j) q e ≡ series (length m₀) q₀ e)
 
 abbrev μ-loop : tie.MeasureT-loop
 μ-loop q₀ e m₀ inverse j₀ q m j = length m₀ - j
@@ -55,7 +56,8 @@ loop-again c =
     let v = c .before .before .before .before .mul .result in
     let n = length (a .m .now) - (l .j + 1) in
     let more : length (a .m .now) - l .j ≡ suc n = omega arith in
-    let e : v ≡ gmul (getD (l .q) 0 0) (Rattle.gf256.specs.Field.ginv (getD (a .e .now) 0 0)) = c .before .before .before .before .mul .ensures ∙ ap (gmul (getD (l .q) 0 0)) (c .before .before .before .before .before .before .before .before .inv .ensures) in (
+    let e : v ≡ gmul (getD (l .q) 0 0) (Rattle.gf256.specs.Field.ginv (getD (a .e .now) 0 0)) = c .before .before .before .before .mul .ensures
+    ∙ ap (gmul (getD (l .q) 0 0)) (c .before .before .before .before .before .before .before .before .inv .ensures) in (
       omega arith,
       length-set (l .m) (l .j) v ∙ l .inv .1,
       c .before .before .reduce .kept .0 ∙ l .inv .2,

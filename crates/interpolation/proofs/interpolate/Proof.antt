@@ -12,16 +12,21 @@ use Rattle.interpolation.proofs.interpolate.Statement.{statement}
 use Rattle.interpolation.proofs.interpolate.Tie as tie
 
 abbrev Inv-loop : tie.InvT-loop
-Inv-loop xs ys t qa₀ ea₀ qb₀ eb₀ u₀ v₀ i₀ qa ea qb eb u v i = (i ≤ length xs) × (u + v ≡ i + t) × SameWidth (length xs + t + 1) qa ea qb eb × (ratiosOf qa ea u qb eb v ≡ run t xs ys i)
+Inv-loop xs ys t qa₀ ea₀ qb₀ eb₀ u₀ v₀ i₀ qa ea qb eb u v i =
+    (i ≤ length xs) × (u + v ≡ i + t) × SameWidth (length xs + t + 1) qa ea qb eb × (ratiosOf qa ea u qb eb v ≡ run t xs ys i)
 
 abbrev μ-loop : tie.MeasureT-loop
 μ-loop xs ys t qa₀ ea₀ qb₀ eb₀ u₀ v₀ i₀ qa ea qb eb u v i = length xs - i
 
 slice-write-qa : tie.Need-slice-write-qa Inv-loop μ-loop
-slice-write-qa c = let a = c .before .before .before .before .before .before .args in omega (arith, ap length (c .before .before .before .before .before .before .pre .zero-qa), length-replicate {A = ℕ} (length (a .xs .now) + a .t + 1) 0)
+slice-write-qa c =
+    let a = c .before .before .before .before .before .before .args in
+    omega (arith, ap length (c .before .before .before .before .before .before .pre .zero-qa), length-replicate {A = ℕ} (length (a .xs .now) + a .t + 1) 0)
 
 slice-write-eb : tie.Need-slice-write-eb Inv-loop μ-loop
-slice-write-eb c = let a = c .before .before .before .before .before .before .args in omega (arith, ap length (c .before .before .before .before .before .before .pre .zero-eb), length-replicate {A = ℕ} (length (a .xs .now) + a .t + 1) 0)
+slice-write-eb c =
+    let a = c .before .before .before .before .before .before .args in
+    omega (arith, ap length (c .before .before .before .before .before .before .pre .zero-eb), length-replicate {A = ℕ} (length (a .xs .now) + a .t + 1) 0)
 
 loop-holds : tie.Need-loop-holds Inv-loop μ-loop
 loop-holds c =
@@ -86,16 +91,24 @@ loop-again c =
     )
 
 same-length : tie.Need-same-length Inv-loop μ-loop
-same-length c = let a = c .before .before .before .before .before .before .before .before .args in c .before .loop .inv .2 .size-qa ∙ sym (ap length (c .before .before .before .before .before .before .before .before .pre .zero-qa) ∙ length-replicate (length (a .xs .now) + a .t + 1) 0)
+same-length c =
+    let a = c .before .before .before .before .before .before .before .before .args in c .before .loop .inv .2 .size-qa
+    ∙ sym (ap length (c .before .before .before .before .before .before .before .before .pre .zero-qa) ∙ length-replicate (length (a .xs .now) + a .t + 1) 0)
 
 same-length-2 : tie.Need-same-length-2 Inv-loop μ-loop
-same-length-2 c = let a = c .before .before .before .before .before .before .before .before .args in c .before .loop .inv .2 .size-ea ∙ sym (ap length (c .before .before .before .before .before .before .before .before .pre .zero-ea) ∙ length-replicate (length (a .xs .now) + a .t + 1) 0)
+same-length-2 c =
+    let a = c .before .before .before .before .before .before .before .before .args in c .before .loop .inv .2 .size-ea
+    ∙ sym (ap length (c .before .before .before .before .before .before .before .before .pre .zero-ea) ∙ length-replicate (length (a .xs .now) + a .t + 1) 0)
 
 same-length-3 : tie.Need-same-length-3 Inv-loop μ-loop
-same-length-3 c = let a = c .before .before .before .before .before .before .before .before .args in c .before .loop .inv .2 .size-qb ∙ sym (ap length (c .before .before .before .before .before .before .before .before .pre .zero-qb) ∙ length-replicate (length (a .xs .now) + a .t + 1) 0)
+same-length-3 c =
+    let a = c .before .before .before .before .before .before .before .before .args in c .before .loop .inv .2 .size-qb
+    ∙ sym (ap length (c .before .before .before .before .before .before .before .before .pre .zero-qb) ∙ length-replicate (length (a .xs .now) + a .t + 1) 0)
 
 same-length-4 : tie.Need-same-length-4 Inv-loop μ-loop
-same-length-4 c = let a = c .before .before .before .before .before .before .before .before .args in c .before .loop .inv .2 .size-eb ∙ sym (ap length (c .before .before .before .before .before .before .before .before .pre .zero-eb) ∙ length-replicate (length (a .xs .now) + a .t + 1) 0)
+same-length-4 c =
+    let a = c .before .before .before .before .before .before .before .before .args in c .before .loop .inv .2 .size-eb
+    ∙ sym (ap length (c .before .before .before .before .before .before .before .before .pre .zero-eb) ∙ length-replicate (length (a .xs .now) + a .t + 1) 0)
 
 returns : tie.Need-returns Inv-loop μ-loop
 returns c =

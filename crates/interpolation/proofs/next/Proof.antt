@@ -28,7 +28,9 @@ returns c =
     let a = c .before .before .before .before .before .before .before .before .before .before .before .before .before .before .before .before .before .before .args in
     let s = ratiosOf (a .qa .now) (a .ea .now) (a .u) (a .qb .now) (a .eb .now) (a .v) in
     record {
-      result = c .before .before .before .before .before .before .before .before .advance .ensures .result ∙ sym (next-first (a .x) (a .y) s (c .before .before .before .before .before .before .before .before .before .before .before .before .before .if1 .taken));
+      result = c .before .before .before .before .before .before .before .before .advance .ensures .result
+          ∙ sym (next-first (a .x) (a .y) s
+          (c .before .before .before .before .before .before .before .before .before .before .before .before .before .if1 .taken));
       total = c .before .before .before .before .before .before .before .before .advance .ensures .total;
     }
 
@@ -52,7 +54,9 @@ returns-2 c =
     let a = c .before .before .before .before .before .before .before .before .before .before .before .before .before .before .before .before .before .before .args in
     let s = ratiosOf (a .qa .now) (a .ea .now) (a .u) (a .qb .now) (a .eb .now) (a .v) in
     record {
-      result = ap swapped (c .before .before .before .before .before .before .before .before .advance2 .ensures .result) ∙ sym (next-second (a .x) (a .y) s (c .before .before .before .before .before .before .before .before .before .before .before .before .before .if1 .left));
+      result = ap swapped (c .before .before .before .before .before .before .before .before .advance2 .ensures .result)
+          ∙ sym (next-second (a .x) (a .y) s
+          (c .before .before .before .before .before .before .before .before .before .before .before .before .before .if1 .left));
       total = omega (arith, c .before .before .before .before .before .before .before .before .advance2 .ensures .total);
     }
 

@@ -18,13 +18,17 @@ array-borrow-prefix-qa : tie.Need-array-borrow-prefix-qa
 array-borrow-prefix-qa c = search needs
 
 slice-aggregate-solve : tie.Need-slice-aggregate-solve
-slice-aggregate-solve c = sym (length-front 22 (length (c .before .before .before .before .args .xs .now) + c .before .before .before .before .args .t + 1) (c .before .before .before .before .pre .1))
+slice-aggregate-solve c =
+    sym (length-front 22 (length (c .before .before .before .before .args .xs .now) + c .before .before .before .before .args .t + 1)
+    (c .before .before .before .before .pre .1))
 
 array-borrow-prefix-ea : tie.Need-array-borrow-prefix-ea
 array-borrow-prefix-ea c = search needs
 
 slice-aggregate-solve-2 : tie.Need-slice-aggregate-solve-2
-slice-aggregate-solve-2 c = sym (length-front 22 (length (c .before .before .before .before .before .args .xs .now) + c .before .before .before .before .before .args .t + 1) (c .before .before .before .before .before .pre .1))
+slice-aggregate-solve-2 c =
+    sym (length-front 22 (length (c .before .before .before .before .before .args .xs .now) + c .before .before .before .before .before .args .t + 1)
+    (c .before .before .before .before .before .pre .1))
 
 array-borrow-prefix-qb : tie.Need-array-borrow-prefix-qb
 array-borrow-prefix-qb c = search needs
@@ -42,8 +46,17 @@ solve-requires : tie.Need-solve-requires
 solve-requires c κs =
     let a = c .before .before .before .before .before .before .before .before .args in
     let w = length (a .xs .now) + a .t + 1 in
-    let z = take-zeros 22 w (c .before .before .before .before .before .before .before .before .pre .1) in
-    (record { values = c .before .before .before .before .before .before .before .before .pre .0; few = omega arith; zero-qa = z; zero-ea = z; zero-qb = z; zero-eb = z }, c .before .before .before .before .before .before .before .before .pre .2)
+    let z = take-zeros 22 w (c .before .before .before .before .before .before .before .before .pre .1) in (
+      record {
+        values = c .before .before .before .before .before .before .before .before .pre .0;
+        few = omega arith;
+        zero-qa = z;
+        zero-ea = z;
+        zero-qb = z;
+        zero-eb = z;
+      },
+      c .before .before .before .before .before .before .before .before .pre .2,
+    )
 
 same-length : tie.Need-same-length
 same-length c = search needs

@@ -80,7 +80,8 @@ returns c =
     let q₀ = a .q .now in
     let l = c .before .loop in
     let f : ℕ → ℕ = λ j. gadd (getD q₀ (suc j) 0) (gmul (a .c) (getD (a .e .now) (suc j) 0)) in
-    let last : f (l .i) ≡ 0 = ap₂ gadd (past-end q₀ (suc (l .i)) (omega arith)) (ap (gmul (a .c)) (past-end (a .e .now) (suc (l .i)) (omega arith)) ∙ gmul-zero-r (a .c)) ∙ gadd-self 0 in
+    let last : f (l .i) ≡ 0 = ap₂ gadd (past-end q₀ (suc (l .i)) (omega arith))
+    (ap (gmul (a .c)) (past-end (a .e .now) (suc (l .i)) (omega arith)) ∙ gmul-zero-r (a .c)) ∙ gadd-self 0 in
     fill-end f (l .i + 1) q₀ _ (fill-more f (l .i) q₀ (l .q) 0 (omega arith) (l .inv .2) (sym last)) (omega arith)
     ∙ sym (reduced-filled (a .c) q₀ (a .e .now))
 

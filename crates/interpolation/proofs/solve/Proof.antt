@@ -57,7 +57,8 @@ returns c =
     let ea = r .last .1 .1 .1 .1 .0 in
     let s = ratiosOf qa ea (r .result .u) (r .last .1 .1 .1 .1 .1 .0) (r .last .1 .1 .1 .1 .1 .1 .0) (r .result .v) in
     c .before .before .before .before .divide .ensures ∙ ap (λ n. series n qa ea) (c .before .before .before .before .before .before .before .before .before .before .before .before .before .before .before .before .before .before .before .before .before .before .before .before .before .before .before .before .before .before .pre .1)
-    ∙ sym (candidate-series (a .t) (a .xs .now) (a .ys .now) (ratio qa ea) (ap smaller (sym (r .ensures)) ∙ smaller-first s (c .before .before .before .before .before .before .before .before .if1 .taken)))
+    ∙ sym (candidate-series (a .t) (a .xs .now) (a .ys .now) (ratio qa ea)
+    (ap smaller (sym (r .ensures)) ∙ smaller-first s (c .before .before .before .before .before .before .before .before .if1 .taken)))
 
 same-length-6 : tie.Need-same-length-6
 same-length-6 c = search needs
@@ -82,7 +83,8 @@ returns-2 c =
     let eb = r .last .1 .1 .1 .1 .1 .1 .0 in
     let s = ratiosOf (r .last .1 .1 .1 .0) (r .last .1 .1 .1 .1 .0) (r .result .u) qb eb (r .result .v) in
     c .before .before .before .before .divide2 .ensures ∙ ap (λ n. series n qb eb) (c .before .before .before .before .before .before .before .before .before .before .before .before .before .before .before .before .before .before .before .before .before .before .before .before .before .before .before .before .before .before .pre .1)
-    ∙ sym (candidate-series (a .t) (a .xs .now) (a .ys .now) (ratio qb eb) (ap smaller (sym (r .ensures)) ∙ smaller-second s (c .before .before .before .before .before .before .before .before .if1 .left)))
+    ∙ sym (candidate-series (a .t) (a .xs .now) (a .ys .now) (ratio qb eb)
+    (ap smaller (sym (r .ensures)) ∙ smaller-second s (c .before .before .before .before .before .before .before .before .if1 .left)))
 
 pub solve-spec : {M : Type 1} → statement M
 solve-spec =

@@ -15,7 +15,8 @@ use Rattle.interpolation.proofs.times_root.Statement.{statement}
 use Rattle.interpolation.proofs.times_root.Tie as tie
 
 abbrev Inv-loop : tie.InvT-loop
-Inv-loop p₀ x before₀ i₀ p before i = (i ≤ length p₀) × (length p ≡ length p₀) × (before ≡ getD (0 ∷ p₀) i 0) × (p ≡ filled (λ j. gadd (getD (0 ∷ p₀) j 0) (gmul x (getD p₀ j 0))) i p₀)
+Inv-loop p₀ x before₀ i₀ p before i =
+    (i ≤ length p₀) × (length p ≡ length p₀) × (before ≡ getD (0 ∷ p₀) i 0) × (p ≡ filled (λ j. gadd (getD (0 ∷ p₀) j 0) (gmul x (getD p₀ j 0))) i p₀)
 
 abbrev μ-loop : tie.MeasureT-loop
 μ-loop p₀ x before₀ i₀ p before i = length p₀ - i

@@ -24,8 +24,11 @@ returns : tie.Need-returns
 returns c =
     let a = c .before .before .before .before .before .before .args in
     c .add .ensures
-    ∙ ap₂ gadd (c .before .before .before .evaluate .ensures ∙ evaluate-horner (a .q .now) (a .x) (λ i. omega (arith, c .before .before .before .before .before .shared-slice-known .given i)))
-    (c .before .mul .ensures ∙ ap (gmul (a .y)) (c .before .before .evaluate2 .ensures ∙ evaluate-horner (a .e .now) (a .x) (λ i. omega (arith, c .before .before .before .before .shared-slice-known2 .given i))))
+    ∙ ap₂ gadd (c .before .before .before .evaluate .ensures
+    ∙ evaluate-horner (a .q .now) (a .x) (λ i. omega (arith, c .before .before .before .before .before .shared-slice-known .given i)))
+    (c .before .mul .ensures ∙ ap (gmul (a .y))
+    (c .before .before .evaluate2 .ensures ∙ evaluate-horner (a .e .now) (a .x)
+    (λ i. omega (arith, c .before .before .before .before .shared-slice-known2 .given i))))
     ∙ sym (wrong-values (a .y) (a .q .now) (a .e .now) (a .x))
 
 pub wrong-by-spec : {M : Type 1} → statement M

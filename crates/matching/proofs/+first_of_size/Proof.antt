@@ -4,7 +4,8 @@ use Prim.Native.Nat.{ℕ, _<_}
 use mathlib.Core.Path.{_≡_}
 use native.Mathlib.Omega.{arith}
 use Rattle.bitset.specs.Set.{sizeOf}
-use Rattle.matching.proofs.Steps.{Trying, searched-zero, searched-none, none-in-empty, lowest-in, try-start, try-fail, try-found, try-drop, try-rest-less, try-low, try-fewer, try-less}
+use Rattle.matching.proofs.Steps.{Trying, searched-zero, searched-none, none-in-empty, lowest-in, try-start, try-fail, try-found, try-drop}
+use Rattle.matching.proofs.Steps.{try-rest-less, try-low, try-fewer, try-less}
 use borrow.Fn.Kinds.{In}
 use borrow.Fn.PlainCycle.{Measures, is, falls, and}
 use Rattle.matching.proofs.first_of_size.Reads as spec
@@ -74,7 +75,8 @@ no-pair-requires-2 t c κs = tt
 returns-2 : (t : ℕ) → lts.Need-returns-2 (claims t) (at t) spec.Post Inv-loop μ-loop
 returns-2 t c =
     let S = c .before .before .before in
-    searched-none _ _ _ _ _ _ (c .no-pair2 .ensures .0) (none-in-empty (S .args .graph .now) (S .args .s) (S .args .k) (c .before .if2 .taken) (c .before .before .if1 .left))
+    searched-none _ _ _ _ _ _ (c .no-pair2 .ensures .0)
+    (none-in-empty (S .args .graph .now) (S .args .s) (S .args .k) (c .before .if2 .taken) (c .before .before .if1 .left))
 
 is-hopeless-requires : (t : ℕ) → lts.Need-is-hopeless-requires (claims t) (at t) spec.Post Inv-loop μ-loop
 is-hopeless-requires t c κs = c .before .before .pre .1
@@ -112,7 +114,8 @@ loop-holds t c =
     let R = c .before .before in
     let E = R .before .before .before .before in
     let S = E .before .before in
-    try-start _ _ _ _ _ _ (S .fits .s .fits) (E .if2 .left) (E .before .if1 .left) (S .pre .1 .1) (R .before .lowest .ensures) (R .remove .ensures) (c .intersection .ensures)
+    try-start _ _ _ _ _ _ (S .fits .s .fits) (E .if2 .left) (E .before .if1 .left) (S .pre .1 .1) (R .before .lowest .ensures) (R .remove .ensures)
+    (c .intersection .ensures)
 
 lowest-requires-2 : (t : ℕ) → lts.Need-lowest-requires-2 (claims t) (at t) spec.Post Inv-loop μ-loop
 lowest-requires-2 t c κs = tt
@@ -131,7 +134,12 @@ first-of-size-requires t c κs =
     let W = c .before .before in
     let L = W .before .before in
     let S = start t L in (
-      omega (arith, try-less _ _ _ _ _ _ (S .fits .s .fits) (L .loop .inv) _ (W .before .loop-test .taken) (W .lowest2 .ensures) _ (c .remove3 .ensures), S .pre .0),
+      omega (
+        arith,
+        try-less _ _ _ _ _ _ (S .fits .s .fits) (L .loop .inv) _ (W .before .loop-test .taken) (W .lowest2 .ensures) _
+            (c .remove3 .ensures),
+        S .pre .0,
+      ),
       (S .pre .1 .0, omega (arith, L .loop .inv .few)),
     )
 
@@ -142,8 +150,12 @@ with-pair-requires : (t : ℕ) → lts.Need-with-pair-requires (claims t) (at t)
 with-pair-requires t c κs =
     let W = c .before .before .before .before in
     let L = W .before .before in
-    let inv = L .loop .inv in
-    (omega (arith, inv .few, inv .some), omega (arith, inv .low), omega (arith, try-low _ _ _ _ _ _ (start t L .fits .s .fits) inv _ (W .before .loop-test .taken) (W .lowest2 .ensures)))
+    let inv = L .loop .inv in (
+      omega (arith, inv .few, inv .some),
+      omega (arith, inv .low),
+      omega
+          (arith, try-low _ _ _ _ _ _ (start t L .fits .s .fits) inv _ (W .before .loop-test .taken) (W .lowest2 .ensures)),
+    )
 
 returns-4 : (t : ℕ) → lts.Need-returns-4 (claims t) (at t) spec.Post Inv-loop μ-loop
 returns-4 t c =
@@ -151,7 +163,8 @@ returns-4 t c =
     let R = F .before in
     let W = R .before .before in
     let L = W .before .before in
-    try-found _ _ _ _ _ _ (start t L .fits .s .fits) (L .loop .inv) _ (W .before .loop-test .taken) (W .lowest2 .ensures) _ (R .remove3 .ensures) _ _ _ (F .first-of-size .ensures) (c .before .if4 .taken)
+    try-found _ _ _ _ _ _ (start t L .fits .s .fits) (L .loop .inv) _ (W .before .loop-test .taken) (W .lowest2 .ensures) _ (R .remove3 .ensures) _ _ _
+    (F .first-of-size .ensures) (c .before .if4 .taken)
     _ _ _ (c .with-pair .ensures)
 
 loop-less : (t : ℕ) → lts.Need-loop-less (claims t) (at t) spec.Post Inv-loop μ-loop
@@ -167,7 +180,8 @@ loop-again t c =
     let R = F .before in
     let W = R .before .before in
     let L = W .before .before in
-    try-fail _ _ _ _ _ _ (start t L .fits .s .fits) (L .loop .inv) _ (W .before .loop-test .taken) (W .lowest2 .ensures) _ (R .remove3 .ensures) _ _ _ (F .first-of-size .ensures) _ (R .before .remove2 .ensures) (c .if4 .left)
+    try-fail _ _ _ _ _ _ (start t L .fits .s .fits) (L .loop .inv) _ (W .before .loop-test .taken) (W .lowest2 .ensures) _ (R .remove3 .ensures) _ _ _
+    (F .first-of-size .ensures) _ (R .before .remove2 .ensures) (c .if4 .left)
 
 first-of-size-requires-2 : (t : ℕ) → lts.Need-first-of-size-requires-2 (claims t) (at t) spec.Post Inv-loop μ-loop
 first-of-size-requires-2 t c κs =

@@ -41,7 +41,8 @@ loop-again c =
     let L = c .before .before in
     let A = L .before .args in (
       omega arith,
-      fill-more (missing (min (A .n) 16) (adjacent (A .bits))) (L .loop .i) (replicate 16 0) (L .loop .graph) (c .missing-row .result) (omega arith) (L .loop .inv .1)
+      fill-more (missing (min (A .n) 16) (adjacent (A .bits))) (L .loop .i) (replicate 16 0) (L .loop .graph) (c .missing-row .result) (omega arith)
+          (L .loop .inv .1)
           (c .missing-row .ensures ∙ missing-16 (A .bits) (A .n) (L .loop .i)),
     )
 

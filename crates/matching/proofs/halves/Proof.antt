@@ -46,14 +46,20 @@ loop-less c =
     let C = c .before .before in
     let T = C .before .before in
     let L = T .before in
-    omega (arith, halve-less _ (L .before .pre) _ _ _ _ (L .loop .inv) (T .loop-test .taken) (has C) (C .component .ensures .1) (omega arith), ap sizeOf (c .before .difference .ensures))
+    omega (
+      arith,
+      halve-less _ (L .before .pre) _ _ _ _ (L .loop .inv) (T .loop-test .taken) (has C) (C .component .ensures .1) (omega arith),
+      ap sizeOf
+          (c .before .difference .ensures),
+    )
 
 loop-again : tie.Need-loop-again Inv-loop μ-loop
 loop-again c =
     let C = c .before .before in
     let T = C .before .before in
     let L = T .before in
-    halve-more _ (L .before .pre) _ _ _ _ (L .loop .inv) (T .loop-test .taken) (has C) (C .component .ensures .1) (omega arith) _ _ (c .before .difference .ensures)
+    halve-more _ (L .before .pre) _ _ _ _ (L .loop .inv) (T .loop-test .taken) (has C) (C .component .ensures .1) (omega arith) _ _
+    (c .before .difference .ensures)
     (ap (λ (x : ℕ). L .loop .sum + x / 2) (c .size .ensures))
 
 returns : tie.Need-returns Inv-loop μ-loop

@@ -10,7 +10,8 @@ use Rattle.phase_king.proofs.rule_matrix.Statement.{statement}
 use Rattle.phase_king.proofs.rule_matrix.Tie as tie
 
 abbrev Inv-loop : tie.InvT-loop
-Inv-loop rule inbox layout n t rows₀ r₀ rows r = (r ≤ n) × (rows ≡ filled (λ r. ruleRow rule n t (saidRows inbox layout n r) (saidRows inbox layout n (n + r))) r (replicate 16 0))
+Inv-loop rule inbox layout n t rows₀ r₀ rows r =
+    (r ≤ n) × (rows ≡ filled (λ r. ruleRow rule n t (saidRows inbox layout n r) (saidRows inbox layout n (n + r))) r (replicate 16 0))
 
 abbrev μ-loop : tie.MeasureT-loop
 μ-loop rule inbox layout n t rows₀ r₀ rows r = n - r

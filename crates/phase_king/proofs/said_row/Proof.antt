@@ -19,7 +19,8 @@ message-requires c κs = search needs
 returns : tie.Need-returns
 returns c =
     let a = c .before .before .before .args in
-    sym (ap (λ (m : List ℕ). rowOf (a .n) m (a .r)) (sym (c .before .message .ensures)) ∙ row-missing (a .n) (now (c .before .message .result)) (a .r) (omega arith))
+    sym (ap (λ (m : List ℕ). rowOf (a .n) m (a .r)) (sym (c .before .message .ensures))
+    ∙ row-missing (a .n) (now (c .before .message .result)) (a .r) (omega arith))
 
 read-row-requires : tie.Need-read-row-requires
 read-row-requires c κs = search needs

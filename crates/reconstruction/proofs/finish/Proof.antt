@@ -39,7 +39,8 @@ returns-2 c =
     let a = I .before .before .before .before .args in
     let after = D .decode .last .1 .1 .1 .1 .0 in
     ap (λ w. finish w after) (c .decoded-outcome .ensures)
-    ∙ finished-answers (a .n) (a .t) (a .k) (a .core) (a .inbox .now) (a .block .now) (λ z. I .if1 .left (I .before .restrict .ensures ∙ z)) (D .decode .result) after
+    ∙ finished-answers (a .n) (a .t) (a .k) (a .core) (a .inbox .now) (a .block .now) (λ z. I .if1 .left (I .before .restrict .ensures ∙ z))
+    (D .decode .result) after
     (D .decode .ensures)
 
 pub finish-spec : {M : Type 1} → statement M

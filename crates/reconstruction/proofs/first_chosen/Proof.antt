@@ -25,7 +25,8 @@ returns : tie.Need-returns Inv-loop μ-loop
 returns c =
     let L = c .before .before .before in
     let a = L .before .before .args in
-    first-found (a .n) (isChosen (a .n) (a .t) (a .core) (a .inbox .now) (a .layout)) (L .loop .i) (omega arith) (sym (c .before .is-chosen .ensures) ∙ c .if1 .taken) (L .loop .inv .1)
+    first-found (a .n) (isChosen (a .n) (a .t) (a .core) (a .inbox .now) (a .layout)) (L .loop .i) (omega arith)
+    (sym (c .before .is-chosen .ensures) ∙ c .if1 .taken) (L .loop .inv .1)
 
 add-i : tie.Need-add-i Inv-loop μ-loop
 add-i c = omega arith

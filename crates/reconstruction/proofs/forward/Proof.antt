@@ -31,7 +31,8 @@ returns c =
     let I = c .before .before .before .before in
     let a = I .before .before .before .before .args in
     c .before .before .silence .ensures
-    ∙ sym (forwarded-other (a .n) (a .t) (a .k) (a .own) (a .core) (a .block .now) (a .outbox .now) (sym (I .before .in-core .ensures) ∙ not-true _ (I .if1 .taken)))
+    ∙ sym (forwarded-other (a .n) (a .t) (a .k) (a .own) (a .core) (a .block .now) (a .outbox .now)
+    (sym (I .before .in-core .ensures) ∙ not-true _ (I .if1 .taken)))
 
 kind-layout-requires : tie.Need-kind-layout-requires
 kind-layout-requires c κs = search needs
@@ -56,7 +57,8 @@ send-coding-requires c κs =
     let H = c .before .before .before in
     let K = H .before .before in
     let a = K .before .before .before .before .before .args in
-    let r = ready-yes (a .n) (a .t) (a .k) (a .own) (a .block .now) (H .holds-exactly .result) (sym (c .before .before .is-ready .ensures) ∙ c .before .if2 .taken) in (
+    let r = ready-yes (a .n) (a .t) (a .k) (a .own) (a .block .now) (H .holds-exactly .result)
+    (sym (c .before .before .is-ready .ensures) ∙ c .before .if2 .taken) in (
       r .0 .coded,
       r .0 .size,
       ap (λ (l : Layout). l .length) (K .kind-layout .ensures) ∙ kind-forward (r .0 .coded),

@@ -17,7 +17,8 @@ member-requires c κs = search needs
 returns : tie.Need-returns
 returns c =
     let a = c .before .before .before .before .args in
-    sym (and-no-left (member (a .core) (a .i)) (same (messageOf (a .inbox .now) (a .layout) (a .i + 1)) (a .m .now)) (sym (c .before .member .ensures) ∙ not-true _ (c .if1 .taken)))
+    sym (and-no-left (member (a .core) (a .i)) (same (messageOf (a .inbox .now) (a .layout) (a .i + 1)) (a .m .now))
+    (sym (c .before .member .ensures) ∙ not-true _ (c .if1 .taken)))
 
 add-message : tie.Need-add-message
 add-message c = search needs
@@ -32,7 +33,8 @@ returns-2 : tie.Need-returns-2
 returns-2 c =
     let a = c .before .before .before .before .before .before .args in
     c .is-equal .ensures ∙ ap (λ (l : List ℕ). same l (a .m .now)) (c .before .message .ensures)
-    ∙ sym (and-tail (member (a .core) (a .i)) (same (messageOf (a .inbox .now) (a .layout) (a .i + 1)) (a .m .now)) (sym (c .before .before .before .member .ensures) ∙ not-false _ (c .before .before .if1 .left)))
+    ∙ sym (and-tail (member (a .core) (a .i)) (same (messageOf (a .inbox .now) (a .layout) (a .i + 1)) (a .m .now))
+    (sym (c .before .before .before .member .ensures) ∙ not-false _ (c .before .before .if1 .left)))
 
 pub is-vote-spec : {M : Type 1} → statement M
 is-vote-spec =

@@ -10,10 +10,13 @@ array-borrow-prefix-piece : tie.Need-array-borrow-prefix-piece
 array-borrow-prefix-piece c = search needs
 
 slice-aggregate-send-pieces : tie.Need-slice-aggregate-send-pieces
-slice-aggregate-send-pieces c = let S = c .before .before .before in sym (length-front 128 (S .args .layout .length) (omega (arith, S .pre .2, S .pre .0 .k-most)))
+slice-aggregate-send-pieces c =
+    let S = c .before .before .before in sym (length-front 128 (S .args .layout .length) (omega (arith, S .pre .2, S .pre .0 .k-most)))
 
 send-pieces-requires : tie.Need-send-pieces-requires
-send-pieces-requires c κs = let S = c .before .before .before .before in (S .pre .0, S .pre .1, S .pre .2, length-front 128 (S .args .layout .length) (omega (arith, S .pre .2, S .pre .0 .k-most)) ∙ S .pre .2, S .pre .3)
+send-pieces-requires c κs =
+    let S = c .before .before .before .before in
+    (S .pre .0, S .pre .1, S .pre .2, length-front 128 (S .args .layout .length) (omega (arith, S .pre .2, S .pre .0 .k-most)) ∙ S .pre .2, S .pre .3)
 
 same-length : tie.Need-same-length
 same-length c = search needs

@@ -25,7 +25,8 @@ returns c =
     let a = S .args in
     let p = S .pre in
     c .before .before .send-one .ensures
-    ∙ ap (putSlot (a .outbox .now) (a .layout) (a .j)) (coded-piece (a .n) (a .t) (a .k) (a .j) (a .block .now) (a .piece .now) (p .0) (p .1) (p .2) (p .3) (E .encode .ensures))
+    ∙ ap (putSlot (a .outbox .now) (a .layout) (a .j))
+    (coded-piece (a .n) (a .t) (a .k) (a .j) (a .block .now) (a .piece .now) (p .0) (p .1) (p .2) (p .3) (E .encode .ensures))
 
 pub send-piece-spec : {M : Type 1} → statement M
 send-piece-spec =

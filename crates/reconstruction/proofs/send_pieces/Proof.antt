@@ -15,7 +15,8 @@ use Rattle.reconstruction.proofs.send_pieces.Statement.{statement}
 use Rattle.reconstruction.proofs.send_pieces.Tie as tie
 
 abbrev Inv-loop : tie.InvT-loop
-Inv-loop layout n t k block piece₀ outbox₀ j₀ piece outbox j = (j ≤ n) × (length piece ≡ k) × (outbox ≡ slots layout (pieces k t block) j ++ drop (j * width layout) outbox₀)
+Inv-loop layout n t k block piece₀ outbox₀ j₀ piece outbox j =
+    (j ≤ n) × (length piece ≡ k) × (outbox ≡ slots layout (pieces k t block) j ++ drop (j * width layout) outbox₀)
 
 abbrev μ-loop : tie.MeasureT-loop
 μ-loop layout n t k block piece₀ outbox₀ j₀ piece outbox j = n - j
@@ -51,7 +52,8 @@ loop-again c =
       omega arith,
       omega (arith, L .loop .inv .1, c .before .before .before .before .send-piece .kept),
       c .before .before .before .before .send-piece .ensures
-          ∙ put-next-slot (a .layout) f (sized-pieces (a .layout) (a .k) (a .t) (a .block .now) (S .pre .2)) (a .outbox .now) (L .loop .outbox) (pieceOf (a .k) (a .t) (a .block .now) (j + 1)) j
+          ∙ put-next-slot (a .layout) f (sized-pieces (a .layout) (a .k) (a .t) (a .block .now) (S .pre .2)) (a .outbox .now) (L .loop .outbox)
+          (pieceOf (a .k) (a .t) (a .block .now) (j + 1)) j
           (omega (arith, slot-within (a .n) (width (a .layout)) j (omega arith), next-offset j (width (a .layout)), S .pre .4)) (L .loop .inv .2) refl
           (length-piece (a .k) (a .t) (a .block .now) (j + 1) ∙ sym (S .pre .2)),
     )
@@ -68,7 +70,8 @@ same-length-2 c =
     let S = L .before .before .before .before in
     let a = S .args in
     let all : L .loop .j ≡ a .n = omega arith in
-    length-rest (a .layout) (pieces (a .k) (a .t) (a .block .now)) (sized-pieces (a .layout) (a .k) (a .t) (a .block .now) (S .pre .2)) (a .outbox .now) (L .loop .outbox) (L .loop .j)
+    length-rest (a .layout) (pieces (a .k) (a .t) (a .block .now)) (sized-pieces (a .layout) (a .k) (a .t) (a .block .now) (S .pre .2)) (a .outbox .now)
+    (L .loop .outbox) (L .loop .j)
     (le-of-eq (ap (λ (x : ℕ). x * width (a .layout)) all ∙ sym (S .pre .4))) (L .loop .inv .2)
 
 returns : tie.Need-returns Inv-loop μ-loop

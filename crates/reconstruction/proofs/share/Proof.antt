@@ -53,7 +53,8 @@ share-own-requires c κs =
     let I = c .before .before .before in
     let H = I .before .before in
     let a = H .before .before .before .before .before .before .args in
-    let r = ready-yes (a .n) (a .t) (a .k) (a .own) (a .block .now) (H .holds-exactly .result) (sym (I .before .is-ready .ensures) ∙ not-false _ (I .if1 .left)) in (
+    let r = ready-yes (a .n) (a .t) (a .k) (a .own) (a .block .now) (H .holds-exactly .result)
+    (sym (I .before .is-ready .ensures) ∙ not-false _ (I .if1 .left)) in (
       r .0 .coded,
       r .0 .number,
       r .0 .size,
@@ -79,7 +80,8 @@ share-chosen-requires c κs =
     let I = c .before .before .before in
     let H = I .before .before in
     let a = H .before .before .before .before .before .before .args in
-    let r = ready-yes (a .n) (a .t) (a .k) (a .own) (a .block .now) (H .holds-exactly .result) (sym (I .before .is-ready .ensures) ∙ not-false _ (I .if1 .left)) in
+    let r = ready-yes (a .n) (a .t) (a .k) (a .own) (a .block .now) (H .holds-exactly .result)
+    (sym (I .before .is-ready .ensures) ∙ not-false _ (I .if1 .left)) in
     r .0 .coded .quorum
 
 same-length-3 : tie.Need-same-length-3
@@ -92,7 +94,8 @@ returns-3 c =
     let H = I .before .before in
     let a = H .before .before .before .before .before .before .args in
     c .before .before .share-chosen .ensures
-    ∙ ap (λ (l : Layout). sentPiece l (a .n) (chosenPiece (a .n) (a .t) (a .core) (a .inbox .now) (a .layout)) (a .outbox .now)) (H .before .before .kind-layout .ensures)
+    ∙ ap (λ (l : Layout). sentPiece l (a .n) (chosenPiece (a .n) (a .t) (a .core) (a .inbox .now) (a .layout)) (a .outbox .now))
+    (H .before .before .kind-layout .ensures)
     ∙ shared-chosen (a .n) (a .t) (a .k) (a .own) (a .core) (a .block .now) (a .outbox .now) (H .holds-exactly .result) (fits H) (a .inbox .now) (a .layout)
     (sym (I .before .is-ready .ensures) ∙ not-false _ (I .if1 .left)) (sym (T .before .in-core .ensures) ∙ T .if2 .left)
 

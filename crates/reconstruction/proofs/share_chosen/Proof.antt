@@ -23,7 +23,8 @@ returns c =
     let F = I .before in
     let a = F .before .before .before .args in
     c .before .before .silence .ensures
-    ∙ sent-none (a .n) (a .t) (a .core) (a .inbox .now) (a .layout) (a .out) (F .first-chosen .result) (F .first-chosen .ensures) (a .outbox .now) (I .if1 .taken)
+    ∙ sent-none (a .n) (a .t) (a .core) (a .inbox .now) (a .layout) (a .out) (F .first-chosen .result) (F .first-chosen .ensures) (a .outbox .now)
+    (I .if1 .taken)
 
 add-message : tie.Need-add-message
 add-message c = search needs
@@ -45,7 +46,8 @@ returns-2 c =
     let a = F .before .before .before .args in
     c .before .before .send-all .ensures
     ∙ ap (λ (m : List ℕ). toAll (a .out) (a .n) m (a .outbox .now)) (M .message .ensures)
-    ∙ sent-chosen (a .n) (a .t) (a .core) (a .inbox .now) (a .layout) (a .out) (F .first-chosen .result) (F .first-chosen .ensures) (a .outbox .now) (I .if1 .left)
+    ∙ sent-chosen (a .n) (a .t) (a .core) (a .inbox .now) (a .layout) (a .out) (F .first-chosen .result) (F .first-chosen .ensures) (a .outbox .now)
+    (I .if1 .left)
 
 pub share-chosen-spec : {M : Type 1} → statement M
 share-chosen-spec =

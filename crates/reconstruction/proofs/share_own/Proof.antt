@@ -13,7 +13,9 @@ slice-aggregate-share-piece : tie.Need-slice-aggregate-share-piece
 slice-aggregate-share-piece c = let S = c .before .before .before in sym (length-front 128 (S .args .out .length) (omega (arith, S .pre .3, S .pre .0 .k-most)))
 
 share-piece-requires : tie.Need-share-piece-requires
-share-piece-requires c κs = let S = c .before .before .before .before in (S .pre .0, S .pre .1, S .pre .2, length-front 128 (S .args .out .length) (omega (arith, S .pre .3, S .pre .0 .k-most)) ∙ S .pre .3)
+share-piece-requires c κs =
+    let S = c .before .before .before .before in
+    (S .pre .0, S .pre .1, S .pre .2, length-front 128 (S .args .out .length) (omega (arith, S .pre .3, S .pre .0 .k-most)) ∙ S .pre .3)
 
 same-length : tie.Need-same-length
 same-length c = search needs

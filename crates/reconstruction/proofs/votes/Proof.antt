@@ -36,7 +36,8 @@ loop-again c =
     let a = L .before .before .before .args in (
       omega arith,
       omega arith,
-      counted-yes (L .loop .i) (vote (a .core) (a .inbox .now) (a .layout) (a .m .now)) (L .loop .count) (sym (c .before .is-vote .ensures) ∙ c .if1 .taken) (L .loop .inv .2),
+      counted-yes (L .loop .i) (vote (a .core) (a .inbox .now) (a .layout) (a .m .now)) (L .loop .count) (sym (c .before .is-vote .ensures) ∙ c .if1 .taken)
+          (L .loop .inv .2),
     )
 
 loop-less-2 : tie.Need-loop-less-2 Inv-loop μ-loop
@@ -48,7 +49,8 @@ loop-again-2 c =
     let a = L .before .before .before .args in (
       omega arith,
       omega arith,
-      counted-no (L .loop .i) (vote (a .core) (a .inbox .now) (a .layout) (a .m .now)) (L .loop .count) (sym (c .before .is-vote .ensures) ∙ c .if1 .left) (L .loop .inv .2),
+      counted-no (L .loop .i) (vote (a .core) (a .inbox .now) (a .layout) (a .m .now)) (L .loop .count) (sym (c .before .is-vote .ensures) ∙ c .if1 .left)
+          (L .loop .inv .2),
     )
 
 returns : tie.Need-returns Inv-loop μ-loop

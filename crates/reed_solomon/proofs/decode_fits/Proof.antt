@@ -19,7 +19,8 @@ holds-exactly-requires : tie.Need-holds-exactly-requires
 holds-exactly-requires c κs = search needs
 
 -- the test of the slots is that of slots of k bytes
-fits : (c : tie.After-holds-exactly) → c .holds-exactly .result ≡ eqb (length (c .before .before .before .before .args .slots .now)) (c .before .before .before .before .args .n * width (layoutWith (c .before .before .before .before .args .k)))
+fits : (c : tie.After-holds-exactly) → c .holds-exactly .result ≡ eqb (length (c .before .before .before .before .args .slots .now))
+    (c .before .before .before .before .args .n * width (layoutWith (c .before .before .before .before .args .k)))
 fits c =
     let a = c .before .before .before .before .args in
     c .holds-exactly .ensures ∙ ap (λ (l : Layout). eqb (length (a .slots .now)) (a .n * width l)) (c .before .layout-with .ensures)

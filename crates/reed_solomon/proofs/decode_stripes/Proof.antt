@@ -42,13 +42,17 @@ add-a : tie.Need-add-a Inv-loop μ-loop
 add-a c = search needs
 
 mul-a : tie.Need-mul-a Inv-loop μ-loop
-mul-a c = let a = c .before .before .before .before .before .args in omega (arith, slot-within (a .k) (a .t + 1) (c .before .loop .s) (omega arith), c .before .before .before .before .before .pre .2)
+mul-a c =
+    let a = c .before .before .before .before .before .args in
+    omega (arith, slot-within (a .k) (a .t + 1) (c .before .loop .s) (omega arith), c .before .before .before .before .before .pre .2)
 
 add-e : tie.Need-add-e Inv-loop μ-loop
 add-e c = search needs
 
 add-e-2 : tie.Need-add-e-2 Inv-loop μ-loop
-add-e-2 c = let a = c .before .before .before .before .before .args in omega (arith, slot-within (a .k) (a .t + 1) (c .before .loop .s) (omega arith), c .before .before .before .before .before .pre .2)
+add-e-2 c =
+    let a = c .before .before .before .before .before .args in
+    omega (arith, slot-within (a .k) (a .t + 1) (c .before .loop .s) (omega arith), c .before .before .before .before .before .pre .2)
 
 sub-decode-stripe : tie.Need-sub-decode-stripe Inv-loop μ-loop
 sub-decode-stripe c = search needs
@@ -57,7 +61,9 @@ part-decode-stripe-start : tie.Need-part-decode-stripe-start Inv-loop μ-loop
 part-decode-stripe-start c = search needs
 
 part-decode-stripe-end : tie.Need-part-decode-stripe-end Inv-loop μ-loop
-part-decode-stripe-end c = let a = c .before .before .before .before .before .args in omega (arith, slot-within (a .k) (a .t + 1) (c .before .loop .s) (omega arith), c .before .before .before .before .before .pre .2)
+part-decode-stripe-end c =
+    let a = c .before .before .before .before .before .args in
+    omega (arith, slot-within (a .k) (a .t + 1) (c .before .loop .s) (omega arith), c .before .before .before .before .before .pre .2)
 
 decode-stripe-requires : tie.Need-decode-stripe-requires Inv-loop μ-loop
 decode-stripe-requires c κs =
@@ -65,7 +71,8 @@ decode-stripe-requires c κs =
     let l = c .before .before .loop in
     let w = a .t + 1 in (
       c .before .before .before .before .before .before .pre .0,
-      part-length (l .s * w) w (l .block) (omega (arith, slot-within (a .k) w (l .s) (omega arith), c .before .before .before .before .before .before .pre .2, l .inv .1)),
+      part-length (l .s * w) w (l .block)
+          (omega (arith, slot-within (a .k) w (l .s) (omega arith), c .before .before .before .before .before .before .pre .2, l .inv .1)),
     )
 
 same-length : tie.Need-same-length Inv-loop μ-loop
@@ -73,7 +80,8 @@ same-length c =
     let l = c .before .before .before .before .before .before .loop in
     let w = c .before .before .before .before .before .before .before .before .before .before .args .t + 1 in
     let z = l .s * w in
-    same-len-mid z (z + w - z) (l .block) (c .before .before .before .decode-stripe .last .1 .1 .1 .1 .1 .0) (c .before .before .before .decode-stripe .kept .1 .1 .1 .1 .1 .0) ∙ l .inv .1
+    same-len-mid z (z + w - z) (l .block) (c .before .before .before .decode-stripe .last .1 .1 .1 .1 .1 .0)
+    (c .before .before .before .decode-stripe .kept .1 .1 .1 .1 .1 .0) ∙ l .inv .1
 
 returns : tie.Need-returns Inv-loop μ-loop
 returns c =
@@ -81,7 +89,8 @@ returns c =
     let l = c .before .before .before .before .before .before .loop in
     let d = c .before .before .before .decode-stripe in
     let p = isFound (length (a .xs .now)) (a .t) (a .k) (a .slots .now) in
-    let f = tried-found (a .t) (a .k) (a .slots .now) (l .s) (a .xs .now) (d .result) (d .last .1 .1 .1 .1 .1 .0) (c .before .before .before .before .before .before .before .before .before .before .pre .0 .is) (d .ensures) in
+    let f = tried-found (a .t) (a .k) (a .slots .now) (l .s) (a .xs .now) (d .result) (d .last .1 .1 .1 .1 .1 .0)
+    (c .before .before .before .before .before .before .before .before .before .before .pre .0 .is) (d .ensures) in
     record {
       all =
           sym
@@ -107,13 +116,15 @@ loop-again c =
     let z = l .s * w in
     let g = stripeOf n (a .t) (a .k) (a .slots .now) in
     let b = a .block .now in
-    let f = tried-found (a .t) (a .k) (a .slots .now) (l .s) (a .xs .now) (d .result) m (c .before .before .before .before .before .before .before .before .before .before .pre .0 .is) (d .ensures) in (
+    let f = tried-found (a .t) (a .k) (a .slots .now) (l .s) (a .xs .now) (d .result) m
+    (c .before .before .before .before .before .before .before .before .before .before .pre .0 .is) (d .ensures) in (
       omega arith,
       same-len-mid z (z + w - z) (l .block) m (d .kept .1 .1 .1 .1 .1 .0) ∙ l .inv .1,
       counted-yes (l .s) (isFound n (a .t) (a .k) (a .slots .now)) (l .s) (sym (f .1) ∙ not-false (d .result) (c .if1 .left)) (l .inv .2),
       ap (λ (x : List ℕ). putMid z (z + w - z) x m) (l .inv .3)
           ∙ put-next (joined g (l .s)) m b z (z + w) (length-joined (a .t + 1) g (l .s) (λ s h. length-found n (a .t) (a .k) (a .slots .now) s)) (omega arith)
-          ∙ ap₂ (λ (x : List ℕ) (e : ℕ). x ++ drop e b) (ap (λ (x : List ℕ). joined g (l .s) ++ x) (f .0) ∙ sym (joined-more g (l .s))) (sym (next-offset (l .s) w)),
+          ∙ ap₂ (λ (x : List ℕ) (e : ℕ). x ++ drop e b) (ap (λ (x : List ℕ). joined g (l .s) ++ x) (f .0) ∙ sym (joined-more g (l .s)))
+          (sym (next-offset (l .s) w)),
     )
 
 same-length-2 : tie.Need-same-length-2 Inv-loop μ-loop
@@ -131,7 +142,9 @@ returns-2 c =
       all = sym (eq-eqb (count (a .k) p) (a .k) (sym (subst (λ s. s ≡ count s p) e (l .inv .2))));
       block-is = λ _.
           l .inv .3
-          ∙ ap (λ (x : List ℕ). joined g (l .s) ++ x) (drop-of-length-le (a .block .now) {i = l .s * (a .t + 1)} (omega (arith, c .before .before .before .before .before .pre .2, ap (λ s. s * (a .t + 1)) e)))
+          ∙ ap (λ (x : List ℕ). joined g (l .s) ++ x)
+          (drop-of-length-le (a .block .now) {i = l .s * (a .t + 1)}
+          (omega (arith, c .before .before .before .before .before .pre .2, ap (λ s. s * (a .t + 1)) e)))
           ∙ append-nil (joined g (l .s)) ∙ ap (joined g) e;
     }
 

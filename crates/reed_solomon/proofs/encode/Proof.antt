@@ -23,13 +23,15 @@ returns c =
     let F = c .before .before in
     let a = F .before .before .before .before .args in
     sym (encode-refused (a .n) (a .t) (a .k) (a .number) (a .block .now) (a .piece .now) _
-    (encode-number (a .n) (a .t) (a .k) (a .number) (a .block .now) (a .piece .now) _ _ (F .encode-fits .ensures) (c .before .encoding-refusal .ensures)) (c .if1 .taken))
+    (encode-number (a .n) (a .t) (a .k) (a .number) (a .block .now) (a .piece .now) _ _ (F .encode-fits .ensures) (c .before .encoding-refusal .ensures))
+    (c .if1 .taken))
 
 cast-encode-piece : tie.Need-cast-encode-piece
 cast-encode-piece c =
     let F = c .before .before in
     let a = F .before .before .before .before .args in
-    let e = encode-number (a .n) (a .t) (a .k) (a .number) (a .block .now) (a .piece .now) _ _ (F .encode-fits .ensures) (c .before .encoding-refusal .ensures) in
+    let e = encode-number (a .n) (a .t) (a .k) (a .number) (a .block .now) (a .piece .now) _ _ (F .encode-fits .ensures)
+    (c .before .encoding-refusal .ensures) in
     let r = encode-0 (a .n) (a .t) (a .k) (a .number) (a .block .now) (a .piece .now) (sym e ∙ c .if1 .left) in
     omega (arith, r .0 .quorum .n-most, r .1 .most)
 
@@ -38,7 +40,8 @@ encode-piece-requires c κs =
     let I = c .before in
     let F = I .before .before in
     let a = F .before .before .before .before .args in
-    let e = encode-number (a .n) (a .t) (a .k) (a .number) (a .block .now) (a .piece .now) _ _ (F .encode-fits .ensures) (I .before .encoding-refusal .ensures) in
+    let e = encode-number (a .n) (a .t) (a .k) (a .number) (a .block .now) (a .piece .now) _ _ (F .encode-fits .ensures)
+    (I .before .encoding-refusal .ensures) in
     let r = encode-0 (a .n) (a .t) (a .k) (a .number) (a .block .now) (a .piece .now) (sym e ∙ I .if1 .left) in (
       omega (arith, r .0 .quorum .n-most, r .0 .quorum .t-most),
       subst (λ m. m ≤ 128) (sym (r .3)) (r .0 .k-most),
@@ -53,7 +56,8 @@ returns-2 c =
     let I = c .before .before .before .before in
     let F = I .before .before in
     let a = F .before .before .before .before .args in
-    let e = sym (encode-number (a .n) (a .t) (a .k) (a .number) (a .block .now) (a .piece .now) _ _ (F .encode-fits .ensures) (I .before .encoding-refusal .ensures)) ∙ I .if1 .left in
+    let e = sym (encode-number (a .n) (a .t) (a .k) (a .number) (a .block .now) (a .piece .now) _ _ (F .encode-fits .ensures)
+    (I .before .encoding-refusal .ensures)) ∙ I .if1 .left in
     let r = encode-0 (a .n) (a .t) (a .k) (a .number) (a .block .now) (a .piece .now) e in
     ap (encoded 0) (c .before .before .encode-piece .ensures ∙ ap (λ m. pieceOf m (a .t) (a .block .now) (a .number)) (r .3))
     ∙ sym (encode-carried (a .n) (a .t) (a .k) (a .number) (a .block .now) (a .piece .now) e)

@@ -15,12 +15,14 @@ is-block-requires c κs = search needs
 returns : tie.Need-returns
 returns c =
     let a = c .before .before .before .before .args in
-    sym (and-no-left (eqb (length (a .block .now)) (blockLength (a .k) (a .t))) (eqb (length (a .piece .now)) (a .k)) (sym (c .before .is-block .ensures) ∙ not-true _ (c .if1 .taken)))
+    sym (and-no-left (eqb (length (a .block .now)) (blockLength (a .k) (a .t))) (eqb (length (a .piece .now)) (a .k))
+    (sym (c .before .is-block .ensures) ∙ not-true _ (c .if1 .taken)))
 
 returns-2 : tie.Need-returns-2
 returns-2 c =
     let a = c .before .before .before .before .args in
-    sym (and-tail (eqb (length (a .block .now)) (blockLength (a .k) (a .t))) (eqb (length (a .piece .now)) (a .k)) (sym (c .before .is-block .ensures) ∙ not-false _ (c .if1 .left)))
+    sym (and-tail (eqb (length (a .block .now)) (blockLength (a .k) (a .t))) (eqb (length (a .piece .now)) (a .k))
+    (sym (c .before .is-block .ensures) ∙ not-false _ (c .if1 .left)))
 
 pub encode-fits-spec : {M : Type 1} → statement M
 encode-fits-spec = tie.close (tie.spec is-block-requires returns returns-2)

@@ -25,13 +25,25 @@ add-a : tie.Need-add-a Inv-loop μ-loop
 add-a c = search needs
 
 mul-a : tie.Need-mul-a Inv-loop μ-loop
-mul-a c = omega (arith, slot-within (length (c .before .before .before .before .args .piece .now)) (c .before .before .before .before .args .t + 1) (c .before .loop .s) (omega arith), c .before .before .before .before .pre .2)
+mul-a c =
+    omega (
+      arith,
+      slot-within (length (c .before .before .before .before .args .piece .now)) (c .before .before .before .before .args .t + 1)
+          (c .before .loop .s) (omega arith),
+      c .before .before .before .before .pre .2,
+    )
 
 add-e : tie.Need-add-e Inv-loop μ-loop
 add-e c = search needs
 
 add-e-2 : tie.Need-add-e-2 Inv-loop μ-loop
-add-e-2 c = omega (arith, slot-within (length (c .before .before .before .before .args .piece .now)) (c .before .before .before .before .args .t + 1) (c .before .loop .s) (omega arith), c .before .before .before .before .pre .2)
+add-e-2 c =
+    omega (
+      arith,
+      slot-within (length (c .before .before .before .before .args .piece .now)) (c .before .before .before .before .args .t + 1)
+          (c .before .loop .s) (omega arith),
+      c .before .before .before .before .pre .2,
+    )
 
 sub-evaluate : tie.Need-sub-evaluate Inv-loop μ-loop
 sub-evaluate c = search needs
@@ -40,7 +52,13 @@ part-evaluate-start : tie.Need-part-evaluate-start Inv-loop μ-loop
 part-evaluate-start c = search needs
 
 part-evaluate-end : tie.Need-part-evaluate-end Inv-loop μ-loop
-part-evaluate-end c = omega (arith, slot-within (length (c .before .before .before .before .args .piece .now)) (c .before .before .before .before .args .t + 1) (c .before .loop .s) (omega arith), c .before .before .before .before .pre .2)
+part-evaluate-end c =
+    omega (
+      arith,
+      slot-within (length (c .before .before .before .before .args .piece .now)) (c .before .before .before .before .args .t + 1)
+          (c .before .loop .s) (omega arith),
+      c .before .before .before .before .pre .2,
+    )
 
 evaluate-requires : tie.Need-evaluate-requires Inv-loop μ-loop
 evaluate-requires c κs = search needs

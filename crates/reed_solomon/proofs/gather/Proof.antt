@@ -44,7 +44,8 @@ loop-again c =
     let l = c .before .before .before .loop in (
       omega arith,
       length-set (l .ys) (l .i) (c .received .result) ∙ l .inv .1,
-      fill-more (λ j. received (a .k) (a .slots .now) (a .s) (getD (a .xs .now) j 0)) (l .i) (a .ys .now) (l .ys) (c .received .result) (omega arith) (l .inv .2) (c .received .ensures),
+      fill-more (λ j. received (a .k) (a .slots .now) (a .s) (getD (a .xs .now) j 0)) (l .i) (a .ys .now) (l .ys) (c .received .result) (omega arith)
+          (l .inv .2) (c .received .ensures),
     )
 
 same-length : tie.Need-same-length Inv-loop μ-loop

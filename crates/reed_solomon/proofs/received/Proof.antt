@@ -21,7 +21,8 @@ shared-slice-read-result : tie.Need-shared-slice-read-result
 shared-slice-read-result c = search needs
 
 -- the message that was read is that of the slots of k bytes
-read : (c : tie.After-message) → c .message .result .now ≡ messageOf (c .before .before .before .args .slots .now) (layoutWith (c .before .before .before .args .k)) (c .before .before .before .args .j)
+read : (c : tie.After-message) → c .message .result .now ≡ messageOf (c .before .before .before .args .slots .now)
+    (layoutWith (c .before .before .before .args .k)) (c .before .before .before .args .j)
 read c =
     let a = c .before .before .before .args in
     c .message .ensures ∙ ap (λ (l : Layout). messageOf (a .slots .now) l (a .j)) (c .before .layout-with .ensures)

@@ -7,7 +7,8 @@ use Rattle.reed_solomon_cases.proofs.play_sets.Statement.{statement}
 use Rattle.reed_solomon_cases.proofs.play_sets.Tie as tie
 
 abbrev Inv-loop : tie.InvT-loop
-Inv-loop slots₀ m₀ block other out₀ c end r₀ x₀ slots m out r x = (length slots ≡ length slots₀) × (length m ≡ length m₀) × (length out ≡ length out₀) × (x ≤ end)
+Inv-loop slots₀ m₀ block other out₀ c end r₀ x₀ slots m out r x =
+    (length slots ≡ length slots₀) × (length m ≡ length m₀) × (length out ≡ length out₀) × (x ≤ end)
 
 abbrev μ-loop : tie.MeasureT-loop
 μ-loop slots₀ m₀ block other out₀ c end r₀ x₀ slots m out r x = end - x

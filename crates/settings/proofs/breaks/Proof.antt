@@ -23,23 +23,33 @@ is-outside-requires-4 c κs = search needs
 
 returns : tie.Need-returns
 unfolding broken
-returns c = c .is-outside .ensures ∙ sym (ap (broken (c .before .before .args .s) (c .before .before .args .number) (c .before .before .args .fits)) (c .before .match .keys1))
+returns c =
+    c .is-outside .ensures ∙ sym (ap (broken (c .before .before .args .s) (c .before .before .args .number) (c .before .before .args .fits))
+    (c .before .match .keys1))
 
 returns-2 : tie.Need-returns-2
 unfolding broken
-returns-2 c = c .too-many .ensures ∙ sym (ap (broken (c .before .before .args .s) (c .before .before .args .number) (c .before .before .args .fits)) (c .before .match .keys2))
+returns-2 c =
+    c .too-many .ensures ∙ sym (ap (broken (c .before .before .args .s) (c .before .before .args .number) (c .before .before .args .fits))
+    (c .before .match .keys2))
 
 returns-3 : tie.Need-returns-3
 unfolding broken
-returns-3 c = c .is-outside2 .ensures ∙ sym (ap (broken (c .before .before .args .s) (c .before .before .args .number) (c .before .before .args .fits)) (c .before .match .keys3))
+returns-3 c =
+    c .is-outside2 .ensures ∙ sym (ap (broken (c .before .before .args .s) (c .before .before .args .number) (c .before .before .args .fits))
+    (c .before .match .keys3))
 
 returns-4 : tie.Need-returns-4
 unfolding broken
-returns-4 c = c .is-outside3 .ensures ∙ sym (ap (broken (c .before .before .args .s) (c .before .before .args .number) (c .before .before .args .fits)) (c .before .match .keys4))
+returns-4 c =
+    c .is-outside3 .ensures ∙ sym (ap (broken (c .before .before .args .s) (c .before .before .args .number) (c .before .before .args .fits))
+    (c .before .match .keys4))
 
 returns-5 : tie.Need-returns-5
 unfolding broken
-returns-5 c = c .is-outside4 .ensures ∙ sym (ap (broken (c .before .before .args .s) (c .before .before .args .number) (c .before .before .args .fits)) (c .before .match .keys5))
+returns-5 c =
+    c .is-outside4 .ensures ∙ sym (ap (broken (c .before .before .args .s) (c .before .before .args .number) (c .before .before .args .fits))
+    (c .before .match .keys5))
 
 returns-6 : tie.Need-returns-6
 unfolding broken

@@ -15,7 +15,9 @@ refusal-requires c κs = search needs
 
 returns : tie.Need-returns
 unfolding encodingRefusal
-returns c = c .refusal .ensures ∙ ap (λ (s : Settings). refusalOf Encode s (c .before .before .args .number) (c .before .before .args .fits)) (c .before .partial .ensures)
+returns c =
+    c .refusal .ensures ∙ ap (λ (s : Settings). refusalOf Encode s (c .before .before .args .number) (c .before .before .args .fits))
+    (c .before .partial .ensures)
 
 pub encoding-refusal-spec : {M : Type 1} → statement M
 encoding-refusal-spec = tie.close (tie.spec partial-requires refusal-requires returns)

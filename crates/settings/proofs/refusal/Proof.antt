@@ -56,7 +56,8 @@ loop-again c =
     let a = L .before .before .args in (
       omega arith,
       L .loop .inv .1,
-      sym (next-row (broken (a .s) (a .number) (a .fits)) (R .result) (L .loop .i) (omega arith) (sym (c .before .breaks .ensures) ∙ c .if1 .left)) ∙ L .loop .inv .2,
+      sym (next-row (broken (a .s) (a .number) (a .fits)) (R .result) (L .loop .i) (omega arith) (sym (c .before .breaks .ensures) ∙ c .if1 .left))
+          ∙ L .loop .inv .2,
     )
 
 returns-2 : tie.Need-returns-2 Inv-loop μ-loop
@@ -64,7 +65,8 @@ returns-2 c =
     let L = c .before in
     let R = L .before .rows in
     let a = L .before .before .args in
-    sym (no-row (broken (a .s) (a .number) (a .fits)) (R .result) (L .loop .i) (omega arith)) ∙ L .loop .inv .2 ∙ whole (a .entry) (a .s) (a .number) (a .fits) (R .result) (R .ensures)
+    sym (no-row (broken (a .s) (a .number) (a .fits)) (R .result) (L .loop .i) (omega arith)) ∙ L .loop .inv .2
+    ∙ whole (a .entry) (a .s) (a .number) (a .fits) (R .result) (R .ensures)
 
 pub refusal-spec : {M : Type 1} → statement M
 refusal-spec =

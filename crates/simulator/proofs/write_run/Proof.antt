@@ -31,7 +31,8 @@ play-requires c κs =
     let h = S .pre in
     let f = c .before .before .before .before .before .before .fill-blocks in (
       runnable-playable h (f .last .1 .1 .0) (f .kept .1 .1 .0),
-      held-start (a .settings) (now (a .block)) (a .faulty) (now (a .places)) (now (a .input)) (c .before .before .before .start-all .result) (f .last .1 .1 .0) (now (a .sent)) (h .block-is)
+      held-start (a .settings) (now (a .block)) (a .faulty) (now (a .places)) (now (a .input)) (c .before .before .before .start-all .result)
+          (f .last .1 .1 .0) (now (a .sent)) (h .block-is)
           (c .before .before .before .start-all .ensures) (f .ensures),
     )
 
@@ -47,8 +48,13 @@ append-results-requires c κs =
     let h = S .pre in
     let room : S .args .settings .n * length (now (S .args .block)) ≤ length (c .before .before .before .before .before .before .before .before .before .before .before .before .before .play .last .1 .1 .1 .1 .1 .1 .0) = omega (arith, fill-room h, c .before .before .before .before .before .before .before .before .before .before .before .before .before .before .before .before .before .before .before .before .fill-blocks .kept .1 .1 .0, c .before .before .before .before .before .before .before .before .before .before .before .before .before .play .kept .1 .1 .1 .1 .1 .1 .0) in
     let out = subst (λ (o : List ℕ). Room o 0 6400) (sym (h .out-is)) (zeros-room 6400 6400 (omega arith)) in
-    let names = added out namesLine (omega arith) (c .before .before .before .before .append .ensures) in
-    (h .small .coded .quorum .n-most, omega (arith, h .block-is, block-le (h .small)), room, after names (S .args .settings .n * 395) (omega (arith, h .small .coded .quorum .n-most)))
+    let names = added out namesLine (omega arith) (c .before .before .before .before .append .ensures) in (
+      h .small .coded .quorum .n-most,
+      omega (arith, h .block-is, block-le (h .small)),
+      room,
+      after names (S .args .settings .n * 395)
+          (omega (arith, h .small .coded .quorum .n-most)),
+    )
 
 same-length : tie.Need-same-length
 same-length c = search needs

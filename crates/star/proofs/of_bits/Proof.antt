@@ -47,7 +47,8 @@ returns-2 c =
     let E = F .before .before in
     let A = E .before .before .args in
     let q = valid E in
-    answered (A .bits) (A .n) (A .t) (taken E) (q .n-most) _ (F .before .largest .ensures) _ (F .sets-of .ensures) (sym (c .before .is-large .ensures) ∙ c .if2 .taken)
+    answered (A .bits) (A .n) (A .t) (taken E) (q .n-most) _ (F .before .largest .ensures) _ (F .sets-of .ensures)
+    (sym (c .before .is-large .ensures) ∙ c .if2 .taken)
 
 no-sets-requires-2 : tie.Need-no-sets-requires-2
 no-sets-requires-2 c κs = search needs
@@ -58,7 +59,8 @@ returns-3 c =
     let E = F .before .before in
     let A = E .before .before .args in
     let q = valid E in
-    not-large (A .bits) (A .n) (A .t) (taken E) (q .n-most) _ (F .before .largest .ensures) _ _ (F .sets-of .ensures) (sym (c .before .before .is-large .ensures) ∙ c .before .if2 .left) (c .no-sets2 .ensures)
+    not-large (A .bits) (A .n) (A .t) (taken E) (q .n-most) _ (F .before .largest .ensures) _ _ (F .sets-of .ensures)
+    (sym (c .before .before .is-large .ensures) ∙ c .before .if2 .left) (c .no-sets2 .ensures)
 
 pub of-bits-spec : {M : Type 1} → statement M
 of-bits-spec =

@@ -16,7 +16,12 @@ get-requires : tie.Need-get-requires
 get-requires c κs =
     let S = c .before .before in
     let a = S .args in
-    omega (arith, ap length (c .field .ensures) ∙ length-field (now (a .bytes)) (a .i) (S .pre .0) (omega (arith, S .pre .1)), number-width-le (a .i) (S .pre .1))
+    omega (
+      arith,
+      ap length (c .field .ensures) ∙ length-field (now (a .bytes)) (a .i) (S .pre .0) (omega (arith, S .pre .1)),
+      number-width-le (a .i)
+          (S .pre .1),
+    )
 
 returns : tie.Need-returns
 returns c = c .get .ensures ∙ ap numberOf (c .before .field .ensures)

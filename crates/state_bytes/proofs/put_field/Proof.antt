@@ -24,7 +24,8 @@ returns c =
     let a = S .args in
     let x = c .before .before .before .number in
     number-put (a .s) (a .i) (c .before .before .put .last .0) (x .result) (length (now (a .bytes)))
-    (number-field (a .s) (a .i) (c .before .before .before .before .before .if1 .taken) ∙ ap (littleEndian (widthOf (a .i))) (sym (x .ensures))) (S .pre .1) (c .before .before .put .ensures)
+    (number-field (a .s) (a .i) (c .before .before .before .before .before .if1 .taken) ∙ ap (littleEndian (widthOf (a .i))) (sym (x .ensures))) (S .pre .1)
+    (c .before .before .put .ensures)
 
 outcome-number-requires : tie.Need-outcome-number-requires
 outcome-number-requires c κs = search needs
@@ -44,7 +45,8 @@ returns-2 c =
     let a = S .args in
     let x = c .before .before .before .outcome-number in
     number-put (a .s) (a .i) (c .before .before .put2 .last .0) (x .result) (length (now (a .bytes)))
-    (outcome-field (a .s) (a .i) (c .before .before .before .before .before .if2 .taken) ∙ ap (littleEndian (widthOf (a .i))) (sym (x .ensures))) (S .pre .1) (c .before .before .put2 .ensures)
+    (outcome-field (a .s) (a .i) (c .before .before .before .before .before .if2 .taken) ∙ ap (littleEndian (widthOf (a .i))) (sym (x .ensures))) (S .pre .1)
+    (c .before .before .put2 .ensures)
 
 write-rows-requires : tie.Need-write-rows-requires
 write-rows-requires c κs = search needs
@@ -56,7 +58,8 @@ returns-3 : tie.Need-returns-3
 returns-3 c =
     let S = c .before .before .before .before .before .before .before .before .before .before in
     let a = S .args in
-    rows-put (a .s) (a .i) (c .before .before .write-rows .last .0) (a .s .matrix) (now (a .bytes)) (matrix-field (a .s) (a .i) (c .before .before .before .before .before .before .if3 .taken)) (S .pre .1)
+    rows-put (a .s) (a .i) (c .before .before .write-rows .last .0) (a .s .matrix) (now (a .bytes))
+    (matrix-field (a .s) (a .i) (c .before .before .before .before .before .before .if3 .taken)) (S .pre .1)
     (c .before .before .write-rows .ensures)
 
 write-rows-requires-2 : tie.Need-write-rows-requires-2
@@ -69,7 +72,8 @@ returns-4 : tie.Need-returns-4
 returns-4 c =
     let S = c .before .before .before .before .before .before .before .before .before .before .before in
     let a = S .args in
-    rows-put (a .s) (a .i) (c .before .before .write-rows2 .last .0) (a .s .weak) (now (a .bytes)) (weak-field (a .s) (a .i) (c .before .before .before .before .before .before .if4 .taken)) (S .pre .1)
+    rows-put (a .s) (a .i) (c .before .before .write-rows2 .last .0) (a .s .weak) (now (a .bytes))
+    (weak-field (a .s) (a .i) (c .before .before .before .before .before .before .if4 .taken)) (S .pre .1)
     (c .before .before .write-rows2 .ensures)
 
 cast-put-2 : tie.Need-cast-put-2
@@ -86,7 +90,8 @@ returns-5 c =
     let S = c .before .before .before .before .before .before .before .before .before .before in
     let a = S .args in
     let last : a .i ≡ 9 = omega arith in
-    number-put (a .s) (a .i) (c .before .before .put3 .last .0) (a .s .core) (length (now (a .bytes))) (core-field (a .s) (a .i) last) (S .pre .1) (c .before .before .put3 .ensures)
+    number-put (a .s) (a .i) (c .before .before .put3 .last .0) (a .s .core) (length (now (a .bytes))) (core-field (a .s) (a .i) last) (S .pre .1)
+    (c .before .before .put3 .ensures)
 
 pub put-field-spec : {M : Type 1} → statement M
 put-field-spec =

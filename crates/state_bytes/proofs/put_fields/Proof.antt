@@ -66,7 +66,8 @@ loop-again c =
       omega arith,
       L .inv .1,
       omega (arith, w .ensures, offset-more (L .i)),
-      next-field (a .s) (now (a .bytes)) (L .inv .1) (L .i) l (w .result) (omega arith) (L .inv .2) (w .ensures) (L .bytes) (L .inv .3) (p .last .0) (p .ensures),
+      next-field (a .s) (now (a .bytes)) (L .inv .1) (L .i) l (w .result) (omega arith) (L .inv .2) (w .ensures) (L .bytes) (L .inv .3) (p .last .0)
+          (p .ensures),
       same-len-mid l (l + w .result - l) (L .bytes) (p .last .0) (p .kept .0) ∙ L .inv .4,
     )
 

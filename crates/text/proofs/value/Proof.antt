@@ -40,7 +40,8 @@ returns c =
     ∙ L .loop .inv .2
 
 -- the byte is a digit
-digit : (c : tie.Else1 Inv-loop μ-loop) → isDigit (getD (now (c .before .before .before .before .before .before .args .f)) (c .before .before .before .before .loop .i) 0) ≡ true
+digit : (c : tie.Else1 Inv-loop μ-loop) → isDigit
+    (getD (now (c .before .before .before .before .before .before .args .f)) (c .before .before .before .before .loop .i) 0) ≡ true
 digit c = sym (c .before .is-digit .ensures) ∙ not-false (c .before .is-digit .result) (c .if1 .left)
 
 mul-x : tie.Need-mul-x Inv-loop μ-loop

@@ -40,7 +40,8 @@ loop-again c =
       omega arith,
       places-turn (L .loop .at) (L .loop .y) k (L .loop .inv .1),
       simp length-set (L .loop .inv .2),
-      sym (digits-turn (L .loop .at) (L .loop .y) (c .digit-byte .result) (L .loop .b) (omega arith) k (omega arith) (c .digit-byte .ensures)) ∙ L .loop .inv .3,
+      sym (digits-turn (L .loop .at) (L .loop .y) (c .digit-byte .result) (L .loop .b) (omega arith) k (omega arith) (c .digit-byte .ensures))
+          ∙ L .loop .inv .3,
     )
 
 digit-byte-requires-2 : tie.Need-digit-byte-requires-2 Inv-loop μ-loop

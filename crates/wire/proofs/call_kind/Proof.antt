@@ -61,7 +61,8 @@ returns-6 c =
       ne-eqb (a .c) 2 (W .before .before .before .if3 .left),
       ne-eqb (a .c) 3 (W .before .before .if4 .left),
       ne-eqb (a .c) 4 (W .before .if5 .left),
-      yes-vote (a .t) (a .c) (from-four (a .c) (W .before .before .before .before .before .if1 .left) (W .before .before .before .before .if2 .left) (W .before .before .before .if3 .left) (W .before .before .if4 .left)) (W .if6 .taken),
+      yes-vote (a .t) (a .c) (from-four (a .c) (W .before .before .before .before .before .if1 .left) (W .before .before .before .before .if2 .left)
+          (W .before .before .before .if3 .left) (W .before .before .if4 .left)) (W .if6 .taken),
     )
 
 mul-last-call : tie.Need-mul-last-call

@@ -47,7 +47,8 @@ returns-5 c =
       ne-eqb (a .c) 1 (W .before .before .before .if2 .left),
       ne-eqb (a .c) 2 (W .before .before .if3 .left),
       ne-eqb (a .c) 3 (W .before .if4 .left),
-      yes-vote (a .t) (a .c) (from-four (a .c) (W .before .before .before .before .if1 .left) (W .before .before .before .if2 .left) (W .before .before .if3 .left) (W .before .if4 .left)) (W .if5 .taken),
+      yes-vote (a .t) (a .c) (from-four (a .c) (W .before .before .before .before .if1 .left) (W .before .before .before .if2 .left)
+          (W .before .before .if3 .left) (W .before .if4 .left)) (W .if5 .taken),
     )
 
 mul-last-round : tie.Need-mul-last-round

@@ -1,10 +1,22 @@
-//! The 115 bytes of a state, written and read here from and to the reference's state: n, t, k, own, sender and next at 0 to 40, 8 bytes
-//! each; the outcome at 48; matrix at 49 and weak at 81, 16 rows of 2 bytes each; the core at 113, 2 bytes; all little endian.
+//! The bytes of a state, written and read here from and to the reference's state: n, t, k, own, sender and next as numbers, the outcome,
+//! matrix and weak of 16 rows each, and the core; all little endian.
 use bench::reference::controller::{Outcome, State};
 
-pub const LENGTH: usize = 115;
-pub const NEXT: usize = 40;
-pub const OUTCOME: usize = 48;
+/// How many bytes each field takes.
+const WIDTHS: [usize; 10] = [8, 8, 8, 8, 8, 8, 1, 32, 32, 2];
+
+/// Where field `i` starts.
+const fn offset(i: usize) -> usize {
+    if i == 0 {
+        0
+    } else {
+        offset(i - 1) + WIDTHS[i - 1]
+    }
+}
+
+pub const LENGTH: usize = offset(WIDTHS.len());
+pub const NEXT: usize = offset(5);
+pub const OUTCOME: usize = offset(6);
 
 pub fn outcome_number(outcome: Outcome) -> u8 {
     match outcome {
@@ -37,28 +49,28 @@ pub fn to_bytes(state: &State) -> Vec<u8> {
     bytes
 }
 
-/// Every 115 bytes are a state: an outcome above 3 is read as open.
+/// Every `LENGTH` bytes are a state: an outcome above 3 is read as open.
 pub fn from_bytes(bytes: &[u8]) -> State {
-    let number = |at: usize| {
-        let little = bytes[at..at + 8].iter().rev();
+    let number = |field: usize| {
+        let little = bytes[offset(field)..offset(field + 1)].iter().rev();
         little.fold(0usize, |sum, &byte| sum << 8 | usize::from(byte))
     };
     let row = |at: usize| u16::from(bytes[at]) + 256 * u16::from(bytes[at + 1]);
     State {
         n: number(0),
-        t: number(8),
-        k: number(16),
-        own: number(24),
-        sender: number(32),
-        next: number(NEXT),
+        t: number(1),
+        k: number(2),
+        own: number(3),
+        sender: number(4),
+        next: number(5),
         outcome: match bytes[OUTCOME] {
             1 => Outcome::Agreed,
             2 => Outcome::None,
             3 => Outcome::Beyond,
             _ => Outcome::Open,
         },
-        matrix: std::array::from_fn(|i| row(49 + 2 * i)),
-        weak: std::array::from_fn(|i| row(81 + 2 * i)),
-        core: row(113),
+        matrix: std::array::from_fn(|i| row(offset(7) + 2 * i)),
+        weak: std::array::from_fn(|i| row(offset(8) + 2 * i)),
+        core: row(offset(9)),
     }
 }

@@ -37,7 +37,8 @@ returns-3 c =
     let G = B .before .before in
     let I = G .before in
     let a = I .before .before .before .before .args in
-    pairs-right (a .n) (now (a .rows)) (now (a .pairs)) (I .before .if1 .left) (I .if2 .left) (G .get-rows .result) (G .get-rows .ensures) (B .bits-of .result) (B .bits-of .ensures)
+    pairs-right (a .n) (now (a .rows)) (now (a .pairs)) (I .before .if1 .left) (I .if2 .left) (G .get-rows .result) (G .get-rows .ensures)
+    (B .bits-of .result) (B .bits-of .ensures)
     (C .copy .last .0) (C .copy .ensures)
 
 pub potekawhi-missing-pairs-spec : {M : Type 1} → statement M

@@ -37,7 +37,8 @@ returns-3 c =
     let I = G .before in
     let a = I .before .before .before .before .args in
     P .put-star .ensures
-    ∙ star-right (a .n) (a .t) (now (a .rows)) (now (a .sets)) (I .before .if1 .left) (I .if2 .left) (G .get-rows .result) (G .get-rows .ensures) (F .find .result) (star-of _ _ _ _ (F .find .ensures))
+    ∙ star-right (a .n) (a .t) (now (a .rows)) (now (a .sets)) (I .before .if1 .left) (I .if2 .left) (G .get-rows .result) (G .get-rows .ensures)
+    (F .find .result) (star-of _ _ _ _ (F .find .ensures))
 
 pub potekawhi-star-spec : {M : Type 1} → statement M
 potekawhi-star-spec =

@@ -40,7 +40,8 @@ returns-3 c =
     let I = C .before .before in
     let a = I .before .before .before .before .args in
     P .put-star .ensures
-    ∙ pair-star-right (a .n) (a .t) (now (a .pairs)) (now (a .sets)) (I .before .if1 .left) (I .if2 .left) (C .copy .last .0) (C .copy .ensures) (F .of-bits .result) (star-of-pairs _ _ _ _ (F .of-bits .ensures))
+    ∙ pair-star-right (a .n) (a .t) (now (a .pairs)) (now (a .sets)) (I .before .if1 .left) (I .if2 .left) (C .copy .last .0) (C .copy .ensures)
+    (F .of-bits .result) (star-of-pairs _ _ _ _ (F .of-bits .ensures))
 
 pub potekawhi-star-of-pairs-spec : {M : Type 1} → statement M
 potekawhi-star-of-pairs-spec =

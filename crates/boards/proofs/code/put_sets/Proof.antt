@@ -26,7 +26,8 @@ same-length c = search needs
 returns : tie.Need-returns
 returns c =
     let a = c .before .before .before .before .before .before .args in
-    sets-written (a .s) (now (a .sets)) (c .before .before .write-rows .last .0) (c .before .before .before .before .before .before .pre) (c .before .before .write-rows .ensures)
+    sets-written (a .s) (now (a .sets)) (c .before .before .write-rows .last .0) (c .before .before .before .before .before .before .pre)
+    (c .before .before .write-rows .ensures)
 
 pub put-sets-spec : {M : Type 1} → statement M
 put-sets-spec =

@@ -26,7 +26,8 @@ returns c =
     let P = c .before .before .before in
     let L = P .before .before in
     let a = L .before .before .before .before .args in
-    let o = P .share .ensures ∙ ap (λ (l : Layout). shared (a .s .settings .n) (a .s .settings .t) (a .s .settings .k) (a .s .own) (a .s .core) (now (a .inbox)) l (now (a .block)) (now (a .outbox))) (L .inbox-layout .ensures) in
+    let o = P .share .ensures ∙ ap (λ (l : Layout). shared (a .s .settings .n) (a .s .settings .t) (a .s .settings .k) (a .s .own) (a .s .core)
+    (now (a .inbox)) l (now (a .block)) (now (a .outbox))) (L .inbox-layout .ensures) in
     λ x. carried (c .open .ensures x) (now (a .block)) (o x)
 
 pub choose-call-spec : {M : Type 1} → statement M

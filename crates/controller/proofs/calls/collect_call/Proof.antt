@@ -44,7 +44,8 @@ returns c =
     let S = C .before .before .before .before in
     let a = S .args in
     let few : min (a .s .settings .n) 16 ≡ a .s .settings .n = omega (arith, S .pre .few) in
-    let m = ap (λ (x : Matrix). x .rows) (C .collect .ensures) ∙ ap (λ (l : Layout). firstMatrix (now (a .inbox)) l (a .s .settings .n)) (C .before .inbox-layout .ensures) in
+    let m = ap (λ (x : Matrix). x .rows) (C .collect .ensures)
+    ∙ ap (λ (l : Layout). firstMatrix (now (a .inbox)) l (a .s .settings .n)) (C .before .inbox-layout .ensures) in
     let o = P .send-matrix .ensures ∙ (λ x. toAll (O .outbox-layout .ensures x) (few x) (rowsOf (a .s .settings .n) (m x)) (now (a .outbox))) in
     let s = c .with-matrix .ensures ∙ ap₂ withMatrix (c .before .open .ensures) m in
     λ x. carried (s x) [] (o x)

@@ -34,7 +34,8 @@ returns c =
     let M = O .before in
     let L = M .before in
     let a = L .before .before .before .before .args in
-    let m = M .marks .ensures ∙ ap (λ (l : Layout). marksOf (a .s .settings .n) (a .s .settings .t) (a .s .settings .k) (a .s .own) (now (a .inbox)) l (now (a .block))) (L .inbox-layout .ensures) in
+    let m = M .marks .ensures ∙ ap (λ (l : Layout). marksOf (a .s .settings .n) (a .s .settings .t) (a .s .settings .k) (a .s .own) (now (a .inbox)) l
+    (now (a .block))) (L .inbox-layout .ensures) in
     let o = P .send-marks .ensures ∙ ap₂ (λ (l : Layout) (s : ℕ). sentMarks l (a .s .settings .n) s (now (a .outbox))) (O .outbox-layout .ensures) m in
     λ x. carried (c .open .ensures x) (now (a .block)) (o x)
 

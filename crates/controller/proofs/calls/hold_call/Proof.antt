@@ -49,7 +49,8 @@ returns c =
     let S = C .before .before .before .before in
     let a = S .args in
     let m = C .hold .ensures ∙ ap (λ (l : Layout). holdAnswer (now (a .inbox)) l (a .s .settings .n) (a .s .settings .t)) (C .before .inbox-layout .ensures) in
-    let o = P .send-as-king .ensures ∙ (λ x. sentByKing (O .outbox-layout .ensures x) (a .s .own) (K .phase .ensures x) (a .s .settings .n) (m x .rows) (now (a .outbox))) in
+    let o = P .send-as-king .ensures
+    ∙ (λ x. sentByKing (O .outbox-layout .ensures x) (a .s .own) (K .phase .ensures x) (a .s .settings .n) (m x .rows) (now (a .outbox))) in
     let s = c .with-votes .ensures ∙ (λ x. withVotes (c .before .open .ensures x) (m x .rows) (m x .weak)) in
     λ x. carried (s x) [] (o x)
 

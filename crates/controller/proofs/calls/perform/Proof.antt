@@ -113,7 +113,8 @@ same-length-4 c = search needs
 returns-2 : tie.Need-returns-2
 returns-2 c =
     let M = c .before .before .before .before .before .before .before .before .before in
-    arm M (c .before .before .before .before .before .before .before .enum-told2 .given .1) (c .before .before .before .before .receive-call .ensures) (of-receive _ _ _ _)
+    arm M (c .before .before .before .before .before .before .before .enum-told2 .given .1) (c .before .before .before .before .receive-call .ensures)
+    (of-receive _ _ _ _)
 
 same-length-5 : tie.Need-same-length-5
 same-length-5 c = search needs
@@ -133,7 +134,8 @@ returns-4 : tie.Need-returns-4
 returns-4 c =
     let M = c .before .before .before .before .before .before in
     let a = M .before .before .before .before .args in
-    arm M (c .before .before .before .before .enum-told4 .given .1) (beside-block (now (a .block)) (c .before .before .collect-call .ensures)) (of-collect _ _ _ _)
+    arm M (c .before .before .before .before .enum-told4 .given .1) (beside-block (now (a .block)) (c .before .before .collect-call .ensures))
+    (of-collect _ _ _ _)
 
 same-length-8 : tie.Need-same-length-8
 same-length-8 c = search needs
@@ -160,7 +162,8 @@ returns-7 : tie.Need-returns-7
 returns-7 c =
     let M = c .before .before .before .before .before .before in
     let a = M .before .before .before .before .args in
-    arm M (c .before .before .before .before .enum-told7 .given .1) (beside-block (now (a .block)) (c .before .before .settle-call .ensures)) (of-settle _ _ _ _)
+    arm M (c .before .before .before .before .enum-told7 .given .1) (beside-block (now (a .block)) (c .before .before .settle-call .ensures))
+    (of-settle _ _ _ _)
 
 same-length-11 : tie.Need-same-length-11
 same-length-11 c = search needs
@@ -191,7 +194,8 @@ returns-10 : tie.Need-returns-10
 returns-10 c =
     let M = c .before .before .before .before .before .before in
     let a = M .before .before .before .before .args in
-    arm M (c .before .before .before .before .enum-told10 .given .1) (beside-outbox (now (a .outbox)) (c .before .before .finish-call .ensures)) (of-finish _ _ _ _)
+    arm M (c .before .before .before .before .enum-told10 .given .1) (beside-outbox (now (a .outbox)) (c .before .before .finish-call .ensures))
+    (of-finish _ _ _ _)
 
 returns-11 : tie.Need-returns-11
 returns-11 c =

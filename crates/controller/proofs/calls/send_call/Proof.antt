@@ -24,7 +24,9 @@ returns : tie.Need-returns
 returns c =
     let B = c .before .before .before in
     let a = B .before .before .before .before .before .args in
-    let o = B .send-block .ensures ∙ ap (λ (l : Layout). sentBlock l (a .s .settings .n) (a .s .own) (a .s .settings .sender) (now (a .block)) (now (a .outbox))) (B .before .before .outbox-layout .ensures) in
+    let o = B .send-block .ensures ∙ ap
+    (λ (l : Layout). sentBlock l (a .s .settings .n) (a .s .own) (a .s .settings .sender) (now (a .block)) (now (a .outbox)))
+    (B .before .before .outbox-layout .ensures) in
     λ x. carried (c .open .ensures x) (now (a .block)) (o x)
 
 pub send-call-spec : {M : Type 1} → statement M

@@ -26,7 +26,8 @@ returns c =
     let K = c .before in
     let a = K .before .before .before .before .before .before .before .before .before .args in
     ap (λ (m : Matrix). m .rows) (K .settle .ensures)
-    ∙ ap₂ (λ (l : Layout) (k : ℕ). settledOf (a .s .matrix) (a .s .weak) (now (a .inbox)) l (a .s .settings .n) k) (K .before .before .before .before .before .before .before .inbox-layout .ensures) (K .before .phase .ensures)
+    ∙ ap₂ (λ (l : Layout) (k : ℕ). settledOf (a .s .matrix) (a .s .weak) (now (a .inbox)) l (a .s .settings .n) k)
+    (K .before .before .before .before .before .before .before .inbox-layout .ensures) (K .before .phase .ensures)
 
 pub settled-spec : {M : Type 1} → statement M
 settled-spec =

@@ -39,8 +39,10 @@ returns c =
     let S = C .before .before .before .before in
     let a = S .args in
     let few : min (a .s .settings .n) 16 ≡ a .s .settings .n = omega (arith, S .pre .few) in
-    let m = C .tally .ensures ∙ ap (λ (l : Layout). tallyAnswer (now (a .inbox)) l (a .s .settings .n) (a .s .settings .t)) (C .before .inbox-layout .ensures) in
-    let o = P .send-seen .ensures ∙ (λ x. toAll (O .outbox-layout .ensures x) (few x) (seenMessage (a .s .settings .n) (m x .zeros) (m x .ones)) (now (a .outbox))) in
+    let m = C .tally .ensures ∙ ap (λ (l : Layout). tallyAnswer (now (a .inbox)) l (a .s .settings .n) (a .s .settings .t))
+    (C .before .inbox-layout .ensures) in
+    let o = P .send-seen .ensures ∙ (λ x. toAll (O .outbox-layout .ensures x) (few x) (seenMessage (a .s .settings .n) (m x .zeros) (m x .ones))
+    (now (a .outbox))) in
     λ x. carried (c .open .ensures x) [] (o x)
 
 pub tally-call-spec : {M : Type 1} → statement M

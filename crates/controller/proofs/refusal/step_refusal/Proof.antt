@@ -57,14 +57,16 @@ returns-5 : tie.Need-returns-5
 returns-5 c =
     let a = c .before .before .before .before .before .before .before .args in
     let L = c .before .before in
-    sym (lengths-decide (a .s) (a .b) (a .i) (a .o) (fine3 (L .before .before)) (omega (arith, L .before .before .if2 .left)) (omega (arith, L .before .if3 .left)) (L .if4 .left)
+    sym (lengths-decide (a .s) (a .b) (a .i) (a .o) (fine3 (L .before .before)) (omega (arith, L .before .before .if2 .left))
+    (omega (arith, L .before .if3 .left)) (L .if4 .left)
     ∙ ap (λ (x : Bool). cond (not x) 6 0) (sym (c .before .lengths-fit .ensures) ∙ c .if5 .taken))
 
 returns-6 : tie.Need-returns-6
 returns-6 c =
     let a = c .before .before .before .before .before .before .before .args in
     let L = c .before .before in
-    sym (lengths-decide (a .s) (a .b) (a .i) (a .o) (fine3 (L .before .before)) (omega (arith, L .before .before .if2 .left)) (omega (arith, L .before .if3 .left)) (L .if4 .left)
+    sym (lengths-decide (a .s) (a .b) (a .i) (a .o) (fine3 (L .before .before)) (omega (arith, L .before .before .if2 .left))
+    (omega (arith, L .before .if3 .left)) (L .if4 .left)
     ∙ ap (λ (x : Bool). cond (not x) 6 0) (sym (c .before .lengths-fit .ensures) ∙ c .if5 .left))
 
 pub step-refusal-spec : {M : Type 1} → statement M

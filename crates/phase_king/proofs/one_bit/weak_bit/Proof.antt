@@ -19,7 +19,8 @@ quorum-requires c κs = search needs
 returns : tie.Need-returns
 unfolding weak support
 returns c =
-    ap₂ ltb (c .before .count-bit .ensures ∙ sym (cond-yes _ _ _ (sym (c .before .before .before .held-bit .ensures) ∙ c .before .before .if1 .taken))) (c .quorum .ensures)
+    ap₂ ltb (c .before .count-bit .ensures ∙ sym (cond-yes _ _ _ (sym (c .before .before .before .held-bit .ensures) ∙ c .before .before .if1 .taken)))
+    (c .quorum .ensures)
 
 count-bit-requires-2 : tie.Need-count-bit-requires-2
 count-bit-requires-2 c κs = search needs
@@ -30,7 +31,8 @@ quorum-requires-2 c κs = search needs
 returns-2 : tie.Need-returns-2
 unfolding weak support
 returns-2 c =
-    ap₂ ltb (c .before .count-bit2 .ensures ∙ sym (cond-no _ _ _ (sym (c .before .before .before .held-bit .ensures) ∙ c .before .before .if1 .left))) (c .quorum2 .ensures)
+    ap₂ ltb (c .before .count-bit2 .ensures ∙ sym (cond-no _ _ _ (sym (c .before .before .before .held-bit .ensures) ∙ c .before .before .if1 .left)))
+    (c .quorum2 .ensures)
 
 pub weak-bit-spec : {M : Type 1} → statement M
 weak-bit-spec =

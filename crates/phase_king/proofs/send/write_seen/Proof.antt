@@ -31,7 +31,8 @@ returns c =
     let L = c .before .before .before .before in
     let W = L .before .before .before in
     let a = W .before .before .before .args in
-    seen-written (a .n) (L .rows-length .result) (now (a .zeros)) (now (a .ones)) (now (a .m)) (W .write-rows .last .0) (c .before .before .write-rows2 .last .0)
+    seen-written (a .n) (L .rows-length .result) (now (a .zeros)) (now (a .ones)) (now (a .m)) (W .write-rows .last .0)
+    (c .before .before .write-rows2 .last .0)
     (L .rows-length .ensures) (W .before .before .before .pre) (W .write-rows .ensures) (c .before .before .write-rows2 .ensures)
 
 pub write-seen-spec : {M : Type 1} → statement M

@@ -58,7 +58,8 @@ loop-again c =
       simp length-set (L .inv .2),
       L .inv .3,
       all-set (λ x. x < 256) (lit< tt) (L .m) (L .i) (c .add .result) (L .inv .4)
-          (subst (λ (x : ℕ). x < 256) (sym (c .add .ensures)) (gadd-lt (L .inv .4 (L .i)) (subst (λ (x : ℕ). x < 256) (sym (c .before .mul .ensures)) (gmul-lt _ _)))),
+          (subst (λ (x : ℕ). x < 256) (sym (c .add .ensures))
+          (gadd-lt (L .inv .4 (L .i)) (subst (λ (x : ℕ). x < 256) (sym (c .before .mul .ensures)) (gmul-lt _ _)))),
     )
 
 same-length : tie.Need-same-length Inv-loop μ-loop

@@ -24,14 +24,21 @@ round-layout-requires : tie.Need-round-layout-requires Inv-loop μ-loop
 round-layout-requires c κs = search needs
 
 -- the layout that was read is the round's
-is-layout : (c : tie.After-round-layout Inv-loop μ-loop) → c .round-layout .result ≡ layoutIn (c .before .before .before .before .before .before .args .settings) (c .before .before .before .before .before .before .args .c)
+is-layout : (c : tie.After-round-layout Inv-loop μ-loop)
+    → c .round-layout .result ≡ layoutIn (c .before .before .before .before .before .before .args .settings)
+    (c .before .before .before .before .before .before .args .c)
 is-layout c = c .round-layout .ensures
 
 loop-holds : tie.Need-loop-holds Inv-loop μ-loop
 loop-holds c =
     let S = c .before .before .before .before .before .before in
-    let a = S .args in
-    (omega arith, is-layout c, S .pre .message-is ∙ sym (ap (λ (l : Layout). l .length) (is-layout c)), fill-start (now (a .input)) (now (a .places)) (a .faulty) (a .settings) (a .c) (a .i) (a .o) (now (a .sent)) (now (a .m)) (now (a .inbox)) (S .pre))
+    let a = S .args in (
+      omega arith,
+      is-layout c,
+      S .pre .message-is ∙ sym (ap (λ (l : Layout). l .length) (is-layout c)),
+      fill-start (now (a .input)) (now (a .places))
+          (a .faulty) (a .settings) (a .c) (a .i) (a .o) (now (a .sent)) (now (a .m)) (now (a .inbox)) (S .pre),
+    )
 
 add-place-of : tie.Need-add-place-of Inv-loop μ-loop
 add-place-of c = omega (arith, c .before .before .before .before .before .before .before .before .before .pre .few)
@@ -40,7 +47,8 @@ place-of-requires : tie.Need-place-of-requires Inv-loop μ-loop
 place-of-requires c κs = search needs
 
 -- the outbox of the index that is next stands among those sent
-room : (c : tie.After-place-of Inv-loop μ-loop) → let L = c .before .before .before in let S = L .before .before .before .before .before .before .before in (L .loop .j * S .args .o + S .args .o ≤ length (now (S .args .sent))) × (length (now (S .args .sent)) ≤ 49408)
+room : (c : tie.After-place-of Inv-loop μ-loop) → let L = c .before .before .before in let S = L .before .before .before .before .before .before .before in
+    (L .loop .j * S .args .o + S .args .o ≤ length (now (S .args .sent))) × (length (now (S .args .sent)) ≤ 49408)
 room c =
     let L = c .before .before .before in
     let S = L .before .before .before .before .before .before .before in
@@ -74,8 +82,12 @@ fill-slot-requires c κs =
     let L = P .before .before .before in
     let S = L .before .before .before .before .before .before .before in
     let a = S .args in
-    let e = ap (λ (l : Layout). l .length) (L .loop .inv .1) in
-    (L .loop .inv .2, S .pre .rooms .input-most, place-room (now (a .input)) (now (a .places)) (a .faulty) (a .settings) (a .c) (a .i) (a .o) (now (a .sent)) (now (a .m)) (now (a .inbox)) (S .pre) (L .loop .j) (P .place-of .result) _ e (P .place-of .ensures))
+    let e = ap (λ (l : Layout). l .length) (L .loop .inv .1) in (
+      L .loop .inv .2,
+      S .pre .rooms .input-most,
+      place-room (now (a .input)) (now (a .places)) (a .faulty) (a .settings) (a .c) (a .i) (a .o) (now (a .sent))
+          (now (a .m)) (now (a .inbox)) (S .pre) (L .loop .j) (P .place-of .result) _ e (P .place-of .ensures),
+    )
 
 add-j : tie.Need-add-j Inv-loop μ-loop
 add-j c = omega (arith, c .before .before .before .before .before .before .before .before .before .before .before .before .before .before .before .before .before .before .before .pre .few)
@@ -95,8 +107,12 @@ loop-again c =
       omega (arith, less),
       L .loop .inv .1,
       omega (arith, L .loop .inv .2, F .fill-slot .kept),
-      fill-turn (now (a .input)) (now (a .places)) (a .faulty) (a .settings) (a .c) (a .i) (a .o) (now (a .sent)) (now (a .m)) (now (a .inbox)) (S .pre) j less (L .loop .inbox) (F .fill-slot .last .1 .1 .1 .1 .1 .1 .1 .1 .0) (take (j * a .o + a .o - j * a .o) (drop (j * a .o) (now (a .sent)))) _ (P .place-of .result)
-          (c .before .before .before .before .before .before .before .before .member .result) (L .loop .inv .3) (L .loop .inv .1) (P .place-of .ensures) (c .before .before .before .before .before .before .before .before .member .ensures) (part-lent (a .o) (now (a .sent)) j) (F .fill-slot .ensures),
+      fill-turn (now (a .input)) (now (a .places)) (a .faulty) (a .settings) (a .c) (a .i) (a .o) (now (a .sent)) (now (a .m)) (now (a .inbox))
+          (S .pre) j less (L .loop .inbox) (F .fill-slot .last .1 .1 .1 .1 .1 .1 .1 .1 .0)
+          (take (j * a .o + a .o - j * a .o) (drop (j * a .o) (now (a .sent)))) _
+          (P .place-of .result)
+          (c .before .before .before .before .before .before .before .before .member .result) (L .loop .inv .3) (L .loop .inv .1) (P .place-of .ensures)
+          (c .before .before .before .before .before .before .before .before .member .ensures) (part-lent (a .o) (now (a .sent)) j) (F .fill-slot .ensures),
     )
 
 same-length : tie.Need-same-length Inv-loop μ-loop
@@ -111,7 +127,8 @@ same-length-2 c =
     let S = L .before .before .before .before .before .before .before in
     let a = S .args in
     let all : L .loop .j ≡ a .settings .n = omega (arith, c .if1 .left, L .loop .inv .0) in
-    ap length (L .loop .inv .3) ∙ fill-length (now (a .input)) (now (a .places)) (a .faulty) (a .settings) (a .c) (a .i) (a .o) (now (a .sent)) (now (a .m)) (now (a .inbox)) (S .pre) (L .loop .j) all ∙ sym (ap length (S .pre .cleared) ∙ length-replicate (a .o) 0)
+    ap length (L .loop .inv .3) ∙ fill-length (now (a .input)) (now (a .places)) (a .faulty) (a .settings) (a .c) (a .i) (a .o) (now (a .sent)) (now (a .m))
+    (now (a .inbox)) (S .pre) (L .loop .j) all ∙ sym (ap length (S .pre .cleared) ∙ length-replicate (a .o) 0)
 
 returns : tie.Need-returns Inv-loop μ-loop
 returns c =
@@ -119,7 +136,8 @@ returns c =
     let S = L .before .before .before .before .before .before .before in
     let a = S .args in
     let all : L .loop .j ≡ a .settings .n = omega (arith, c .if1 .left, L .loop .inv .0) in
-    L .loop .inv .3 ∙ fill-all (now (a .input)) (now (a .places)) (a .faulty) (a .settings) (a .c) (a .i) (a .o) (now (a .sent)) (now (a .m)) (now (a .inbox)) (S .pre) (L .loop .j) all
+    L .loop .inv .3 ∙ fill-all (now (a .input)) (now (a .places)) (a .faulty) (a .settings) (a .c) (a .i) (a .o) (now (a .sent)) (now (a .m)) (now (a .inbox))
+    (S .pre) (L .loop .j) all
 
 pub fill-inbox-spec : {M : Type 1} → statement M
 fill-inbox-spec =

@@ -17,7 +17,8 @@ same-length-2 c = search needs
 returns : tie.Need-returns
 returns c =
     let a = c .before .before .before .before .before .before .before .before .before .before .before .before .args in
-    c .before .before .before .before .fill-said .ensures ∙ sym (cond-yes (a .faulty) _ _ (c .before .before .before .before .before .before .before .if1 .taken))
+    c .before .before .before .before .fill-said .ensures
+    ∙ sym (cond-yes (a .faulty) _ _ (c .before .before .before .before .before .before .before .if1 .taken))
 
 relay-requires : tie.Need-relay-requires
 relay-requires c κs = search needs

@@ -16,7 +16,8 @@ use Rattle.simulator.proofs.run.call_all.Tie as tie
 
 abbrev Inv-loop : tie.InvT-loop
 Inv-loop input places faulty settings c blocks₀ sent sending₀ n next₀ i₀ blocks sending next i =
-    (i ≤ settings .n) × Turned (tableScenario settings [] faulty places input) faulty c (nowOf next₀ blocks₀ (blockLength (settings .k) (settings .t)) sent (inboxLength (settings .n) (settings .t) (settings .k) (c + 1)))
+    (i ≤ settings .n) × Turned (tableScenario settings [] faulty places input) faulty c
+    (nowOf next₀ blocks₀ (blockLength (settings .k) (settings .t)) sent (inboxLength (settings .n) (settings .t) (settings .k) (c + 1)))
     (blockLength (settings .k) (settings .t)) (outboxLength (settings .n) (settings .t) (settings .k) (c + 1)) i next₀ next blocks₀ blocks sending₀ sending
     × (n ≡ settings .n)
 
@@ -26,8 +27,14 @@ abbrev μ-loop : tie.MeasureT-loop
 loop-holds : tie.Need-loop-holds Inv-loop μ-loop
 loop-holds c =
     let S = c .before .before .before .before .before in
-    let a = S .args in
-    (omega arith, turn-start (tableScenario (a .settings) [] (a .faulty) (now (a .places)) (now (a .input))) (a .faulty) (a .c) (nowOf (a .states) (now (a .blocks)) (blockLength (a .settings .k) (a .settings .t)) (now (a .sent)) (inboxLength (a .settings .n) (a .settings .t) (a .settings .k) (a .c + 1))) (blockLength (a .settings .k) (a .settings .t)) (outboxLength (a .settings .n) (a .settings .t) (a .settings .k) (a .c + 1)) 0 (a .states) (now (a .blocks)) (now (a .sending)) refl, refl)
+    let a = S .args in (
+      omega arith,
+      turn-start (tableScenario (a .settings) [] (a .faulty) (now (a .places)) (now (a .input))) (a .faulty) (a .c)
+          (nowOf (a .states) (now (a .blocks)) (blockLength (a .settings .k) (a .settings .t)) (now (a .sent))
+          (inboxLength (a .settings .n) (a .settings .t) (a .settings .k) (a .c + 1))) (blockLength (a .settings .k) (a .settings .t))
+          (outboxLength (a .settings .n) (a .settings .t) (a .settings .k) (a .c + 1)) 0 (a .states) (now (a .blocks)) (now (a .sending)) refl,
+      refl,
+    )
 
 add-i : tie.Need-add-i Inv-loop μ-loop
 add-i c = omega (arith, c .before .before .before .before .before .before .before .pre .small .coded .quorum .n-most)
@@ -77,12 +84,17 @@ loop-again c =
     let h = S .pre in
     let i = L .loop .i in
     let T = L .loop .inv .1 in
-    let less : i < a .settings .n = omega (arith, c .before .before .before .before .before .before .before .before .before .before .loop-test .taken, L .loop .inv .2) in
+    let less : i < a .settings .n = omega
+    (arith, c .before .before .before .before .before .before .before .before .before .before .loop-test .taken, L .loop .inv .2) in
     let one = c .before .before .before .before .call-one in (
       omega (arith, less),
-      turn-correct (a .settings) (a .faulty) (a .c) (now (a .places)) (now (a .input)) (a .states) (now (a .blocks)) (now (a .sent)) (now (a .sending)) (omega (arith, S .good .1 .1 .1 .1 .1 .0 .1 .0 .1, h .small .coded .quorum .n-most)) (h .blocks-room) (h .sending-room) i less (L .loop .next) (L .loop .blocks) (L .loop .sending) T _ (one .result) (one .last .1 .1 .1 .1 .1 .1 .1 .0) (one .last .1 .1 .1 .1 .1 .1 .1 .1 .1 .0)
+      turn-correct (a .settings) (a .faulty) (a .c) (now (a .places)) (now (a .input)) (a .states) (now (a .blocks)) (now (a .sent)) (now (a .sending))
+          (omega (arith, S .good .1 .1 .1 .1 .1 .0 .1 .0 .1, h .small .coded .quorum .n-most)) (h .blocks-room) (h .sending-room) i less (L .loop .next)
+          (L .loop .blocks) (L .loop .sending) T _ (one .result) (one .last .1 .1 .1 .1 .1 .1 .1 .0) (one .last .1 .1 .1 .1 .1 .1 .1 .1 .1 .0)
           (getD-inside (L .loop .next) i _ zeroState (omega (arith, less, T .next-length, S .good .1 .1 .1 .1 .1 .0 .1 .0 .1, h .small .coded .quorum .n-most)))
-          (sym (c .before .before .before .before .before .before .before .before .before .member .ensures) ∙ not-true (c .before .before .before .before .before .before .before .before .before .member .result) (c .before .before .before .before .before .before .before .before .if1 .taken)) (one .ensures),
+          (sym (c .before .before .before .before .before .before .before .before .before .member .ensures)
+          ∙ not-true (c .before .before .before .before .before .before .before .before .before .member .result)
+          (c .before .before .before .before .before .before .before .before .if1 .taken)) (one .ensures),
       L .loop .inv .2,
     )
 
@@ -98,7 +110,9 @@ loop-again-2 c =
     let i = L .loop .i in
     let less : i < a .settings .n = omega (arith, c .before .before .loop-test .taken, L .loop .inv .2) in (
       omega (arith, less),
-      turn-faulty (a .settings) (a .faulty) (a .c) (now (a .places)) (now (a .input)) (a .states) (now (a .blocks)) (now (a .sent)) (now (a .sending)) (omega (arith, S .good .1 .1 .1 .1 .1 .0 .1 .0 .1, h .small .coded .quorum .n-most)) (h .blocks-room) (h .sending-room) i less (L .loop .next) (L .loop .blocks) (L .loop .sending) (L .loop .inv .1)
+      turn-faulty (a .settings) (a .faulty) (a .c) (now (a .places)) (now (a .input)) (a .states) (now (a .blocks)) (now (a .sent)) (now (a .sending))
+          (omega (arith, S .good .1 .1 .1 .1 .1 .0 .1 .0 .1, h .small .coded .quorum .n-most)) (h .blocks-room) (h .sending-room) i less (L .loop .next)
+          (L .loop .blocks) (L .loop .sending) (L .loop .inv .1)
           (sym (c .before .member .ensures) ∙ not-false (c .before .member .result) (c .if1 .left)),
       L .loop .inv .2,
     )
@@ -115,7 +129,9 @@ returns c =
     let S = L .before .before .before .before .before .before in
     let a = S .args in
     let h = S .pre in
-    turned-called (a .settings) (a .faulty) (a .c) (now (a .places)) (now (a .input)) (a .states) (now (a .blocks)) (now (a .sent)) (now (a .sending)) (omega (arith, S .good .1 .1 .1 .1 .1 .0 .1 .0 .1, h .small .coded .quorum .n-most)) (h .blocks-room) (h .sending-room) (L .loop .i) (L .loop .next) (L .loop .blocks) (L .loop .sending) (omega arith) (L .loop .inv .1)
+    turned-called (a .settings) (a .faulty) (a .c) (now (a .places)) (now (a .input)) (a .states) (now (a .blocks)) (now (a .sent)) (now (a .sending))
+    (omega (arith, S .good .1 .1 .1 .1 .1 .0 .1 .0 .1, h .small .coded .quorum .n-most)) (h .blocks-room) (h .sending-room) (L .loop .i) (L .loop .next)
+    (L .loop .blocks) (L .loop .sending) (omega arith) (L .loop .inv .1)
 
 pub call-all-spec : {M : Type 1} → statement M
 call-all-spec =

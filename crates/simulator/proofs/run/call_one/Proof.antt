@@ -42,7 +42,8 @@ slice-aggregate-call-with-2 c =
     let S = c .before .before .before .before .before .before .before .before .before .before .before in
     let a = S .args in
     let n = c .before .before .before .before .inbox-length .result in
-    sym (length-front 3088 n (omega (arith, c .before .before .before .before .inbox-length .ensures, inbox-le (S .pre .0 .small) (a .c) (S .pre .0 .calls-most))))
+    sym (length-front 3088 n (omega
+    (arith, c .before .before .before .before .inbox-length .ensures, inbox-le (S .pre .0 .small) (a .c) (S .pre .0 .calls-most))))
 
 call-with-requires : tie.Need-call-with-requires
 call-with-requires c κs =
@@ -52,8 +53,14 @@ call-with-requires c κs =
     let size = c .before .before .before .before .inbox-length .result in (
       S .pre .0,
       S .pre .1,
-      length-front 192 len (omega (arith, c .before .before .before .before .before .message-length .ensures, message-le (S .pre .0 .small) (a .c))) ∙ c .before .before .before .before .before .message-length .ensures,
-      take-zeros 3088 size (omega (arith, c .before .before .before .before .inbox-length .ensures, inbox-le (S .pre .0 .small) (a .c) (S .pre .0 .calls-most))) ∙ ap (λ (x : ℕ). replicate x 0) (c .before .before .before .before .inbox-length .ensures),
+      length-front 192 len (omega (arith, c .before .before .before .before .before .message-length .ensures, message-le (S .pre .0 .small) (a .c)))
+          ∙ c .before .before .before .before .before .message-length .ensures,
+      take-zeros 3088 size (omega (
+        arith,
+        c .before .before .before .before .inbox-length .ensures,
+        inbox-le (S .pre .0 .small) (a .c)
+            (S .pre .0 .calls-most),
+      )) ∙ ap (λ (x : ℕ). replicate x 0) (c .before .before .before .before .inbox-length .ensures),
     )
 
 same-length : tie.Need-same-length

@@ -39,8 +39,10 @@ step-part-requires c κs =
       omega (arith, S .pre .1, h .small .coded .quorum .n-most),
       omega (arith, b, block-le (h .small)),
       omega (arith, o, outbox-le (h .small) (a .c + 1) (omega arith) (omega (arith, h .calls-most))),
-      part-room (a .settings .n) (c .before .before .before .before .block-length .result) (blockLength (a .settings .k) (a .settings .t)) (a .i) (length (now (a .blocks))) b (h .blocks-room) (S .pre .1),
-      part-room (a .settings .n) (c .before .before .before .outbox-length .result) (outboxLength (a .settings .n) (a .settings .t) (a .settings .k) (a .c + 1)) (a .i) (length (now (a .sending))) o (h .sending-room) (S .pre .1),
+      part-room (a .settings .n) (c .before .before .before .before .block-length .result) (blockLength (a .settings .k) (a .settings .t)) (a .i)
+          (length (now (a .blocks))) b (h .blocks-room) (S .pre .1),
+      part-room (a .settings .n) (c .before .before .before .outbox-length .result)
+          (outboxLength (a .settings .n) (a .settings .t) (a .settings .k) (a .c + 1)) (a .i) (length (now (a .sending))) o (h .sending-room) (S .pre .1),
     )
 
 same-length : tie.Need-same-length
@@ -61,11 +63,16 @@ returns c =
     let a = S .args in
     let h = S .pre .0 in
     let p = c .before .before .before .before .step-part in
-    parted-as (c .before .before .before .before .before .before .before .before .before .block-length .result) (blockLength (a .settings .k) (a .settings .t)) (c .before .before .before .before .before .before .before .before .outbox-length .result) (outboxLength (a .settings .n) (a .settings .t) (a .settings .k) (a .c + 1)) (a .i) (a .s)
+    parted-as (c .before .before .before .before .before .before .before .before .before .block-length .result)
+    (blockLength (a .settings .k) (a .settings .t)) (c .before .before .before .before .before .before .before .before .outbox-length .result)
+    (outboxLength (a .settings .n) (a .settings .t) (a .settings .k) (a .c + 1)) (a .i) (a .s)
     (c .before .before .before .before .before .before .before .before .before .before .before .before .before .before .make-inbox .last .1 .1 .1 .1 .1 .1 .1 .1 .0)
-    (inboxOf (tableScenario (a .settings) [] (a .faulty) (now (a .places)) (now (a .input))) (a .c) (sentBy (now (a .sent)) (inboxLength (a .settings .n) (a .settings .t) (a .settings .k) (a .c + 1))) (a .i + 1))
+    (inboxOf (tableScenario (a .settings) [] (a .faulty) (now (a .places)) (now (a .input))) (a .c)
+    (sentBy (now (a .sent)) (inboxLength (a .settings .n) (a .settings .t) (a .settings .k) (a .c + 1))) (a .i + 1))
     (now (a .blocks)) (now (a .sending)) (p .result) (p .last .1 .0) (p .last .1 .1 .1 .1 .1 .0)
-    (c .before .before .before .before .before .before .before .before .before .block-length .ensures ∙ block-size-is (h .small .coded)) (c .before .before .before .before .before .before .before .before .outbox-length .ensures) (c .before .before .before .before .before .before .before .before .before .before .before .before .before .before .make-inbox .ensures) (p .ensures)
+    (c .before .before .before .before .before .before .before .before .before .block-length .ensures ∙ block-size-is (h .small .coded))
+    (c .before .before .before .before .before .before .before .before .outbox-length .ensures)
+    (c .before .before .before .before .before .before .before .before .before .before .before .before .before .before .make-inbox .ensures) (p .ensures)
 
 pub call-with-spec : {M : Type 1} → statement M
 call-with-spec =

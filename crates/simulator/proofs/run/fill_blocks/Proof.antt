@@ -71,8 +71,10 @@ loop-again c =
     let i = L .loop .i in
     let less : i < a .n = c .before .before .before .before .loop-test .taken in (
       omega (arith, less),
-      blocks-kept (a .n) i (now (a .block)) (L .loop .blocks) (c .before .before .copy .last .0) less (subst (λ (x : ℕ). a .n * length (now (a .block)) ≤ x) (sym (L .loop .inv .1)) (S .pre .2)) (c .before .before .copy .ensures) ∙ L .loop .inv .1,
-      blocks-turn (a .n) i (now (a .block)) (L .loop .blocks) (c .before .before .copy .last .0) less (subst (λ (x : ℕ). a .n * length (now (a .block)) ≤ x) (sym (L .loop .inv .1)) (S .pre .2)) (c .before .before .copy .ensures) (L .loop .inv .2),
+      blocks-kept (a .n) i (now (a .block)) (L .loop .blocks) (c .before .before .copy .last .0) less
+          (subst (λ (x : ℕ). a .n * length (now (a .block)) ≤ x) (sym (L .loop .inv .1)) (S .pre .2)) (c .before .before .copy .ensures) ∙ L .loop .inv .1,
+      blocks-turn (a .n) i (now (a .block)) (L .loop .blocks) (c .before .before .copy .last .0) less
+          (subst (λ (x : ℕ). a .n * length (now (a .block)) ≤ x) (sym (L .loop .inv .1)) (S .pre .2)) (c .before .before .copy .ensures) (L .loop .inv .2),
     )
 
 same-length : tie.Need-same-length Inv-loop μ-loop

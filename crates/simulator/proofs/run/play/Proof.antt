@@ -15,16 +15,27 @@ use Rattle.simulator.proofs.run.play.Tie as tie
 abbrev Inv-loop : tie.InvT-loop
 Inv-loop input places faulty settings block blocks₀ sent₀ sending₀ t held₀ last c₀ blocks sent sending held c =
     (c ≤ 3 * settings .t + 9) × (last ≡ 3 * settings .t + 9) × (length blocks ≡ length blocks₀) × (length sent ≡ 49408) × (length sending ≡ 49408)
-    × AfterCalls (tableScenario settings block faulty places input) c held blocks (blockLength (settings .k) (settings .t)) sent (inboxLength (settings .n) (settings .t) (settings .k) (c + 1))
+    × AfterCalls (tableScenario settings block faulty places input) c held blocks (blockLength (settings .k) (settings .t)) sent
+    (inboxLength (settings .n) (settings .t) (settings .k) (c + 1))
 
 abbrev μ-loop : tie.MeasureT-loop
 μ-loop input places faulty settings block blocks₀ sent₀ sending₀ t held₀ last c₀ blocks sent sending held c = 3 * settings .t + 9 - c
 
 mul-last : tie.Need-mul-last Inv-loop μ-loop
-mul-last c = omega (arith, c .before .before .before .before .before .before .pre .0 .small .coded .quorum .t-most, c .before .before .before .before .before .before .pre .0 .small .coded .quorum .n-most)
+mul-last c =
+    omega (
+      arith,
+      c .before .before .before .before .before .before .pre .0 .small .coded .quorum .t-most,
+      c .before .before .before .before .before .before .pre .0 .small .coded .quorum .n-most,
+    )
 
 add-last : tie.Need-add-last Inv-loop μ-loop
-add-last c = omega (arith, c .before .before .before .before .before .before .pre .0 .small .coded .quorum .t-most, c .before .before .before .before .before .before .pre .0 .small .coded .quorum .n-most)
+add-last c =
+    omega (
+      arith,
+      c .before .before .before .before .before .before .pre .0 .small .coded .quorum .t-most,
+      c .before .before .before .before .before .before .pre .0 .small .coded .quorum .n-most,
+    )
 
 loop-holds : tie.Need-loop-holds Inv-loop μ-loop
 loop-holds c =
@@ -38,7 +49,8 @@ call-all-requires c κs =
     let a = S .args in
     let h = S .pre .0 in
     let v = L .loop .inv in
-    playable-calling (now (a .input)) (now (a .places)) (a .settings) (L .loop .c) (now (a .blocks)) (L .loop .blocks) (L .loop .sent) (L .loop .sending) (h .small) (h .rooms) (h .blocks-room) (v .2) (v .3) (v .4) (omega (arith, c .before .before .before .loop-test .taken))
+    playable-calling (now (a .input)) (now (a .places)) (a .settings) (L .loop .c) (now (a .blocks)) (L .loop .blocks) (L .loop .sent) (L .loop .sending)
+    (h .small) (h .rooms) (h .blocks-room) (v .2) (v .3) (v .4) (omega (arith, c .before .before .before .loop-test .taken))
 
 copy-requires : tie.Need-copy-requires Inv-loop μ-loop
 copy-requires c κs = search needs
@@ -67,7 +79,8 @@ loop-again c =
       all .kept .1 .1 .1 .1 .1 .1 .0 ∙ v .2,
       ap length sent-is ∙ sending-is,
       sending-is,
-      held-next (a .settings) (now (a .block)) (a .faulty) (now (a .places)) (now (a .input)) (h .small) (L .loop .c) (L .loop .held) (all .result) (L .loop .blocks) b (L .loop .sent) s
+      held-next (a .settings) (now (a .block)) (a .faulty) (now (a .places)) (now (a .input)) (h .small) (L .loop .c) (L .loop .held) (all .result)
+          (L .loop .blocks) b (L .loop .sent) s
           (omega (arith, less)) (v .5) (all .ensures) (c .before .before .copy .last .0) sent-is,
     )
 
@@ -86,7 +99,9 @@ returns c =
     let S = L .before .before .before .before .before .before .before in
     let a = S .args in
     let e : L .loop .c ≡ 3 * a .settings .t + 9 = omega (arith, L .loop .inv .0, c .loop-test .left) in
-    subst (λ (x : ℕ). AfterCalls (tableScenario (a .settings) (now (a .block)) (a .faulty) (now (a .places)) (now (a .input))) x (L .loop .held) (L .loop .blocks) (blockLength (a .settings .k) (a .settings .t)) (L .loop .sent) (inboxLength (a .settings .n) (a .settings .t) (a .settings .k) (x + 1))) e (L .loop .inv .5)
+    subst (λ (x : ℕ). AfterCalls (tableScenario (a .settings) (now (a .block)) (a .faulty) (now (a .places)) (now (a .input))) x (L .loop .held)
+    (L .loop .blocks) (blockLength (a .settings .k) (a .settings .t)) (L .loop .sent)
+    (inboxLength (a .settings .n) (a .settings .t) (a .settings .k) (x + 1))) e (L .loop .inv .5)
 
 pub play-spec : {M : Type 1} → statement M
 play-spec =

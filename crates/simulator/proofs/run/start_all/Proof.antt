@@ -26,8 +26,14 @@ start-requires c κs = search needs
 loop-holds : tie.Need-loop-holds Inv-loop μ-loop
 loop-holds c =
     let S = c .before .before .before in
-    let a = S .args in
-    (omega arith, S .pre .0, refl, first-state (a .settings) (now (a .block)) (c .before .start .result .state) (ap (λ (x : Started). x .state) (c .before .start .ensures)), refl)
+    let a = S .args in (
+      omega arith,
+      S .pre .0,
+      refl,
+      first-state (a .settings) (now (a .block)) (c .before .start .result .state)
+          (ap (λ (x : Started). x .state) (c .before .start .ensures)),
+      refl,
+    )
 
 add-start : tie.Need-add-start Inv-loop μ-loop
 add-start c = omega (arith, c .loop-test .taken, c .before .before .before .before .before .pre .1)

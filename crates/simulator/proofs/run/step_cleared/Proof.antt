@@ -24,7 +24,9 @@ same-length-2 c = search needs
 returns : tie.Need-returns
 returns c =
     let a = c .before .before .before .before .before .before .before .before .before .before .before .before .before .before .before .args in
-    ap taken (c .before .before .before .before .before .step .ensures ∙ ap (λ (o : List ℕ). stepOf (a .s) (now (a .block)) (now (a .inbox)) o) (c .before .before .before .before .before .before .before .before .before .before .silence .ensures))
+    ap taken (c .before .before .before .before .before .step .ensures
+    ∙ ap (λ (o : List ℕ). stepOf (a .s) (now (a .block)) (now (a .inbox)) o)
+    (c .before .before .before .before .before .before .before .before .before .before .silence .ensures))
 
 pub step-cleared-spec : {M : Type 1} → statement M
 step-cleared-spec =

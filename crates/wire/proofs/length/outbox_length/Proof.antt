@@ -21,7 +21,8 @@ returns : tie.Need-returns
 unfolding outboxLength boxLength
 returns c =
     let a = c .before .before .args in
-    sym (cond-yes (eqb (messageLength (a .n) (a .t) (a .k) (a .c)) 0) 0 _ (eq-eqb (messageLength (a .n) (a .t) (a .k) (a .c)) 0 (sym (c .before .message-length .ensures) ∙ c .if1 .taken)))
+    sym (cond-yes (eqb (messageLength (a .n) (a .t) (a .k) (a .c)) 0) 0 _
+    (eq-eqb (messageLength (a .n) (a .t) (a .k) (a .c)) 0 (sym (c .before .message-length .ensures) ∙ c .if1 .taken)))
 
 -- a length that is not 0 is within the settings
 coded : (c : tie.Else1) → Coded (c .before .before .args .n) (c .before .before .args .t) (c .before .before .args .k)
@@ -47,7 +48,8 @@ returns-2 c =
     let a = c .before .before .args in
     let m = messageLength (a .n) (a .t) (a .k) (a .c) in
     ap (λ (x : ℕ). a .n * (1 + x)) (c .before .message-length .ensures)
-    ∙ sym (cond-no (eqb m 0) 0 (a .n * width (roundLayout (a .n) (a .t) (a .k) (a .c))) (ne-eqb m 0 (λ e. c .if1 .left (c .before .message-length .ensures ∙ e))))
+    ∙ sym (cond-no (eqb m 0) 0 (a .n * width (roundLayout (a .n) (a .t) (a .k) (a .c)))
+    (ne-eqb m 0 (λ e. c .if1 .left (c .before .message-length .ensures ∙ e))))
 
 pub outbox-length-spec : {M : Type 1} → statement M
 outbox-length-spec =

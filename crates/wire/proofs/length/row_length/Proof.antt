@@ -31,7 +31,8 @@ row : (c : tie.After-factor-row) → c .factor-row .result ≡ factorsOf (c .bef
 row c = c .factor-row .ensures ∙ ap factorsAt (c .before .before .row-index .ensures) ∙ place (c .before .before .before .args .r)
 
 -- the parts of the sum
-small : (c : tie.After-factor-row) → Small (c .factor-row .result) (c .before .before .before .args .n) (c .before .before .before .args .t) (c .before .before .before .args .k)
+small : (c : tie.After-factor-row) → Small (c .factor-row .result) (c .before .before .before .args .n) (c .before .before .before .args .t)
+    (c .before .before .before .args .k)
 small c = small-sums (c .before .before .before .args .r) _ _ _ _ (row c) (c .before .before .before .pre)
 
 mul-result : tie.Need-mul-result

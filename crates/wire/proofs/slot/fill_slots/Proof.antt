@@ -43,8 +43,10 @@ loop-again c =
     let j = L .loop .j in (
       omega arith,
       c .before .before .send-one .ensures
-          ∙ put-next-slot (a .layout) (λ _. bytes (now (a .m))) (λ i. sized-bytes (a .layout) (now (a .m)) (S .pre .1)) (now (a .outbox)) (L .loop .outbox) (now (a .m)) j
-          (omega (arith, slot-within (a .n) (width (a .layout)) j (omega arith), next-offset j (width (a .layout)), S .pre .0)) (L .loop .inv .1) refl (S .pre .1),
+          ∙ put-next-slot (a .layout) (λ _. bytes (now (a .m))) (λ i. sized-bytes (a .layout) (now (a .m)) (S .pre .1)) (now (a .outbox)) (L .loop .outbox)
+          (now (a .m)) j
+          (omega (arith, slot-within (a .n) (width (a .layout)) j (omega arith), next-offset j (width (a .layout)), S .pre .0)) (L .loop .inv .1) refl
+          (S .pre .1),
     )
 
 same-length : tie.Need-same-length Inv-loop μ-loop
@@ -63,7 +65,8 @@ returns c =
     let a = S .args in
     let all : L .loop .j ≡ a .n = omega arith in
     slots-all (a .layout) (λ _. bytes (now (a .m))) (now (a .outbox)) (L .loop .outbox) (a .n)
-    (subst (λ (x : ℕ). L .loop .outbox ≡ slots (a .layout) (λ _. bytes (now (a .m))) x ++ drop (x * width (a .layout)) (now (a .outbox))) all (L .loop .inv .1)) (S .pre .0)
+    (subst (λ (x : ℕ). L .loop .outbox ≡ slots (a .layout) (λ _. bytes (now (a .m))) x ++ drop (x * width (a .layout)) (now (a .outbox))) all
+    (L .loop .inv .1)) (S .pre .0)
 
 pub fill-slots-spec : {M : Type 1} → statement M
 fill-slots-spec =

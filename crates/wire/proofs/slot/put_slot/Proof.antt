@@ -38,7 +38,8 @@ returns c =
     let d = now (a .slot) in
     let k = length (set d 0 1) - 1 in
     ap (λ (l : List ℕ). take 1 (set d 0 1) ++ (l ++ drop k (drop 1 (set d 0 1)))) (c .before .before .copy .ensures)
-    ∙ put-head (a .layout) d (now (a .m)) (c .before .before .before .before .before .before .pre .0) (c .before .before .before .before .before .before .pre .1)
+    ∙ put-head (a .layout) d (now (a .m)) (c .before .before .before .before .before .before .pre .0)
+    (c .before .before .before .before .before .before .pre .1)
 
 pub put-slot-spec : {M : Type 1} → statement M
 put-slot-spec =

@@ -22,7 +22,8 @@ returns-3 : tie.Need-returns-3
 unfolding width
 returns-3 c =
     let a = c .before .before .before .before .before .args in
-    sym (relay-no-source (now (a .dst)) (a .layout) (a .j) (now (a .src)) (a .i) (holds-past (now (a .src)) (a .layout) (a .i) (omega (arith, slot-end (a .i) (width (a .layout)) (omega arith)))))
+    sym (relay-no-source (now (a .dst)) (a .layout) (a .j) (now (a .src)) (a .i)
+    (holds-past (now (a .src)) (a .layout) (a .i) (omega (arith, slot-end (a .i) (width (a .layout)) (omega arith)))))
 
 sub-if4 : tie.Need-sub-if4
 sub-if4 c = search needs
@@ -31,7 +32,8 @@ returns-4 : tie.Need-returns-4
 unfolding width
 returns-4 c =
     let a = c .before .before .before .before .before .before .before .args in
-    sym (relay-no-source (now (a .dst)) (a .layout) (a .j) (now (a .src)) (a .i) (holds-past (now (a .src)) (a .layout) (a .i) (omega (arith, slot-end (a .i) (width (a .layout)) (omega arith)))))
+    sym (relay-no-source (now (a .dst)) (a .layout) (a .j) (now (a .src)) (a .i)
+    (holds-past (now (a .src)) (a .layout) (a .i) (omega (arith, slot-end (a .i) (width (a .layout)) (omega arith)))))
 
 add-w : tie.Need-add-w
 add-w c = search needs
@@ -119,7 +121,8 @@ unfolding width
 returns-7 c =
     let E = c .before .before .before .before .before in
     let a = E .before .before .before .before .before .before .before .before .before .before .args in
-    relay-part (now (a .dst)) (now (a .src)) (c .before .before .copy .last .0) (a .layout) (a .j) (a .i) (omega arith) (E .before .if5 .left) (omega arith) (E .if6 .left)
+    relay-part (now (a .dst)) (now (a .src)) (c .before .before .copy .last .0) (a .layout) (a .j) (a .i) (omega arith) (E .before .if5 .left) (omega arith)
+    (E .if6 .left)
     (c .before .before .copy .ensures)
 
 pub relay-spec : {M : Type 1} → statement M

@@ -11,7 +11,8 @@ use Rattle.wire.proofs.slot.silence.Statement.{statement}
 use Rattle.wire.proofs.slot.silence.Tie as tie
 
 abbrev Inv-loop : tie.InvT-loop
-Inv-loop outbox₀ i₀ i-end outbox i = (i-end ≡ length outbox₀) × (i ≤ length outbox₀) × (outbox ≡ replicate i 0 ++ drop i outbox₀) × (length outbox ≡ length outbox₀)
+Inv-loop outbox₀ i₀ i-end outbox i =
+    (i-end ≡ length outbox₀) × (i ≤ length outbox₀) × (outbox ≡ replicate i 0 ++ drop i outbox₀) × (length outbox ≡ length outbox₀)
 
 abbrev μ-loop : tie.MeasureT-loop
 μ-loop outbox₀ i₀ i-end outbox i = i-end - i
