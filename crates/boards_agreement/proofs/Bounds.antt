@@ -46,12 +46,12 @@ use Rattle.protocol.proofs.Laws.{
   of-finish,
   of-outside,
 }
-use Rattle.state_bytes.specs.State.{numbersOf, Words}
+use Rattle.state_bytes.specs.State.{sixNumbers, Words}
 use Rattle.state_bytes.proofs.Laws.{numbers-lt}
 
 -- ---- the states that are built
 -- with a matrix, a weak matrix and a core of zeros
-zeros-words : (s : State) → ((i : ℕ) → getD (numbersOf s) i 0 < 2 ^ 64) → s .matrix ≡ replicate 16 0 → s .weak ≡ replicate 16 0 → s .core ≡ 0 → Words s
+zeros-words : (s : State) → ((i : ℕ) → getD (sixNumbers s) i 0 < 2 ^ 64) → s .matrix ≡ replicate 16 0 → s .weak ≡ replicate 16 0 → s .core ≡ 0 → Words s
 zeros-words s h m w c = record {
   numbers = h;
   matrix-length = ap length m;

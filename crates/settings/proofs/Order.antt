@@ -1,4 +1,4 @@
--- A list of rows tried one after the other, filled up with zeros: `next-row` is a turn of the loop, `padded` drops the zeros.
+-- A list of rows tried one after the other, filled up with zeros: `next-row` is a turn of the loop, `zeros-behind` drops the zeros.
 use mathlib.Core.Path.{_≡_, refl, sym, ap, _∙_}
 use mathlib.Core.Bool.{Bool, true, false, cond}
 use mathlib.Core.List.{List, [], _∷_, _++_}
@@ -40,6 +40,6 @@ module _ (p : ℕ → Bool) where
   zeros zero e = refl
   zeros (suc m) e = cond-no (p 0) 0 (firstOf p (replicate m 0)) e ∙ zeros m e
 
-  pub padded : (l : List ℕ) (m : ℕ) → p 0 ≡ false → firstOf p (l ++ replicate m 0) ≡ firstOf p l
-  padded [] m e = zeros m e
-  padded (r ∷ l) m e = ap (cond (p r) r) (padded l m e)
+  pub zeros-behind : (l : List ℕ) (m : ℕ) → p 0 ≡ false → firstOf p (l ++ replicate m 0) ≡ firstOf p l
+  zeros-behind [] m e = zeros m e
+  zeros-behind (r ∷ l) m e = ap (cond (p r) r) (zeros-behind l m e)

@@ -102,9 +102,9 @@ module _ (rows : List ℕ) (n t : ℕ) where
   e-member x h = member-below n (starOf rows n t .e) x e-below h
 
   -- ---- neighbours
-  pub joined : (c d : ℕ) → member (starOf rows n t .c) c ≡ true → member (starOf rows n t .d) d ≡ true → neighbour rows c d ≡ true
+  pub c-neighbours : (c d : ℕ) → member (starOf rows n t .c) c ≡ true → member (starOf rows n t .d) d ≡ true → neighbour rows c d ≡ true
   unfolding setsFrom noSets
-  joined c d =
+  c-neighbours c d =
       by-cases (λ s. member (s .c) c ≡ true → member (s .d) d ≡ true → neighbour rows c d ≡ true)
       (λ _ _ a b. core.complete n t (neighbour rows) (neighbour-sym rows) (neighbour-self rows) (matchingOf n (neighbour rows))
       (matching-first n (neighbour rows)) c d a b)
@@ -284,13 +284,13 @@ module _ (rows : List ℕ) (n t : ℕ) where
           let bound = found-valid y .t-most in
           let s = starOf rows n t in (
             agree.h n t (s .c) (s .d) (s .f) (s .e) (neighbour rows) (neighbour-sym rows) bound (c-size y)
-                (d-size y) joined f-neighbours e-neighbours correct most W word code near,
+                (d-size y) c-neighbours f-neighbours e-neighbours correct most W word code near,
             (λ c hc g. agree.C-word n t (s .c) (s .d) (s .f) (s .e) (neighbour rows) (neighbour-sym rows) bound (c-size y)
-                (d-size y) joined f-neighbours e-neighbours correct most W word code near c (c-member c hc) hc g),
+                (d-size y) c-neighbours f-neighbours e-neighbours correct most W word code near c (c-member c hc) hc g),
             (λ f hf g. agree.F-own n t (s .c) (s .d) (s .f) (s .e) (neighbour rows) (neighbour-sym rows) bound (c-size y)
-                (d-size y) joined f-neighbours e-neighbours correct most W word code near f (f-member f hf) hf g),
+                (d-size y) c-neighbours f-neighbours e-neighbours correct most W word code near f (f-member f hf) hf g),
             λ e he g. agree.E-word n t (s .c) (s .d) (s .f) (s .e) (neighbour rows) (neighbour-sym rows) bound (c-size y)
-                (d-size y) joined f-neighbours e-neighbours correct most W word code near e (e-member e he) he g,
+                (d-size y) c-neighbours f-neighbours e-neighbours correct most W word code near e (e-member e he) he g,
           )
 
       pub one-word : (a b : ℕ) → member (starOf rows n t .e) a ≡ true → member (starOf rows n t .e) b ≡ true → correct a ≡ true → correct b ≡ true

@@ -5,7 +5,7 @@
 --   star-refusal        the number answered is that of the refusal
 --   refusal-0           it is 0 exactly where the settings are valid; 0-refusal
 --   c-below ..          the four sets are below 2 ^ n; c-member ..: so a member is below n
---   joined              every member of C is a neighbour of every member of D
+--   c-neighbours              every member of C is a neighbour of every member of D
 --   f-neighbours        a member of F has at least t + 1 neighbours in C
 --   e-neighbours        a member of E has at least 2t + 1 neighbours in F
 --   found-valid         where the core is found the settings are valid
@@ -24,6 +24,6 @@
 --   c-word              the correct members of C hold that word
 pub use Rattle.star.proofs.Answer.{refusal-0, 0-refusal}
 pub use Rattle.star.proofs.Same.{star-is-one, star-of, star-of-pairs, same-is-star, same-star, same-rows, same-bits, star-of-bits, core-of-bits}
-pub use Rattle.star.proofs.Found.{star-refusal, c-below, d-below, f-below, e-below, c-member, d-member, f-member, e-member, joined, f-neighbours}
+pub use Rattle.star.proofs.Found.{star-refusal, c-below, d-below, f-below, e-below, c-member, d-member, f-member, e-member, c-neighbours, f-neighbours}
 pub use Rattle.star.proofs.Found.{e-neighbours, found-valid, c-size, d-size, f-size, e-size, not-found, has-found, clique-found, clique-core, clique-f}
 pub use Rattle.star.proofs.Found.{core-correct, one-word, own-place, c-word, no-sets}

@@ -25,7 +25,7 @@ use Rattle.reconstruction.specs.Outcomes.{outcomeNumber}
 use Rattle.settings.specs.declared.Settings.{Settings}
 use Rattle.protocol.specs.declared.State.{State}
 use Rattle.protocol.specs.State.{initial, withCall, withVotes, withCore}
-use Rattle.state_bytes.specs.State.{littleEndian, widths, widthOf, offset, stateLength, numbersOf, fieldBytes, stateBytes, fieldIn, fieldNumber}
+use Rattle.state_bytes.specs.State.{littleEndian, widths, widthOf, offset, stateLength, sixNumbers, fieldBytes, stateBytes, fieldIn, fieldNumber}
 use Rattle.state_bytes.specs.State.{fieldRows, outcomeFrom, stateIn}
 use Rattle.state_bytes.proofs.Digits.{length-digits}
 
@@ -85,7 +85,7 @@ length-field-bytes s (suc (suc (suc (suc (suc (suc (suc (suc (suc zero))))))))) 
 length-field-bytes s (suc (suc (suc (suc (suc (suc (suc (suc (suc (suc i)))))))))) = refl
 
 -- the first six are numbers
-pub number-field : (s : State) (i : ℕ) → i < 6 → fieldBytes s i ≡ littleEndian (widthOf i) (getD (numbersOf s) i 0)
+pub number-field : (s : State) (i : ℕ) → i < 6 → fieldBytes s i ≡ littleEndian (widthOf i) (getD (sixNumbers s) i 0)
 unfolding fieldBytes
 number-field s zero h = refl
 number-field s (suc zero) h = refl

@@ -20,7 +20,7 @@ use Rattle.reconstruction.specs.declared.Outcome.the-variants.{Open, Agreed, No
 use Rattle.reconstruction.specs.Outcomes.{outcomeNumber}
 use Rattle.protocol.specs.declared.State.{State}
 use Rattle.protocol.specs.State.{zeroState}
-use Rattle.state_bytes.specs.State.{littleEndian, numberOf, widths, widthOf, offset, stateLength, numbersOf, fieldBytes, stateBytes, fieldIn}
+use Rattle.state_bytes.specs.State.{littleEndian, numberOf, widths, widthOf, offset, stateLength, sixNumbers, fieldBytes, stateBytes, fieldIn}
 use Rattle.state_bytes.specs.State.{fieldNumber, outcomeFrom, stateIn, stateOf, Words}
 use Rattle.state_bytes.proofs.Digits.{number-lt, number-back}
 use Rattle.state_bytes.proofs.Fields.{number-field, length-fields, field-read, made}
@@ -46,9 +46,9 @@ number-width (suc (suc (suc (suc zero)))) h = refl
 number-width (suc (suc (suc (suc (suc zero))))) h = refl
 number-width (suc (suc (suc (suc (suc (suc i)))))) h = absurd (omega arith)
 
-number-read : (s : State) → Words s → (i : ℕ) → i < 6 → getD (numbersOf s) i 0 ≡ fieldNumber (stateBytes s) i
+number-read : (s : State) → Words s → (i : ℕ) → i < 6 → getD (sixNumbers s) i 0 ≡ fieldNumber (stateBytes s) i
 number-read s w i h =
-    let x = getD (numbersOf s) i 0 in
+    let x = getD (sixNumbers s) i 0 in
     let fits : x < 256 ^ widthOf i = subst (λ (m : ℕ). x < m) (number-width i h) (w .numbers i) in
     sym (ap numberOf (field-back s i (omega arith) ∙ number-field s i h) ∙ number-back (widthOf i) x fits)
 
@@ -92,7 +92,7 @@ read-written s w =
 -- six numbers below 2 ^ 64; there is no seventh
 pub numbers-lt : (s : State) → s .settings .n < 2 ^ 64 → s .settings .t < 2 ^ 64 → s .settings .k < 2 ^ 64 → s .own < 2 ^ 64 → s .settings .sender < 2 ^ 64
     → s .next < 2 ^ 64
-    → (i : ℕ) → getD (numbersOf s) i 0 < 2 ^ 64
+    → (i : ℕ) → getD (sixNumbers s) i 0 < 2 ^ 64
 numbers-lt s n t k own sender next zero = n
 numbers-lt s n t k own sender next (suc zero) = t
 numbers-lt s n t k own sender next (suc (suc zero)) = k
@@ -112,7 +112,7 @@ module _ (l : List ℕ) (bytes : (i : ℕ) → getD l i 0 < 256) where
       let size : length t ≤ widthOf i = omega (arith, length-take (widthOf i) (drop (offset i) l)) in
       lt-of-lt-of-le (number-lt t small) (pow-le-pow-right (zero-lt-suc 255) size)
 
-  numbers-bound : (i : ℕ) → getD (numbersOf (stateIn l)) i 0 < 2 ^ 64
+  numbers-bound : (i : ℕ) → getD (sixNumbers (stateIn l)) i 0 < 2 ^ 64
   unfolding stateIn widthOf
   numbers-bound =
       numbers-lt (stateIn l) (number-bound 0) (number-bound 1) (number-bound 2) (number-bound 3) (number-bound 4) (number-bound 5)

@@ -6,7 +6,7 @@
 --   widthOf i            the width of field i, counted from 0
 --   offset i             where field i starts: the sum of the widths before it
 --   stateLength          how many bytes a state takes: the sum of all widths
---   numbersOf s          the first six fields, which are numbers
+--   sixNumbers s          the first six fields, which are numbers
 --   fieldsOf s           the bytes of the ten fields: numbers, and 16 rows of marks for each matrix
 --   fieldBytes s i       those of field i
 --   stateBytes s         the bytes of a state
@@ -53,8 +53,8 @@ offset i = sum i widthOf
 abbrev pub stateLength : ℕ
 stateLength = offset (length widths)
 
-abbrev pub numbersOf : State → List ℕ
-numbersOf s = s .settings .n ∷ s .settings .t ∷ s .settings .k ∷ s .own ∷ s .settings .sender ∷ s .next ∷ []
+abbrev pub sixNumbers : State → List ℕ
+sixNumbers s = s .settings .n ∷ s .settings .t ∷ s .settings .k ∷ s .own ∷ s .settings .sender ∷ s .next ∷ []
 
 abbrev pub fieldsOf : State → List (List ℕ)
 fieldsOf s =
@@ -95,7 +95,7 @@ unfoldable pub stateOf : List ℕ → State
 stateOf bytes = cond (eqb (length bytes) stateLength) (stateIn bytes) zeroState
 
 pub record Words (s : State) : Type 0 where
-  pub numbers : (i : ℕ) → getD (numbersOf s) i 0 < 2 ^ 64
+  pub numbers : (i : ℕ) → getD (sixNumbers s) i 0 < 2 ^ 64
   pub matrix-length : length (s .matrix) ≡ 16
   pub matrix-rows : (i : ℕ) → getD (s .matrix) i 0 < 2 ^ 16
   pub weak-length : length (s .weak) ≡ 16

@@ -6,7 +6,7 @@ ghost use lib.Dec.{eqb};
 ghost use lib.ListN.{length, getD};
 ghost use Rattle.bitset.specs.Row.{rowsIn};
 ghost use Rattle.reconstruction.specs.Outcomes.{outcomeNumber};
-ghost use Rattle.state_bytes.specs.State.{littleEndian, numberOf, widths, widthOf, offset, stateLength, numbersOf, fieldBytes, stateBytes, fieldIn, fieldNumber, outcomeFrom, stateIn, stateOf};
+ghost use Rattle.state_bytes.specs.State.{littleEndian, numberOf, widths, widthOf, offset, stateLength, sixNumbers, fieldBytes, stateBytes, fieldIn, fieldNumber, outcomeFrom, stateIn, stateOf};
 use protocol::State;
 use reconstruction::Outcome;
 use settings::Settings;
@@ -76,7 +76,7 @@ pub fn outcome_number(outcome: Outcome) -> u8
 // The number in field i, one of the first six.
 fn number(s: State, i: usize) -> usize
     requires { ⌜ i < 6 ⌝ }
-    ensures { λ r. ⌜ r ≡ getD (numbersOf s) i 0 ⌝ }
+    ensures { λ r. ⌜ r ≡ getD (sixNumbers s) i 0 ⌝ }
 {
     let numbers = [
         s.settings.n,

@@ -17,8 +17,8 @@ use Rattle.settings.specs.Valid.{Coded}
 use Rattle.settings.specs.declared.Settings.{Settings}
 use Rattle.system_file.specs.declared.messages.Line.{Line}
 use Rattle.system_file.specs.declared.messages.Line.the-variants.{Said, Wrong as NoLine}
-use Rattle.system_file.specs.declared.messages.Entry.{Entry}
-use Rattle.system_file.specs.declared.messages.Entry.the-variants.{Made, Wrong as NoEntry}
+use Rattle.system_file.specs.declared.messages.Entered.{Entered}
+use Rattle.system_file.specs.declared.messages.Entered.the-variants.{Made, Wrong as NoEntry}
 use Rattle.system_file.specs.declared.messages.Lines.the-variants.{Right, Wrong}
 use Rattle.system_file.specs.Form.{
   isMessage,
@@ -207,7 +207,7 @@ module _ (input : List ℕ) (σ : Settings) (start : ℕ) (v : Coded (σ .n) (σ
     tests : isEntry σ input at places ≡ isLine input (bare σ (s .messages)) at
     tests = ap (isEntry σ input at) (s .table) ∙ entry-line σ v input size at (s .after) (s .messages) (s .kept)
 
-    pub sofar-stop : (qs : List ℕ) (y : Entry) → y ≡ entryAt σ input at places → y ≡ NoEntry
+    pub sofar-stop : (qs : List ℕ) (y : Entered) → y ≡ entryAt σ input at places → y ≡ NoEntry
         → (Wrong line ≡ linesOf (readFrom (length input) input (bare σ []) start 4))
         × (qs ≡ tableIn (readFrom (length input) input (bare σ []) start 4) qs)
     unfolding R
@@ -216,7 +216,7 @@ module _ (input : List ℕ) (σ : Settings) (start : ℕ) (v : Coded (σ .n) (σ
         ∙ read-stop input (bare σ (s .messages)) at line (s .fuel - 1) h (sym tests ∙ no-entry σ input at places (sym d ∙ e)) in
         (sym (ap linesOf q), sym (ap (λ (r : Read). tableIn r qs) q))
 
-    module _ (f b : ℕ) (y : Entry) (d : y ≡ entryAt σ input at places) (e : y ≡ Made f b) where
+    module _ (f b : ℕ) (y : Entered) (d : y ≡ entryAt σ input at places) (e : y ≡ Made f b) where
       made : (isEntry σ input at places ≡ true) × (f ≡ messageAt input at .from) × (b ≡ nextAt input at)
       made = made-entry σ input at places f b (sym d ∙ e)
 

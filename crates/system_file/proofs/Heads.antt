@@ -18,7 +18,7 @@ use Rattle.text.specs.Read.{valueOf, numberIn, isBytes, bytesOf}
 use Rattle.text.specs.declared.lines.Numbers.{Numbers}
 use Rattle.text.specs.Lines.{lineAt, isEnded, nextAt, isNames, rest, field, inRanges, isNumbers, numbersOf}
 use Rattle.text.proofs.Laws.{number-range, number-is, number-in, length-bytes, line-part, ended-yes, next-is, held-ended, held-short, rest-le, rest-end}
-use Rattle.text.proofs.Laws.{Found, numbers-found, numbers-none, numbers-range}
+use Rattle.text.proofs.Laws.{NumbersFound, numbers-found, numbers-none, numbers-range}
 use Rattle.settings.specs.Refusal.{stateRefusal}
 use Rattle.settings.specs.Valid.{Coded, Numbered, Valid}
 use Rattle.settings.proofs.Laws.{state-0, 0-state}
@@ -111,7 +111,7 @@ module _ (l : List ℕ) (a : ℕ) where
 
     -- the numbers were found, and r is what refuses them
     module _ (y : not (f .found) ≡ false) {r : ℕ} (g : r ≡ stateRefusal (settings (f .values)) 1) where
-      found : Found ranges l f
+      found : NumbersFound ranges l f
       found = numbers-found ranges l d (not-false _ y)
 
       settings-are : settings (f .values) ≡ settingsIn l

@@ -12,7 +12,7 @@ use Rattle.lists.proofs.Tests.{either, fails, and-left, and-right, and-both, an
 use Rattle.text.specs.Read.{valueOf, isBytes}
 use Rattle.text.specs.declared.lines.Numbers.{Numbers}
 use Rattle.text.specs.Lines.{lineAt, isEnded, rest, field, inRange, inRanges, isNumbers, numbersOf}
-use Rattle.text.proofs.Laws.{number-range, bytes-digits, ended-yes, rest-le, Found, numbers-found, numbers-none, numbers-range}
+use Rattle.text.proofs.Laws.{number-range, bytes-digits, ended-yes, rest-le, NumbersFound, numbers-found, numbers-none, numbers-range}
 use Rattle.settings.specs.Valid.{Coded, Numbered}
 use Rattle.wire.specs.Length.{messageLength}
 use Rattle.wire.proofs.Laws.{length-pos}
@@ -57,7 +57,7 @@ module _ (σ : Settings) (l : List ℕ) (a : ℕ) where
     -- the numbers were found; x is what follows them, and b says whether it is m bytes
     module _ (y : not (f .found) ≡ false) {x : List ℕ} (e : x ≡ drop (f .end) l)
         {m : ℕ} (u : m ≡ messageLength (σ .n) (σ .t) (σ .k) (getD (f .values) 0 0)) {b : Bool} (v : b ≡ isBytes m x) where
-      found : Found (messageRanges σ) l f
+      found : NumbersFound (messageRanges σ) l f
       found = numbers-found (messageRanges σ) l read (not-false _ y)
 
       text-is : isText σ l ≡ b

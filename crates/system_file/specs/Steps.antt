@@ -37,8 +37,8 @@ use Rattle.system_file.specs.declared.head.Head.{Head}
 use Rattle.system_file.specs.declared.head.Head.the-variants.{Said as HeadSaid, Wrong as NoHead}
 use Rattle.system_file.specs.declared.messages.Line.{Line}
 use Rattle.system_file.specs.declared.messages.Line.the-variants.{Said as LineSaid, Wrong as NoLine}
-use Rattle.system_file.specs.declared.messages.Entry.{Entry}
-use Rattle.system_file.specs.declared.messages.Entry.the-variants.{Made, Wrong as NoEntry}
+use Rattle.system_file.specs.declared.messages.Entered.{Entered}
+use Rattle.system_file.specs.declared.messages.Entered.the-variants.{Made, Wrong as NoEntry}
 use Rattle.system_file.specs.declared.messages.Lines.{Lines}
 use Rattle.system_file.specs.declared.messages.Lines.the-variants.{Right, Wrong}
 use Rattle.system_file.specs.Form.{fileLimit, isSettings, isMessage, Message, messageAt, Contents, Read, wrong, right, settingsIn}
@@ -98,7 +98,7 @@ pub record Enters (m : Message) : Type 0 where
 unfoldable pub isEntry : Settings → List ℕ → ℕ → List ℕ → Bool
 isEntry s input a ps = isEnded input a && (isMessage s (lineAt input a) && isNew ps (messageAt input a))
 
-unfoldable pub entryAt : Settings → List ℕ → ℕ → List ℕ → Entry
+unfoldable pub entryAt : Settings → List ℕ → ℕ → List ℕ → Entered
 entryAt s input a ps = cond (isEntry s input a ps) (Made (messageAt input a .from) (nextAt input a)) NoEntry
 
 unfoldable pub tableAt : Settings → List ℕ → ℕ → List ℕ → List ℕ

@@ -23,7 +23,7 @@ enum Line {
 }
 
 // A message line that was entered in the table: its sender, and where the next line starts.
-enum Entry {
+enum Entered {
     Made { from: usize, next: usize },
     Wrong,
 }
@@ -46,12 +46,12 @@ pub(crate) fn read_messages(input: &[u8], start: usize, s: Settings, places: &mu
     let mut faulty: u16 = 0;
     while at < input.len() {
         match enter_line(input, at, s, places) {
-            Entry::Made { from, next } => {
+            Entered::Made { from, next } => {
                 faulty = bitset::insert(faulty, from - 1);
                 at = next;
                 line += 1;
             }
-            Entry::Wrong => {
+            Entered::Wrong => {
                 return Lines::Wrong(line);
             }
         }
@@ -60,7 +60,7 @@ pub(crate) fn read_messages(input: &[u8], start: usize, s: Settings, places: &mu
 }
 
 // The message line at `at`, into the table.
-fn enter_line(input: &[u8], at: usize, s: Settings, places: &mut [u16]) -> Entry
+fn enter_line(input: &[u8], at: usize, s: Settings, places: &mut [u16]) -> Entered
     requires { ⌜ Started (now input) s at × (length (now places) ≡ tableSize) ⌝ }
     ensures { λ r. ⌜ r ≡ entryAt s (now (input .entry)) at (now (places .entry)) ⌝ }
     ensures { λ _. ⌜ now (places .exit) ≡ tableAt s (now (input .entry)) at (now (places .entry)) ⌝ }
@@ -68,7 +68,7 @@ fn enter_line(input: &[u8], at: usize, s: Settings, places: &mut [u16]) -> Entry
     let l = lines::line_at(input, at);
     let end = at + l.len();
     if input.len() <= end {
-        return Entry::Wrong;
+        return Entered::Wrong;
     }
     let Line::Said {
         round,
@@ -77,15 +77,15 @@ fn enter_line(input: &[u8], at: usize, s: Settings, places: &mut [u16]) -> Entry
         place,
     } = message_line(l, at, s)
     else {
-        return Entry::Wrong;
+        return Entered::Wrong;
     };
     if table::enter(places, round, from, to, place) {
-        return Entry::Made {
+        return Entered::Made {
             from,
             next: end + 1,
         };
     }
-    Entry::Wrong
+    Entered::Wrong
 }
 
 // The message in a line that stands at `at`.

@@ -24,7 +24,7 @@
 pub use Rattle.text.proofs.Fields.{before-at, before-past, before-le, before-take, before-all, before-text, behind-text, behind-drop}
 pub use Rattle.text.proofs.LineParts.{line-le, line-part, yes-ended, no-ended, ended-yes, next-is, held-ended, held-short, held-next, Named}
 pub use Rattle.text.proofs.LineParts.{names-said, names-none}
-pub use Rattle.text.proofs.LineNumbers.{rest-le, rest-end, Found, numbers-found, numbers-none, numbers-range}
+pub use Rattle.text.proofs.LineNumbers.{rest-le, rest-end, NumbersFound, numbers-found, numbers-none, numbers-range}
 pub use Rattle.text.proofs.Numbers.{digit-lt, value-grows, every-append, number-yes, number-no, number-is, number-range, number-in, answer-value}
 pub use Rattle.text.proofs.Numbers.{answer-wrong}
 pub use Rattle.text.proofs.Bytes.{hex-lt, bytes-half, length-bytesOf, bytes-digits, length-bytes, getD-bytes, bytes-lt, bytes-odd, bytes-other}

@@ -81,7 +81,7 @@ module _ (rs l : List ℕ) where
   numbers-many h = sym (numbers-no (and-no-left _ _ (lt-leb (length rs / 2) 4 h)))
 
 -- what an answer tells
-pub record Found (rs l : List ℕ) (f : Numbers) : Type 0 where
+pub record NumbersFound (rs l : List ℕ) (f : Numbers) : Type 0 where
   pub numbers : isNumbers rs l ≡ true
   pub value : (i : ℕ) → i < length rs / 2 → getD (f .values) i 0 ≡ valueOf (field i l)
   pub end : f .end ≡ length l - length (rest (length rs / 2) l)
@@ -91,7 +91,7 @@ module _ (rs l : List ℕ) {f : Numbers} (d : f ≡ numbersOf rs l) where
   pub numbers-none : f .found ≡ false → isNumbers rs l ≡ false
   numbers-none w = fails _ (λ y. true≢false (sym (ap (λ (x : Numbers). x .found) (d ∙ numbers-yes rs l y)) ∙ w))
 
-  pub numbers-found : f .found ≡ true → Found rs l f
+  pub numbers-found : f .found ≡ true → NumbersFound rs l f
   numbers-found w =
       let y = passes (isNumbers rs l) (λ z. true≢false (sym w ∙ ap (λ (x : Numbers). x .found) (d ∙ numbers-no rs l z))) in
       let q : f ≡ numbersIn rs l = d ∙ numbers-yes rs l y in

@@ -1,5 +1,5 @@
 -- `settings::refusal` meets its contract: the rows are tried one after the other.
-use Rattle.settings.proofs.Order.{six, length-six, found-row, next-row, no-row, padded}
+use Rattle.settings.proofs.Order.{six, length-six, found-row, next-row, no-row, zeros-behind}
 use Rattle.settings.specs.Refusal.{broken, tried, firstOf, refusalOf}
 use lib.ListN.{length, drop}
 use native.Mathlib.Omega.{arith}
@@ -15,7 +15,7 @@ use Rattle.settings.proofs.refusal.Tie as tie
 -- the rows tried, filled up with zeros, give the refusal number
 whole : (e : Entry) (s : Settings) (i : ℕ) (fits : Bool) (l : List ℕ) → l ≡ six e → firstOf (broken s i fits) l ≡ refusalOf e s i fits
 unfolding refusalOf broken
-whole e s i fits l q = ap (firstOf (broken s i fits)) q ∙ padded (broken s i fits) (tried e) (6 - length (tried e)) refl
+whole e s i fits l q = ap (firstOf (broken s i fits)) q ∙ zeros-behind (broken s i fits) (tried e) (6 - length (tried e)) refl
 
 abbrev Inv-loop : tie.InvT-loop
 Inv-loop s number fits order i₀ i = (i ≤ 6) × (length order ≡ 6) × (firstOf (broken s number fits) (drop i order) ≡ firstOf (broken s number fits) order)

@@ -4,8 +4,8 @@ use mathlib.Core.Bool.{cond}
 use Prim.Native.Nat.{_+_}
 use lib.ListN.{length}
 use Rattle.lists.proofs.Tests.{cond-yes, cond-no}
-use Rattle.system_file.specs.declared.messages.Entry.{Entry}
-use Rattle.system_file.specs.declared.messages.Entry.the-variants.{Made, Wrong as NoEntry}
+use Rattle.system_file.specs.declared.messages.Entered.{Entered}
+use Rattle.system_file.specs.declared.messages.Entered.the-variants.{Made, Wrong as NoEntry}
 use Rattle.system_file.specs.Steps.{entryAt, tableAt}
 use Rattle.system_file.proofs.Entries.{entry-short, entry-wrong, said-enters, entry-said}
 use borrow.Author.Needs.{needs}
@@ -19,7 +19,7 @@ to-line c = c .before .before .before .before .before .before .before
 abbrev start : tie.After-enter → tie.Start
 start c = to-line c .before .before .before
 
-abbrev made : tie.After-enter → Entry
+abbrev made : tie.After-enter → Entered
 made c = Made (c .before .before .before .round .given .0 .1 .0) (start c .args .at + length (to-line c .line-at .result .now) + 1)
 
 told : (c : tie.After-enter)
