@@ -18,7 +18,7 @@ use refusal::step_refusal;
 use settings::Settings;
 
 // Begins a run; the block is neither read nor changed. Refused: the zero state.
-// Shut out: a start carried out that returns 1; a refused one whose state has a next call; must-fail/start_always_refuses.
+// Shut out: a start carried out that returns 1; a refused one whose state has a next call.
 pub fn start(s: Settings, own: usize, block: &[u8]) -> Started
     ensures { λ r. ⌜ r ≡ startOf s own (length (now (block .entry))) ⌝ }
 {

@@ -51,6 +51,12 @@ length-put d v a e h g l =
       lib.ListN.length-drop a d,
     )
 
+-- a part of w elements that is lent
+pub length-lent : (a w : ℕ) (l : List ℕ) → a + w ≤ length l → length (take (a + w - a) (drop a l)) ≡ w
+length-lent a w l h =
+    let e : a + w - a ≡ w = omega arith in
+    length-take-le (a + w - a) (drop a l) (omega (arith, lib.ListN.length-drop a l)) ∙ e
+
 -- the part from a to the end
 pub part-rest : (a : ℕ) (l : List ℕ) → take (length l - a) (drop a l) ≡ drop a l
 part-rest a l = take-all (length l - a) (drop a l) (omega (arith, lib.ListN.length-drop a l))

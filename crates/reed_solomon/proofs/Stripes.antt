@@ -3,7 +3,7 @@
 use mathlib.Core.Path.{_≡_, sym, ap, ap₂, subst, _∙_}
 use mathlib.Core.List.{List}
 use mathlib.Core.Logic.{⊎-elim}
-use Prim.Native.Nat.{ℕ, _+_, _-_, _*_, _≤_, _<_}
+use Prim.Native.Nat.{ℕ, _+_, _*_, _≤_, _<_}
 use native.Mathlib.Omega.{arith}
 use lib.Dec.{eqb, lit<}
 use lib.ListN.{length, getD, take, drop, length-drop}
@@ -101,9 +101,3 @@ stripe-joined t f k h s l = sym (part-take (t + 1) (joined f k) s) ∙ part-join
 pub block-joined : (k t : ℕ) (block : List ℕ) → length block ≡ k * (t + 1) → block ≡ joined (stripe t block) k
 unfolding stripe
 block-joined k t block e = joined-parts (t + 1) block k e ∙ joined-ext (part (t + 1) block) (stripe t block) k (λ s l. part-take (t + 1) block s)
-
--- the part of a list that holds one stripe
-pub part-length : (a w : ℕ) (xs : List ℕ) → a + w ≤ length xs → length (take (a + w - a) (drop a xs)) ≡ w
-part-length a w xs h =
-    let e : a + w - a ≡ w = omega arith in
-    length-take-le (a + w - a) (drop a xs) (omega (arith, length-drop a xs)) ∙ e

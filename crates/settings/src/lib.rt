@@ -85,7 +85,7 @@ fn rows(entry: Entry) -> [u8; 6]
 
 // The number of the first row, of those that the entry point tries, that the settings, the number and the lent lengths break; 0 where they
 // break none.
-// Shut out: must-fail/largest_n; must-fail/rows_in_another_order.
+// Shut out: must-fail/largest_n; must-fail/rows_in_another_order; must-fail/start_always_refuses.
 pub fn refusal(entry: Entry, s: Settings, number: usize, fits: bool) -> u8
     ensures { λ r. ⌜ r ≡ refusalOf entry s number fits ⌝ }
 {

@@ -12,7 +12,7 @@ use lib.Seq.{getD-set-same, getD-set-other}
 use Rattle.lists.specs.Join.{part}
 use Rattle.lists.proofs.Tests.{either}
 use Rattle.lists.proofs.Sums.{below-suc}
-use Rattle.lists.proofs.Parts.{slot-within, length-put}
+use Rattle.lists.proofs.Parts.{slot-within, length-put, length-lent}
 use Rattle.lists.proofs.Joins.{part-put-same, part-put-other}
 use Rattle.bitset.specs.Set.{member}
 use Rattle.settings.specs.declared.Settings.{Settings}
@@ -26,7 +26,7 @@ use Rattle.system_file.specs.Table.{textOf, placeIn}
 use Rattle.simulation.specs.Run.{Scenario, Playing, played}
 use Rattle.simulation.proofs.Laws.{called-ext, called-other, played-correct, played-faulty}
 use Rattle.simulator.specs.Steps.{FileSettings, Rooms, Calling, Called, AfterCalls, tableScenario, nowOf}
-use Rattle.simulator.proofs.Running.{lent-length, inbox-le, outbox-le}
+use Rattle.simulator.proofs.Running.{inbox-le, outbox-le}
 
 -- a run finds what each call finds
 pub playable-calling : (input places : List ℕ) (S : Settings) (c : ℕ) (blocks₀ blocks sent sending : List ℕ) → FileSettings S → Rooms input places S
@@ -102,7 +102,7 @@ module _ (n i : ℕ) (block blocks v : List ℕ) (l : i < n) (room : n * length 
     (is-v : v ≡ copied block (take (i * length block + length block - i * length block) (drop (i * length block) blocks))) where
   copied-is : v ≡ block
   copied-is = is-v ∙ copied-all block (take (i * length block + length block - i * length block) (drop (i * length block) blocks))
-      (sym (lent-length (length block) blocks i (omega (arith, slot-within n (length block) i l))))
+      (sym (length-lent (i * length block) (length block) blocks (omega (arith, slot-within n (length block) i l))))
 
   pub blocks-turn : ((x : ℕ) → x < i → part (length block) blocks x ≡ block) → (x : ℕ) → x < i + 1
       → part (length block) (take (i * length block)

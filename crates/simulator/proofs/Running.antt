@@ -55,11 +55,6 @@ part-lent w l i =
     let e : i * w + w - i * w ≡ w = omega arith in
     ap (λ (x : ℕ). take x (drop (i * w) l)) e ∙ sym (part-take w l i)
 
-pub lent-length : (w : ℕ) (l : List ℕ) (i : ℕ) → i * w + w ≤ length l → length (take (i * w + w - i * w) (drop (i * w) l)) ≡ w
-lent-length w l i room =
-    let e : i * w + w - i * w ≡ w = omega arith in
-    length-take-le (i * w + w - i * w) (drop (i * w) l) (omega (arith, length-drop (i * w) l)) ∙ e
-
 -- ---- an inbox filled slot by slot
 sent-some : (m : List ℕ) → 0 < length m → sentAs m ≡ bytes m
 sent-some [] l = absurd (omega arith)
@@ -222,8 +217,8 @@ module _ (input places : List ℕ) (faulty : ℕ) (S : Settings) (c i o : ℕ) (
       ∙ ap (λ (x : List ℕ). joined slot (S .n) ++ x) (ap (λ (y : ℕ). zeros (y * width (layoutIn S c))) z ∙ ap zeros (zero-mul (width (layoutIn S c))))
       ∙ append-nil (joined slot (S .n))
 
-  pub fill-length : (j : ℕ) → j ≡ S .n → length (filledTo input places faulty S c i o sent j) ≡ o
-  fill-length j e =
+  pub length-filled : (j : ℕ) → j ≡ S .n → length (filledTo input places faulty S c i o sent j) ≡ o
+  length-filled j e =
       ap length (fill-all j e) ∙ length-joined (width (layoutIn S c)) slot (S .n) slot-size ∙ sym (h .outbox-is)
 
   pub place-room : (j place len : ℕ) → len ≡ messageLength (S .n) (S .t) (S .k) c → place ≡ placeIn places c (j + 1) i → (place ≡ 0 → ⊥)

@@ -54,25 +54,25 @@ module _ (σ : Settings) (input : List ℕ) (a : ℕ) where
       sym (cond-yes (isEntry σ input a ps) (tableWith ps (messageAt input a)) ps e),
     )
 
-    pub short-no : isEnded input a ≡ false → isEntry σ input a ps ≡ false
+    pub no-entry-short : isEnded input a ≡ false → isEntry σ input a ps ≡ false
     unfolding isEntry
-    short-no e = and-no-left (isEnded input a) (isMessage σ (lineAt input a) && isNew ps (messageAt input a)) e
+    no-entry-short e = and-no-left (isEnded input a) (isMessage σ (lineAt input a) && isNew ps (messageAt input a)) e
 
-    pub other-no : isMessage σ (lineAt input a) ≡ false → isEntry σ input a ps ≡ false
+    pub no-entry-other : isMessage σ (lineAt input a) ≡ false → isEntry σ input a ps ≡ false
     unfolding isEntry
-    other-no e =
+    no-entry-other e =
         and-no-right (isEnded input a) (isMessage σ (lineAt input a) && isNew ps (messageAt input a))
         (and-no-left (isMessage σ (lineAt input a)) (isNew ps (messageAt input a)) e)
 
-    pub given-no : isNew ps (messageAt input a) ≡ false → isEntry σ input a ps ≡ false
+    pub no-entry-given : isNew ps (messageAt input a) ≡ false → isEntry σ input a ps ≡ false
     unfolding isEntry
-    given-no e =
+    no-entry-given e =
         and-no-right (isEnded input a) (isMessage σ (lineAt input a) && isNew ps (messageAt input a))
         (and-no-right (isMessage σ (lineAt input a)) (isNew ps (messageAt input a)) e)
 
-    pub all-yes : isEnded input a ≡ true → isMessage σ (lineAt input a) ≡ true → isNew ps (messageAt input a) ≡ true → isEntry σ input a ps ≡ true
+    pub yes-entry : isEnded input a ≡ true → isMessage σ (lineAt input a) ≡ true → isNew ps (messageAt input a) ≡ true → isEntry σ input a ps ≡ true
     unfolding isEntry
-    all-yes e y w =
+    yes-entry e y w =
         and-both (isEnded input a) (isMessage σ (lineAt input a) && isNew ps (messageAt input a)) e
         (and-both (isMessage σ (lineAt input a)) (isNew ps (messageAt input a)) y w)
 
@@ -90,12 +90,12 @@ module _ (σ : Settings) (input : List ℕ) (a : ℕ) where
 -- ---- the code, for a line l that it holds
 module _ (σ : Settings) (input l : List ℕ) (a : ℕ) (ps : List ℕ) (e : l ≡ lineAt input a) where
   pub entry-short : length input ≤ a + length l → (NoEntry ≡ entryAt σ input a ps) × (ps ≡ tableAt σ input a ps)
-  entry-short h = entry-no σ input a ps (short-no σ input a ps (held-short input l a e h))
+  entry-short h = entry-no σ input a ps (no-entry-short σ input a ps (held-short input l a e h))
 
   pub entry-wrong : (x : Line) → x ≡ lineIn σ l a → x ≡ NoLine → (NoEntry ≡ entryAt σ input a ps) × (ps ≡ tableAt σ input a ps)
   entry-wrong x d h =
       entry-no σ input a ps
-      (other-no σ input a ps (message-not σ input a (ap (λ (y : List ℕ). lineIn σ y a) (sym e) ∙ sym d ∙ h)))
+      (no-entry-other σ input a ps (message-not σ input a (ap (λ (y : List ℕ). lineIn σ y a) (sym e) ∙ sym d ∙ h)))
 
   module _ (r f j p : ℕ) (h : a + length l < length input) (x : Line) (d : x ≡ lineIn σ l a) (s : x ≡ Said r f j p) where
     is : (isMessage σ (lineAt input a) ≡ true) × (message r f j p ≡ messageAt input a)
@@ -112,12 +112,12 @@ module _ (σ : Settings) (input l : List ℕ) (a : ℕ) (ps : List ℕ) (e : l �
     pub entry-said : (new : Bool) (qs : List ℕ) → new ≡ isNew ps (message r f j p) → qs ≡ cond new (tableWith ps (message r f j p)) ps
         → (cond new (Made f (a + length l + 1)) NoEntry ≡ entryAt σ input a ps) × (qs ≡ tableAt σ input a ps)
     entry-said true qs u v =
-        let q = entry-yes σ input a ps (all-yes σ input a ps ended (is .0) (ap (isNew ps) (sym (is .1)) ∙ sym u)) in (
+        let q = entry-yes σ input a ps (yes-entry σ input a ps ended (is .0) (ap (isNew ps) (sym (is .1)) ∙ sym u)) in (
           ap (Made f) (held-next input l a e) ∙ ap (λ (m : Message). Made (m .from) (nextAt input a)) (is .1) ∙ q .0,
           v ∙ ap (tableWith ps) (is .1) ∙ q .1,
         )
     entry-said false qs u v =
-        let q = entry-no σ input a ps (given-no σ input a ps (ap (isNew ps) (sym (is .1)) ∙ sym u)) in (q .0, v ∙ q .1)
+        let q = entry-no σ input a ps (no-entry-given σ input a ps (ap (isNew ps) (sym (is .1)) ∙ sym u)) in (q .0, v ∙ q .1)
 
 -- ---- a turn of the loop
 module _ (σ : Settings) (v : Coded (σ .n) (σ .t) (σ .k)) (input : List ℕ) (size : length input ≤ 65536) (a : ℕ) (h : 1 ≤ a) (ms : List Message)

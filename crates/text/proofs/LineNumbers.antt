@@ -58,12 +58,12 @@ module _ (rs l : List ℕ) where
   numbers-no y = cond-no _ _ _ y
 
   -- a field that is no number in its range
-  ranges-no : (i n : ℕ) → i < n → inRange rs l i ≡ false → inRanges rs l n ≡ false
+  no-ranges : (i n : ℕ) → i < n → inRange rs l i ≡ false → inRanges rs l n ≡ false
   unfolding inRanges
-  ranges-no i zero h w = absurd (omega arith)
-  ranges-no i (suc n) h w =
+  no-ranges i zero h w = absurd (omega arith)
+  no-ranges i (suc n) h w =
       ⊎-elim (λ (e : i ≡ n). and-no-right (inRanges rs l n) _ (ap (inRange rs l) (sym e) ∙ w))
-      (λ (g : i < n). and-no-left _ _ (ranges-no i n g w))
+      (λ (g : i < n). and-no-left _ _ (no-ranges i n g w))
       (below-suc h)
 
   -- the parts of the test
@@ -73,7 +73,7 @@ module _ (rs l : List ℕ) where
 
   pub numbers-range : isNumbers rs l ≡ true → (i : ℕ) → i < length rs / 2 → inRange rs l i ≡ true
   unfolding isNumbers
-  numbers-range y i h = passes _ (λ z. true≢false (sym (and-right (leb (length rs / 2) 4) _ y) ∙ ranges-no i (length rs / 2) h z))
+  numbers-range y i h = passes _ (λ z. true≢false (sym (and-right (leb (length rs / 2) 4) _ y) ∙ no-ranges i (length rs / 2) h z))
 
   -- too many ranges
   pub numbers-many : 4 < length rs / 2 → noNumbers ≡ numbersOf rs l
@@ -127,7 +127,7 @@ module _ {rs l values : List ℕ} {a i : ℕ} (s : Sofar rs l values a i) where
     pub sofar-stop : r ≡ Wrong → i < length rs / 2 → noNumbers ≡ numbersOf rs l
     unfolding isNumbers
     sofar-stop u h =
-        sym (numbers-no rs l (and-no-right (leb (length rs / 2) 4) _ (ranges-no rs l i (length rs / 2) h (answer-wrong _ _ _ (answer ∙ u)))))
+        sym (numbers-no rs l (and-no-right (leb (length rs / 2) 4) _ (no-ranges rs l i (length rs / 2) h (answer-wrong _ _ _ (answer ∙ u)))))
 
     module _ {v : ℕ} (u : r ≡ Value v) where
       told : (inRange rs l i ≡ true) × (v ≡ valueOf (field i l))

@@ -1,6 +1,7 @@
 -- `decode_stripes` meets its contract. The invariant: the first s stripes are found and written.
 use Rattle.reed_solomon.proofs.Rule.{tried-found}
-use Rattle.reed_solomon.proofs.Stripes.{length-found, part-length}
+use Rattle.reed_solomon.proofs.Stripes.{length-found}
+use Rattle.lists.proofs.Parts.{length-lent}
 use Rattle.lists.specs.Join.{joined}
 use Rattle.lists.proofs.Joins.{joined-none, joined-more, length-joined}
 use Rattle.reed_solomon.specs.Steps.{stripeOf, isFound}
@@ -71,7 +72,7 @@ decode-stripe-requires c κs =
     let l = c .before .before .loop in
     let w = a .t + 1 in (
       c .before .before .before .before .before .before .pre .0,
-      part-length (l .s * w) w (l .block)
+      length-lent (l .s * w) w (l .block)
           (omega (arith, slot-within (a .k) w (l .s) (omega arith), c .before .before .before .before .before .before .pre .2, l .inv .1)),
     )
 

@@ -1,5 +1,5 @@
 -- `fill_inbox` meets its contract: the loop fills slot after slot.
-use Rattle.simulator.proofs.Running.{part-lent, filledTo, fill-start, fill-turn, fill-all, fill-length, place-room}
+use Rattle.simulator.proofs.Running.{part-lent, filledTo, fill-start, fill-turn, fill-all, length-filled, place-room}
 use Rattle.lists.proofs.Parts.{slot-within}
 use Rattle.simulator.specs.Steps.{layoutIn}
 use Rattle.wire.specs.declared.slot.Layout.{Layout}
@@ -127,7 +127,7 @@ same-length-2 c =
     let S = L .before .before .before .before .before .before .before in
     let a = S .args in
     let all : L .loop .j ≡ a .settings .n = omega (arith, c .if1 .left, L .loop .inv .0) in
-    ap length (L .loop .inv .3) ∙ fill-length (now (a .input)) (now (a .places)) (a .faulty) (a .settings) (a .c) (a .i) (a .o) (now (a .sent)) (now (a .m))
+    ap length (L .loop .inv .3) ∙ length-filled (now (a .input)) (now (a .places)) (a .faulty) (a .settings) (a .c) (a .i) (a .o) (now (a .sent)) (now (a .m))
     (now (a .inbox)) (S .pre) (L .loop .j) all ∙ sym (ap length (S .pre .cleared) ∙ length-replicate (a .o) 0)
 
 returns : tie.Need-returns Inv-loop μ-loop

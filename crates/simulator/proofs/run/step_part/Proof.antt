@@ -1,11 +1,13 @@
 -- `step_part` meets its contract: block and outbox are lent as parts.
-use Rattle.simulator.proofs.Running.{part-lent, lent-length}
+use Rattle.simulator.proofs.Running.{part-lent}
+use Rattle.lists.proofs.Parts.{length-lent}
 use Rattle.simulator.specs.Steps.{taken}
 use Rattle.protocol.specs.Step.{stepOf}
 use lib.ListN.{replicate}
 use native.Mathlib.Omega.{arith}
 use mathlib.Core.Path.{refl, _∙_}
 use denote.Ref.{now}
+use Prim.Native.Nat.{_*_}
 use borrow.Author.Needs.{needs}
 use Rattle.simulator.proofs.run.step_part.Statement.{statement}
 use Rattle.simulator.proofs.run.step_part.Tie as tie
@@ -53,8 +55,8 @@ returns : tie.Need-returns
 returns c =
     let a = c .before .before .before .before .before .before .before .before .before .before .args in
     let r = c .before .before .before .before .step-cleared in
-    let u = lent-length (a .b) (now (a .blocks)) (a .i) (omega arith) in
-    let v = lent-length (a .o) (now (a .sending)) (a .i) (omega arith) in
+    let u = length-lent (a .i * a .b) (a .b) (now (a .blocks)) (omega arith) in
+    let v = length-lent (a .i * a .o) (a .o) (now (a .sending)) (omega arith) in
     record {
       result = record { state = r .result; block = r .last .1 .0; outbox = r .last .1 .1 .1 .0 };
       is =
