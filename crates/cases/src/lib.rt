@@ -143,16 +143,22 @@ pub fn fill(s: &mut [u8], v: u8)
 }
 
 // Prints a text.
-pub fn text(s: &[u8]) {
+pub fn text(s: &[u8])
+    ensures { λ _. ⊤ₛ }
+{
     io::write_all(STDOUT_FILENO, s);
 }
 
-pub fn newline() {
+pub fn newline()
+    ensures { λ _. ⊤ₛ }
+{
     text(b"\n");
 }
 
 // A number in decimal.
-pub fn decimal(x: usize) {
+pub fn decimal(x: usize)
+    ensures { λ _. ⊤ₛ }
+{
     io::print_decimal(STDOUT_FILENO, x as u64);
 }
 
@@ -163,7 +169,9 @@ fn number(x: usize) {
 }
 
 // A text, then a space and a number for each.
-pub fn numbers(name: &[u8], xs: &[usize]) {
+pub fn numbers(name: &[u8], xs: &[usize])
+    ensures { λ _. ⊤ₛ }
+{
     text(name);
     let mut i: usize = 0;
     while i < xs.len() {
@@ -173,7 +181,9 @@ pub fn numbers(name: &[u8], xs: &[usize]) {
 }
 
 // A line: the same for bytes.
-pub fn byte_line(name: &[u8], xs: &[u8]) {
+pub fn byte_line(name: &[u8], xs: &[u8])
+    ensures { λ _. ⊤ₛ }
+{
     text(name);
     let mut i: usize = 0;
     while i < xs.len() {
@@ -192,7 +202,9 @@ fn hex_byte(x: u8) {
 }
 
 // A space, and two hexadecimal digits for each byte; a dash for no byte.
-pub fn hex(s: &[u8]) {
+pub fn hex(s: &[u8])
+    ensures { λ _. ⊤ₛ }
+{
     text(b" ");
     if s.len() == 0 {
         text(b"-");
@@ -206,7 +218,9 @@ pub fn hex(s: &[u8]) {
 }
 
 // Ends a line: a space, and a digest in eight hexadecimal digits.
-pub fn end_digest(d: u64) {
+pub fn end_digest(d: u64)
+    ensures { λ _. ⊤ₛ }
+{
     text(b" ");
     io::print_hex(STDOUT_FILENO, d, 8);
     newline();

@@ -12,8 +12,8 @@ use lib.Seq.{getD-set-same, getD-set-other, ext-getD}
 use Rattle.lists.specs.Fill.{tabulate}
 use Rattle.lists.proofs.Tests.{and-no-left, and-no-right, and-tail, and-true, or-none, lt-or-le, same-or-not}
 use Rattle.lists.proofs.Fills.{length-tabulate, getD-tabulate, tabulate-ext, tabulate-const}
-use Rattle.bitset.specs.Set.{member, setOf, inserted, restricted}
-use Rattle.bitset.proofs.Laws.{member-set, set-ext, set-empty, member-insert, restrict-mod, set-of-members}
+use Rattle.bitset.specs.Set.{member, setOf, inserted}
+use Rattle.bitset.proofs.Laws.{member-set, set-ext, set-empty, member-insert, set-members, set-of-members}
 use Rattle.graph.specs.Bits.{missingAt, bitsOf}
 
 module _ (n : ℕ) (adj : ℕ → ℕ → Bool) where
@@ -100,9 +100,8 @@ module _ (n : ℕ) (adj : ℕ → ℕ → Bool) where
 
 -- a byte with one bit more, and as it was
 pub byte-with : (s k x : ℕ) → x ≡ inserted s k → x % 256 ≡ setOf 8 (λ i. member s i || (true && eqb i k))
-unfolding restricted
 byte-with s k x e =
-    sym (restrict-mod x 8)
+    sym (set-members 8 x)
     ∙ set-ext 8 (member x) (λ i. member s i || (true && eqb i k)) (λ i l. ap (λ (y : ℕ). member y i) e ∙ member-insert s k i (omega arith))
 
 pub byte-same : (s k : ℕ) → s < 256 → s ≡ setOf 8 (λ i. member s i || (false && eqb i k))

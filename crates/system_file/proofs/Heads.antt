@@ -16,9 +16,9 @@ use Rattle.lists.proofs.Tests.{true≢false, either, fails, and-left, and-right
 use Rattle.lists.proofs.Parts.{drop-take}
 use Rattle.text.specs.Read.{valueOf, numberIn, isBytes, bytesOf}
 use Rattle.text.specs.declared.lines.Numbers.{Numbers}
-use Rattle.text.specs.Lines.{lineAt, isEnded, nextAt, isNames, rest, field, inRanges, isNumbers, numbersOf}
+use Rattle.text.specs.Lines.{lineAt, isEnded, nextAt, isNames, rest, field, isNumbers, numbersOf}
 use Rattle.text.proofs.Laws.{number-range, number-is, number-in, length-bytes, line-part, ended-yes, next-is, held-ended, held-short, rest-le, rest-end}
-use Rattle.text.proofs.Laws.{NumbersFound, numbers-found, numbers-none, numbers-range}
+use Rattle.text.proofs.Laws.{NumbersFound, numbers-found, numbers-none, numbers-range, numbers-four}
 use Rattle.settings.specs.Refusal.{stateRefusal}
 use Rattle.settings.specs.Valid.{Coded, Numbered, Valid}
 use Rattle.settings.proofs.Laws.{state-0, 0-state}
@@ -46,7 +46,7 @@ pub record Settled (l : List ℕ) : Type 0 where
 
 module _ (l : List ℕ) where
   pub settings-parts : isSettings l ≡ true → Settled l
-  unfolding isSettings isNumbers inRanges settingsIn
+  unfolding isSettings settingsIn
   settings-parts e =
       let n = valueOf (field 0 l) in
       let e1 = and-right (numberIn 4 16 (field 0 l)) _ e in
@@ -62,7 +62,7 @@ module _ (l : List ℕ) where
       let s = number-in 1 16 (field 3 l) (number-is _ _ _ (and-left _ _ e4)) (rs .0) (omega arith) in
       let sender : Numbered n (valueOf (field 3 l)) = record { least = rs .0; most = rs .1 } in
       record {
-        numbers = rw (and-left (numberIn 4 16 (field 0 l)) _ e, t, and-left (numberIn 1 32 (field 2 l)) _ e3, s);
+        numbers = numbers-four ranges l refl ∙ rw (and-left (numberIn 4 16 (field 0 l)) _ e, t, and-left (numberIn 1 32 (field 2 l)) _ e3, s);
         valid = record {
           coded = record { quorum = record { n-least = rn .0; n-most = rn .1; t-least = rt .0; t-most = q }; k-least = rk .0; k-most = omega arith };
           number = record { least = omega arith; most = omega (arith, rn .0) };

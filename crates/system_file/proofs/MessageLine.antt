@@ -11,8 +11,8 @@ use lib.ListN.{length, getD, drop}
 use Rattle.lists.proofs.Tests.{either, fails, and-left, and-right, and-both, and-no-left, and-no-right}
 use Rattle.text.specs.Read.{valueOf, isBytes}
 use Rattle.text.specs.declared.lines.Numbers.{Numbers}
-use Rattle.text.specs.Lines.{lineAt, isEnded, rest, field, inRange, inRanges, isNumbers, numbersOf}
-use Rattle.text.proofs.Laws.{number-range, bytes-digits, ended-yes, rest-le, NumbersFound, numbers-found, numbers-none, numbers-range}
+use Rattle.text.specs.Lines.{lineAt, isEnded, rest, field, inRange, isNumbers, numbersOf}
+use Rattle.text.proofs.Laws.{number-range, bytes-digits, ended-yes, rest-le, NumbersFound, numbers-found, numbers-none, numbers-range, numbers-three}
 use Rattle.settings.specs.Valid.{Coded, Numbered}
 use Rattle.wire.specs.Length.{messageLength}
 use Rattle.wire.proofs.Laws.{length-pos}
@@ -33,8 +33,10 @@ regroup true false c d = refl
 regroup false b c d = refl
 
 message-is : (σ : Settings) (l : List ℕ) → isMessage σ l ≡ (isNumbers (messageRanges σ) l && isText σ l)
-unfolding isMessage isNumbers inRanges
-message-is σ l = let r = inRange (messageRanges σ) l in regroup (r 0) (r 1) (r 2) (isText σ l)
+unfolding isMessage
+message-is σ l =
+    let r = inRange (messageRanges σ) l in
+    regroup (r 0) (r 1) (r 2) (isText σ l) ∙ ap (λ (b : Bool). b && isText σ l) (sym (numbers-three (messageRanges σ) l refl))
 
 -- ---- the cases of the code
 module _ (σ : Settings) (l : List ℕ) (a : ℕ) where

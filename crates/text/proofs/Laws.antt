@@ -8,7 +8,8 @@
 --     held-ended, held-short, held-next    the same of a line that the code holds
 --     Named, names-said, names-none        a line of names: what the place behind it tells
 --     rest-le, rest-end                    what follows some commas is the end of the line
---     Found, numbers-found, numbers-none   the numbers in the first fields: what the answer tells; numbers-range: each is in its range
+--     NumbersFound, numbers-found          the numbers in the first fields: what the answer tells; numbers-none; numbers-range: each is in its range;
+--                                          numbers-three, numbers-four: the test, field by field
 --   Numbers
 --     number-yes, number-no        the answer by the test; number-is, number-range, number-in: the test's parts
 --     answer-value, answer-wrong   the test by the answer
@@ -24,7 +25,7 @@
 pub use Rattle.text.proofs.Fields.{before-at, before-past, before-le, before-take, before-all, before-text, behind-text, behind-drop}
 pub use Rattle.text.proofs.LineParts.{line-le, line-part, yes-ended, no-ended, ended-yes, next-is, held-ended, held-short, held-next, Named}
 pub use Rattle.text.proofs.LineParts.{names-said, names-none}
-pub use Rattle.text.proofs.LineNumbers.{rest-le, rest-end, NumbersFound, numbers-found, numbers-none, numbers-range}
+pub use Rattle.text.proofs.LineNumbers.{rest-le, rest-end, NumbersFound, numbers-found, numbers-none, numbers-range, numbers-three, numbers-four}
 pub use Rattle.text.proofs.Numbers.{digit-lt, value-grows, every-append, number-yes, number-no, number-is, number-range, number-in, answer-value}
 pub use Rattle.text.proofs.Numbers.{answer-wrong}
 pub use Rattle.text.proofs.Bytes.{hex-lt, bytes-half, length-bytesOf, bytes-digits, length-bytes, getD-bytes, bytes-lt, bytes-odd, bytes-other}

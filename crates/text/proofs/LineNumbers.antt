@@ -1,7 +1,7 @@
 -- Laws of the numbers in the first fields of a line. The main ones: `rest-end` (what follows some commas is the end of the line), `numbers-found` and
 -- `numbers-none` (what an answer tells), `numbers-range` (each field is in its range), and the turns of the loop that reads the fields.
 use mathlib.Core.Path.{_≡_, refl, sym, ap, _∙_}
-use mathlib.Core.Bool.{true, false}
+use mathlib.Core.Bool.{true, false, _&&_}
 use mathlib.Core.List.{List}
 use mathlib.Core.Logic.{⊎-elim}
 use Prim.Native.Nat.{ℕ, zero, suc, _+_, _-_, _*_, _/_, _≤_, _<_}
@@ -74,6 +74,15 @@ module _ (rs l : List ℕ) where
   pub numbers-range : isNumbers rs l ≡ true → (i : ℕ) → i < length rs / 2 → inRange rs l i ≡ true
   unfolding isNumbers
   numbers-range y i h = passes _ (λ z. true≢false (sym (and-right (leb (length rs / 2) 4) _ y) ∙ no-ranges i (length rs / 2) h z))
+
+  -- three ranges, and four
+  pub numbers-three : length rs / 2 ≡ 3 → isNumbers rs l ≡ ((inRange rs l 0 && inRange rs l 1) && inRange rs l 2)
+  unfolding isNumbers inRanges
+  numbers-three e = ap (λ (n : ℕ). leb n 4 && inRanges rs l n) e
+
+  pub numbers-four : length rs / 2 ≡ 4 → isNumbers rs l ≡ (((inRange rs l 0 && inRange rs l 1) && inRange rs l 2) && inRange rs l 3)
+  unfolding isNumbers inRanges
+  numbers-four e = ap (λ (n : ℕ). leb n 4 && inRanges rs l n) e
 
   -- too many ranges
   pub numbers-many : 4 < length rs / 2 → noNumbers ≡ numbersOf rs l

@@ -16,7 +16,7 @@ use lib.Seq.{length-take-le, take-all, take-append-le, drop-append-le, take-at, 
 use Rattle.lists.proofs.Tests.{either, and-left, and-right, and-both, and-no-left, and-no-right, cond-yes, cond-no, lt-or-le}
 use Rattle.lists.specs.Join.{part}
 use Rattle.lists.proofs.Parts.{all-take, all-drop, all-zeros, next-offset, drop-take}
-use Rattle.lists.proofs.Joins.{joined-none, joined-more, joined-ext, length-joined, part-joined, all-joined, joined-zeros}
+use Rattle.lists.proofs.Joins.{part-take, getD-part, joined-none, joined-more, joined-ext, length-joined, part-joined, all-joined, joined-zeros}
 use Rattle.wire.specs.declared.slot.Layout.{Layout}
 use Rattle.wire.specs.Slot.{header, width, slotOf, holds, isPresent, messageOf, offsetOf, Sent, silence, bytes, written, slots, toAll, putSlot, relayed}
 use Rattle.wire.specs.Slot.{copied}
@@ -72,19 +72,23 @@ module _ (box : List ℕ) (layout : Layout) (j : ℕ) where
       cond-yes (holds box layout j && isPresent (slotOf box layout j)) (drop header (slotOf box layout j)) []
       (and-both (holds box layout j) (isPresent (slotOf box layout j)) h e)
 
+  -- the slot as a part that is lent
+  slot-take : slotOf box layout j ≡ take (width layout) (drop ((j - 1) * width layout) box)
+  unfolding slotOf
+  slot-take = part-take (width layout) box (j - 1)
+
   -- a slot that is held is as wide as a slot
   pub length-held : holds box layout j ≡ true → length (slotOf box layout j) ≡ width layout
-  unfolding slotOf part
   length-held h =
       let f = holds-yes box layout j h in
-      length-take-le (width layout) (drop ((j - 1) * width layout) box)
+      ap length slot-take
+      ∙ length-take-le (width layout) (drop ((j - 1) * width layout) box)
       (subst (λ (m : ℕ). width layout ≤ m) (sym (length-drop ((j - 1) * width layout) box)) (omega (arith, slot-end j (width layout) (f .0), f .1)))
 
   first-byte : getD (slotOf box layout j) 0 0 ≡ getD box ((j - 1) * width layout) 0
-  unfolding slotOf part
+  unfolding slotOf
   first-byte =
-      getD-take (width layout) (drop ((j - 1) * width layout) box) 0 0 (width-pos layout)
-      ∙ getD-drop ((j - 1) * width layout) box 0 0 ∙ ap (λ (x : ℕ). getD box x 0) (add-zero ((j - 1) * width layout))
+      getD-part (width layout) box (j - 1) 0 (width-pos layout) ∙ ap (λ (x : ℕ). getD box x 0) (add-zero ((j - 1) * width layout))
 
   pub yes-present : getD box ((j - 1) * width layout) 0 ≡ 1 → isPresent (slotOf box layout j) ≡ true
   unfolding isPresent
@@ -121,7 +125,7 @@ pub record Placed (box : List ℕ) (layout : Layout) (j : ℕ) : Type 0 where
   pub here : messageOf box layout j ≡ take (layout .length) (drop (offsetOf box layout j) box)
 
 pub placed-or-none : (box : List ℕ) (layout : Layout) (j : ℕ) → Placed box layout j ⊎ ((offsetOf box layout j ≡ 0) × (messageOf box layout j ≡ []))
-unfolding slotOf part width
+unfolding width
 placed-or-none box layout j =
     ⊎-elim
     (λ (h : holds box layout j ≡ true).
@@ -135,7 +139,7 @@ placed-or-none box layout j =
       some = omega (arith, e);
       within = omega (arith, e, slot-end j (width layout) (f .0), f .1);
       here =
-          message-held box layout j h p
+          message-held box layout j h p ∙ ap (drop header) (slot-take box layout j)
           ∙ drop-take header (width layout) (drop ((j - 1) * width layout) box)
           ∙ ap (λ (x : ℕ). take x (drop header (drop ((j - 1) * width layout) box))) inner
           ∙ ap (take (layout .length)) (drop-drop header ((j - 1) * width layout) box ∙ ap (λ (i : ℕ). drop i box) (sym e));
@@ -186,13 +190,14 @@ length-message box layout j n =
 -- what holds of 0 and of each byte of the box holds of each byte of a message
 pub message-all : (P : ℕ → Type 0) → P 0 → (box : List ℕ) (layout : Layout) (j : ℕ) → ((i : ℕ) → P (getD box i 0)) → (i : ℕ)
     → P (getD (messageOf box layout j) i 0)
-unfolding messageOf slotOf part
+unfolding messageOf
 message-all P z box layout j h i = go (holds box layout j && isPresent (slotOf box layout j))
   where
     go : (b : Bool) → P (getD (cond b (drop header (slotOf box layout j)) []) i 0)
     go true =
         all-drop P z header (slotOf box layout j)
-        (all-take P z (width layout) (drop ((j - 1) * width layout) box) (all-drop P z ((j - 1) * width layout) box h)) i
+        (subst (λ (l : List ℕ). (x : ℕ) → P (getD l x 0)) (sym (slot-take box layout j))
+        (all-take P z (width layout) (drop ((j - 1) * width layout) box) (all-drop P z ((j - 1) * width layout) box h))) i
     go false = z
 
 -- ---- slots written in full
@@ -423,7 +428,6 @@ pub relay-part : (box src v : List ℕ) (layout : Layout) (j i : ℕ) → 1 ≤ 
     (take ((j - 1) * width layout + width layout - (j - 1) * width layout) (drop ((j - 1) * width layout) box))
     → take ((j - 1) * width layout) box ++ (v ++ drop ((j - 1) * width layout + width layout - (j - 1) * width layout) (drop ((j - 1) * width layout) box))
     ≡ relayed box layout j src i
-unfolding slotOf part
 relay-part box src v layout j i some-j held-j some-i held-i is-v =
     let w = width layout in
     let a = (j - 1) * w in
@@ -435,8 +439,9 @@ relay-part box src v layout j i some-j held-j some-i held-i is-v =
     let u : a + (a + w - a) ≡ j * w = omega (arith, slot-end j w some-j) in
     let l : length (take w (drop b src)) ≡ length (take w (drop a box)) =
     length-take-le w (drop b src) (omega (arith, length-drop b src)) ∙ sym (length-take-le w (drop a box) (omega (arith, length-drop a box))) in
-    let e : v ≡ take w (drop b src) =
-    is-v ∙ ap₂ (λ (x y : ℕ). copied (take x (drop b src)) (take y (drop a box))) from to ∙ copied-all (take w (drop b src)) (take w (drop a box)) l in
+    let e : v ≡ slotOf src layout i =
+    is-v ∙ ap₂ (λ (x y : ℕ). copied (take x (drop b src)) (take y (drop a box))) from to ∙ copied-all (take w (drop b src)) (take w (drop a box)) l
+    ∙ sym (slot-take src layout i) in
     ap₂ (λ (x y : List ℕ). take a box ++ (x ++ y)) e (drop-drop (a + w - a) a box ∙ ap (λ (x : ℕ). drop x box) u)
     ∙ sym (relay-held box layout j src i some-j (omega (arith, room, slot-end j w some-j)) some-i (omega (arith, held, slot-end i w some-i)))
 
