@@ -19,7 +19,7 @@
  *   4  a controller's own number, or the number of a piece, is not 1 to n
  *   5  the sender is not 1 to n
  *   6  a lent length is not the one stated
- * that it tries, as said below; step has two more, 7 and 8. Refused, it changes no byte, but for the state in potekawhi_start.
+ * that it tries, as said below; step has two more, 7 and 8. Refused, it changes no byte.
  *
  * Boxes. An inbox or outbox has n slots, slot j for controller j. A slot is one byte, 01 if a message is there, and then the message, whose
  * length is potekawhi_message_length of the round; a slot whose first byte is not 01 is absent, its other bytes are not read. The slot that
@@ -57,11 +57,12 @@ extern "C" {
 /* What potekawhi_decode answers where no block is close enough to the slots: the number of no refusal. */
 #define POTEKAWHI_BEYOND 255
 
-/* Outcomes: what potekawhi_outcome and potekawhi_final_block answer. */
+/* Outcomes: what potekawhi_outcome and potekawhi_final_block answer. With at most t faulty controllers all correct ones have the same one, agreed
+ * or none, and none means that the sender is faulty. With more than t nothing is promised: then none does not accuse the sender. */
 #define POTEKAWHI_OUTCOME_OPEN 0   /* the run is not at its end */
 #define POTEKAWHI_OUTCOME_AGREED 1 /* the final block is the one agreed on */
-#define POTEKAWHI_OUTCOME_NONE 2   /* all agreed that the sender is faulty; the final block is zeros */
-#define POTEKAWHI_OUTCOME_BEYOND 3 /* more than t controllers are faulty; the final block is zeros */
+#define POTEKAWHI_OUTCOME_NONE 2   /* no core was found; the final block is zeros */
+#define POTEKAWHI_OUTCOME_BEYOND 3 /* no block is close enough to the pieces: more than t controllers are faulty; the final block is zeros */
 
 /* Begins the run of one controller. `block` is the sender's block, k * (t + 1) bytes; every other controller lends bytes of that length,
  * whatever they are. It is neither read nor changed here. `state` is POTEKAWHI_STATE_LENGTH bytes, whatever they are; the caller keeps it

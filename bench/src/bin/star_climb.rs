@@ -2,7 +2,7 @@
 //! starts: a model of the search of crates/matching counts its steps, and a change of the graph that does not lower the count is kept.
 //! Prints each graph that beats those before it, with the round, the count and the size of the matching: row i has the bit j where i
 //! and j are not neighbours. The one argument, if there is one, is the number of rounds.
-use bench::reference::star::{apart, matching};
+use reference::star::{apart, matching};
 use std::cmp::Reverse;
 
 type Graph = [u16; 16];

@@ -115,7 +115,8 @@ module _ (S : System) (H : Supposed S) (i : ℕ) (f : Correct S i) where
       let a = r .before-at in
       r .ready .block-length ∙ (λ x. blockLength (a .settings-is x .k) (a .settings-is x .t))
 
-  -- the call that is performed, by its kind: what D says, where a call of that kind is D
+  -- ---- the call that is performed
+  -- by its kind: what D says, where a call of that kind is D
   pub performs-kind : (c : ℕ) → 1 ≤ c → c ≤ last S → (kind : Call) → callKind (S .settings .t) c ≡ kind
       → (D : State → List ℕ → List ℕ → List ℕ → Carried) → ((s : State) (b x o : List ℕ) → callOf kind s b x o ≡ D s b x o)
       → performs (call S i c .before) (call S i c .lent)
@@ -178,6 +179,7 @@ module _ (S : System) (H : Supposed S) (i : ℕ) (f : Correct S i) where
       let e : c - 3 + 3 ≡ c = omega arith in
       subst (λ (x : ℕ). call S i x .before .block ≡ call S i 2 .after .block) e (block-add (c - 3) (omega arith))
 
+-- ---- what arrives
 -- what i sent to j in round c is what j's next call reads of it
 pub delivered : (S : System) (H : Supposed S) (i j c : ℕ) → Correct S i → Correct S j → 1 ≤ c → c < last S → (g : ℕ → Sent)
     → ((m : ℕ) → Sized (layoutOf S c) (g m)) → call S i c .sends ≡ slots (layoutOf S c) g (S .settings .n)

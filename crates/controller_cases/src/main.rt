@@ -8,7 +8,7 @@
 // A line `call c: number next outcome block outbox`: a step on a state whose next call is c, the number answered, the next call and outcome
 // of the state answered, and all bytes of block and outbox after it.
 // The expected output comes from the independent reference:
-//     cd bench && cargo run --release --bin controller_vectors > ../crates/controller_cases/stdout
+//     cargo run --release --bin controller_vectors > crates/controller_cases/stdout
 use protocol::Started;
 use protocol::State;
 use protocol::Stepped;

@@ -101,6 +101,7 @@ module _ (bits : List ℕ) where
   unfolding bit
   digit-is p x e = digit-member x (p % 8) ∙ ap (λ (y : ℕ). ind (member y (p % 8))) e
 
+-- ---- below n
 -- only the bits of pairs below n count
 pub adjacent-same : (n : ℕ) (a b : List ℕ) → n ≤ 16 → ((i j : ℕ) → i < j → j < n → bit a (place i j) ≡ bit b (place i j))
     → (i j : ℕ) → i < n → j < n → adjacent a i j ≡ adjacent b i j

@@ -35,17 +35,16 @@ first-none n p none =
     (λ (m : n ≤ first n p). omega arith)
     (lt-or-le (first n p) n)
 
--- ---- votes
--- the controller of index i is a member that sent m
+-- ---- a vote: the controller of index i is a member that sent m
 abbrev pub vote : ℕ → List ℕ → Layout → List ℕ → ℕ → Bool
 vote core inbox layout m i = member core i && same (messageOf inbox layout (i + 1)) m
 
--- ---- what is sent
--- a piece that is there goes to all
+-- ---- a piece that is there goes to all
 pub sent-some : (out : Layout) (n : ℕ) (m o : List ℕ) → (length m ≡ 0 → ⊥) → toAll out n m o ≡ sentPiece out n m o
 unfolding sentPiece
 sent-some out n m o h = sym (cond-no (eqb (length m) 0) (replicate (length o) 0) (toAll out n m o) (ne-eqb (length m) 0 h))
 
+-- ---- the choice, and what is sent by it
 module _ (n t core : ℕ) (inbox : List ℕ) (layout : Layout) where
   -- the three tests of a choice
   module _ (i : ℕ) where

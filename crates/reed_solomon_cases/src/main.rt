@@ -3,7 +3,7 @@
 // and a digest of all answers and blocks: up to t + 1 pieces are false, at n 4 and n 7 every set of them, else scattered ones. Then come calls
 // that are refused or just taken, with a digest of all lent bytes after each, and examples c, d and e of document 01. The expected output
 // comes from the independent reference, which decodes by trying sets of t + 1 slots:
-//     cd bench && cargo run --release --bin code_vectors > ../crates/reed_solomon_cases/stdout
+//     cargo run --release --bin code_vectors > crates/reed_solomon_cases/stdout
 use reed_solomon::Decoded;
 ghost use mathlib.Core.Path.{_≡_};
 ghost use Prim.Native.Nat.{_<_, _≤_};

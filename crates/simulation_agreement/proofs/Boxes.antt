@@ -58,6 +58,7 @@ module _ (F : Scenario) (p : Proper F) where
       subst Bytes (sym (inbox-later F c now i))
       (all-joined Byte (λ x. slotTo F (suc c) now i (x + 1)) (F .settings .n) (lit< tt) (λ x l. slot-to-bytes (suc c) now h i (x + 1)))
 
+  -- ---- what a run lends and holds
   -- an outbox is lent cleared
   pub lent-bytes : (c : ℕ) → IsBytes (outboxLength (F .settings .n) (F .settings .t) (F .settings .k) c) (outboxOf F c)
   lent-bytes c =

@@ -308,7 +308,8 @@ module _ (rows : List ℕ) (n t : ℕ) where
       unfolding Shared
       c-word c e hc he gc ge x l = let s = shared (has-found e he) in s .1 c hc gc x l ∙ sym (s .3 e he ge x l)
 
--- the four sets of a star that is not found
+-- ---- not found
+-- the four sets are empty
 pub no-sets : (r : ℕ) → (noSets r .c ≡ 0) × (noSets r .d ≡ 0) × (noSets r .f ≡ 0) × (noSets r .e ≡ 0)
 unfolding noSets
 no-sets r = (refl, refl, refl, refl)

@@ -2,7 +2,7 @@
 // for each: n, t and the kind, then the number of the refusal and the sets C, D, F and E. Then the same of 120 bits at random, at nine
 // chances, those of numbers past n too, and the missing pairs of one kind of graph for each n, 15 bytes. The expected output comes from
 // the independent reference, which searches exhaustively:
-//     cd bench && cargo run --release --bin star_vectors > ../crates/star_cases/stdout
+//     cargo run --release --bin star_vectors > crates/star_cases/stdout
 use star::Sets;
 ghost use Prim.Native.Nat.{_≤_, _<_};
 

@@ -2,7 +2,7 @@
 // kings, two-faced and silent controllers, starting bits that are split. For each vote: a line with n, t, the choice of faulty controllers
 // and the seed; a line for each round, from 3 on, with a digest of all matrices that the correct controllers then have; a line for each
 // correct controller with its number and the digest of its last matrix. The expected output comes from the independent reference:
-//     cd bench && cargo run --release --bin vote_vectors > ../crates/vote_cases/stdout
+//     cargo run --release --bin vote_vectors > crates/vote_cases/stdout
 use wire::Layout;
 use wire::Round;
 ghost use mathlib.Core.Path.{_≡_};

@@ -307,6 +307,7 @@ module _ (box : List ℕ) (layout : Layout) (j : ℕ) (src : List ℕ) (i : ℕ)
       cond-yes (holds box layout j && holds src layout i) _ box
       (and-both (holds box layout j) (holds src layout i) (yes-holds box layout j a b) (yes-holds src layout i c d))
 
+-- ---- an outbox written slot by slot
 -- one message to all, in an outbox that is as long as its slots
 pub to-all : (layout : Layout) (n : ℕ) (m o : List ℕ) → length m ≡ layout .length → length o ≡ n * width layout
     → toAll layout n m o ≡ slots layout (λ _. bytes m) n

@@ -1,5 +1,6 @@
 // Prints rounds, calls and lengths for t 1 to 5 and for settings that are refused, and what slots read and write.
-// `stdout` was made by the reference: cargo run --release --bin wire_vectors (in bench/).
+// The expected output comes from the independent reference:
+//     cargo run --release --bin wire_vectors > crates/wire_cases/stdout
 use wire::Call;
 use wire::Round;
 

@@ -1,0 +1,173 @@
+//! Encoding and decoding: decoding beside a peer that tries sets of slots, and both as the block grows. n is 16.
+use crate::peer;
+use crate::random::Random;
+use crate::timing::{in_turns, print_table, ratio, Side, BEFORE, REPETITIONS};
+use potekawhi::raw;
+use reference::code;
+use std::hint::black_box;
+
+pub const N: usize = 16;
+
+/// The library's functions as `raw` has them, or those of another version.
+type Encode = fn(usize, usize, usize, usize, &[u8], &mut [u8]) -> u8;
+type Decode = fn(usize, usize, usize, &[u8], &mut [u8]) -> u8;
+
+/// A block, its pieces, and slots of them of which some are false; and what a call writes.
+pub struct Case {
+    t: usize,
+    k: usize,
+    block: Vec<u8>,
+    pieces: Vec<u8>,
+    slots: Vec<u8>,
+    decoded: Vec<u8>,
+    coded: Vec<u8>,
+}
+
+impl Case {
+    pub const LIBRARY: Side<Case> = (|case| case.decode_by(raw::decode), Case::test_decoded);
+    const PEER: Side<Case> = (Case::decode_by_peer, Case::test_decoded);
+    const ENCODE: Side<Case> = (|case| case.encode_by(raw::encode), Case::test_coded);
+
+    /// A block drawn at random, whose pieces at the indices `wrong` are false in every byte. The reference codes it.
+    pub fn new(random: &mut Random, t: usize, k: usize, wrong: &[usize]) -> Case {
+        let block = random.bytes(k * (t + 1));
+        let mut pieces = vec![0; N * k];
+        let mut slots = Vec::new();
+        for (i, piece) in pieces.chunks_exact_mut(k).enumerate() {
+            let number = code::encode(N as u64, t as u64, k as u64, i as u64 + 1, &block, piece);
+            assert_eq!(number, 0);
+            let mut sent = piece.to_vec();
+            if wrong.contains(&i) {
+                sent.iter_mut()
+                    .for_each(|byte| *byte ^= 1 + random.below(255) as u8);
+            }
+            let differing = piece.iter().zip(&sent).filter(|(a, b)| a != b).count();
+            assert_eq!(differing, if wrong.contains(&i) { k } else { 0 });
+            slots.push(1);
+            slots.extend(sent);
+        }
+        Case {
+            t,
+            k,
+            decoded: vec![BEFORE; block.len()],
+            coded: vec![BEFORE; pieces.len()],
+            block,
+            pieces,
+            slots,
+        }
+    }
+
+    pub fn decode_by(&mut self, decode: Decode) {
+        self.decoded.fill(BEFORE);
+        let slots = black_box(&self.slots);
+        let number = decode(N, self.t, self.k, slots, black_box(&mut self.decoded));
+        assert_eq!(number, 0);
+    }
+
+    fn decode_by_peer(&mut self) {
+        self.decoded.fill(BEFORE);
+        let slots = black_box(&self.slots);
+        let found = peer::decode(N, self.t, self.k, slots, black_box(&mut self.decoded));
+        assert!(found);
+    }
+
+    pub fn test_decoded(&self) {
+        assert_eq!(self.decoded, self.block);
+    }
+
+    pub fn encode_by(&mut self, encode: Encode) {
+        self.coded.fill(BEFORE);
+        let block = black_box(&self.block);
+        let pieces = black_box(&mut self.coded).chunks_exact_mut(self.k);
+        for (piece, number) in pieces.zip(1..) {
+            assert_eq!(encode(N, self.t, self.k, number, block, piece), 0);
+        }
+    }
+
+    pub fn test_coded(&self) {
+        assert_eq!(self.coded, self.pieces);
+    }
+}
+
+/// Library and peer answer alike, also where pieces are absent, false in some stripes only, or too many for an answer.
+fn compare_answers(random: &mut Random) {
+    let mut beyond = 0;
+    for (t, wrong, absent) in (1..=5).flat_map(|t| {
+        (0..=t + 1).flat_map(move |wrong| (0..=2).map(move |absent| (t, wrong, absent)))
+    }) {
+        let mut case = Case::new(random, t, 8, &[]);
+        for i in random.choice(N, wrong) {
+            for s in 0..case.k {
+                case.slots[i * (1 + case.k) + 1 + s] ^= random.below(3) as u8;
+            }
+        }
+        for i in random.choice(N, absent) {
+            case.slots[i * (1 + case.k)] = 0;
+        }
+        let mut by_peer = vec![!BEFORE; case.block.len()];
+        let number = raw::decode(N, t, case.k, &case.slots, &mut case.decoded);
+        let found = peer::decode(N, t, case.k, &case.slots, &mut by_peer);
+        assert_eq!(number, if found { 0 } else { raw::BEYOND });
+        assert_eq!(case.decoded, by_peer);
+        beyond += usize::from(!found);
+    }
+    assert!(beyond > 0, "no case without an answer");
+}
+
+/// Table 1: decoding beside the peer.
+pub fn against_peer() {
+    let k = 128;
+    let mut random = Random::new(1);
+    compare_answers(&mut random);
+    let mut rows = Vec::new();
+    for t in 1..=5 {
+        for place in ["none", "1 to t", "at random"] {
+            let mut case = |_| {
+                let wrong = match place {
+                    "none" => Vec::new(),
+                    "1 to t" => (0..t).collect(),
+                    _ => random.choice(N, t),
+                };
+                Case::new(&mut random, t, k, &wrong)
+            };
+            let mut cases: Vec<Case> = (0..REPETITIONS).map(&mut case).collect();
+            let [library, peer] = in_turns(&mut cases, [Case::LIBRARY, Case::PEER]);
+            let mut row = vec![t.to_string(), place.to_string()];
+            row.extend(library.cells(1e3));
+            row.extend(peer.cells(1e3));
+            row.push(ratio(&peer, &library));
+            rows.push(row);
+        }
+    }
+    let heading =
+        "1. Decoding a block, n 16, k 128, beside a peer that tries sets of t + 1 slots in dictionary order. Microseconds.
+The false pieces are false in every byte. Each repetition has another block and, at random, other false pieces.
+The block is filled with a5 before each call, on both sides, within the time.";
+    let names = "t | false pieces | library | min | max | peer | min | max | peer / library";
+    print_table(heading, names, &rows);
+}
+
+/// Table 2: encoding and decoding as k grows.
+pub fn by_length() {
+    let t = 5;
+    let mut random = Random::new(2);
+    let mut rows = Vec::new();
+    for k in (0..=7).map(|power| 1 << power) {
+        let mut none = [Case::new(&mut random, t, k, &[])];
+        let mut wrong = [Case::new(&mut random, t, k, &[0, 1, 2, 3, 4])];
+        let [encode, decode] = in_turns(&mut none, [Case::ENCODE, Case::LIBRARY]);
+        let [decode_wrong] = in_turns(&mut wrong, [Case::LIBRARY]);
+        let length = k * (t + 1);
+        let mut row = vec![k.to_string(), length.to_string()];
+        for times in [encode, decode, decode_wrong] {
+            row.extend(times.cells(length as f64));
+        }
+        rows.push(row);
+    }
+    let heading =
+        "2. Encoding all 16 pieces, and decoding, as the block grows, n 16, t 5. Nanoseconds for a byte of the block.
+Pieces and block are filled with a5 before each call, within the time.";
+    let names =
+        "k | bytes | encode | min | max | decode, none false | min | max | decode, 1 to 5 false | min | max";
+    print_table(heading, names, &rows);
+}

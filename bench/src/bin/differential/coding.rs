@@ -1,0 +1,124 @@
+//! encode and decode: right and wrong settings and lengths, false pieces up to t + 2, absent slots, random slots.
+use crate::compare::{wrong_length, Lent, Same, Tally};
+use crate::inputs::{self, EDGES};
+use crate::random::Random;
+use potekawhi::raw;
+use reference::code::{self, Decoded};
+use reference::controller::State;
+
+#[derive(Default)]
+pub struct Counts {
+    pub pieces: u64,
+    pub encode_refused: u64,
+    pub blocks: u64,
+    pub beyonds: u64,
+    pub decode_refused: u64,
+}
+
+pub fn encode(tally: &mut Tally, random: &mut Random, counts: &mut Counts) -> Same<()> {
+    let (n, t, k) = inputs::settings(random);
+    let number = match random.below(10) {
+        0 => random.pick(&EDGES),
+        1 => n.wrapping_add(1),
+        _ => random.within(1, n.clamp(1, 16)),
+    };
+    let mut lengths = [k.min(130) * (t.min(6) + 1), k.min(130)];
+    if random.one_in(8) {
+        let which = random.below(2);
+        lengths[which] = wrong_length(random, lengths[which]);
+    }
+    let block = random.bytes(lengths[0]);
+    let mut piece = random.bytes(lengths[1]);
+    let lent_block = Lent::new(random, &block);
+    let mut lent_piece = Lent::new(random, &piece);
+    let answer = raw::encode(n, t, k, number, lent_block.bytes(), lent_piece.bytes_mut());
+    let (n, t, k, number) = (n as u64, t as u64, k as u64, number as u64);
+    let expected = code::encode(n, t, k, number, &block, &mut piece);
+    let mut compare = || {
+        tally.same("encode's number", answer, expected)?;
+        tally.same_lent("encode's piece", &lent_piece, &piece)?;
+        tally.same_lent("encode's block", &lent_block, &block)
+    };
+    compare().map_err(|text| format!("n {n}, t {t}, k {k}, number {number}: {text}"))?;
+    match answer {
+        0 => counts.pieces += 1,
+        _ => counts.encode_refused += 1,
+    }
+    Ok(())
+}
+
+pub fn decode(tally: &mut Tally, random: &mut Random, counts: &mut Counts) -> Same<()> {
+    let (n, t, k) = random.settings();
+    let coded = State {
+        n,
+        t,
+        k,
+        ..State::default()
+    };
+    let message = random.bytes(k * (t + 1));
+    let mut slots = Vec::new();
+    let pieces = match random.below(16) {
+        0 => (0..n).map(|_| random.bytes(k)).collect(),
+        1 => mixed(random, &coded, &message),
+        _ => {
+            let errors = random.within(0, t + 2);
+            inputs::false_pieces(random, &coded, &message, errors)
+        }
+    };
+    let absent = random.pick(&[0, 0, 0, 1, 2, 8]);
+    for piece in pieces {
+        slots.extend(inputs::slot(random, &piece, absent));
+    }
+    let mut block = random.bytes(k * (t + 1));
+    let (mut n, mut t, mut k) = (n, t, k);
+    if random.one_in(12) {
+        let edge = random.pick(&EDGES);
+        match random.below(3) {
+            0 => n = edge,
+            1 => t = edge,
+            _ => k = edge,
+        }
+    }
+    if random.one_in(12) {
+        if random.one_in(2) {
+            slots.resize(wrong_length(random, slots.len()), 1);
+        } else {
+            block.resize(wrong_length(random, block.len()), 1);
+        }
+    }
+
+    let lent_slots = Lent::new(random, &slots);
+    let mut lent_block = Lent::new(random, &block);
+    let answer = raw::decode(n, t, k, lent_slots.bytes(), lent_block.bytes_mut());
+    let expected = match code::decode(n as u64, t as u64, k as u64, &slots, &mut block) {
+        Decoded::Block => 0,
+        Decoded::Beyond => 255,
+        Decoded::Refused(number) => number,
+    };
+    let mut compare = || {
+        tally.same("decode's number", answer, expected)?;
+        tally.same_lent("decode's block", &lent_block, &block)?;
+        tally.same_lent("decode's slots", &lent_slots, &slots)
+    };
+    compare().map_err(|text| format!("n {n}, t {t}, k {k}: {text}"))?;
+    match answer {
+        0 => counts.blocks += 1,
+        255 => counts.beyonds += 1,
+        _ => counts.decode_refused += 1,
+    }
+    Ok(())
+}
+
+/// Some pieces of one block and the others of a block that shares pieces with it.
+fn mixed(random: &mut Random, state: &State, block: &[u8]) -> Vec<Vec<u8>> {
+    let n = state.n;
+    let other = inputs::sharing_block(random, n, state.t, block);
+    let size = random.within(0, n);
+    let first = random.subset(n, size);
+    (0..n)
+        .map(|i| {
+            let of = if first >> i & 1 == 1 { block } else { &other };
+            inputs::piece(state, i + 1, of)
+        })
+        .collect()
+}

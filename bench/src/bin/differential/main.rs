@@ -1,0 +1,176 @@
+//! Differential tests of the proved library against the reference, which share no code. Arguments: a seed, and a factor, which may be a
+//! fraction, by which the numbers of cases are multiplied. It prints a line for each kind of test and a last line with the number of
+//! comparisons and of differences; the exit code is 1 if there is a difference.
+mod coding;
+mod compare;
+mod damaged;
+mod faulty;
+mod inputs;
+mod lengths;
+mod messages;
+mod random;
+mod stars;
+mod starts;
+mod state;
+mod system;
+mod systems;
+
+use compare::{Same, Tally};
+use random::Random;
+use std::process::ExitCode;
+use std::time::Instant;
+
+/// The numbers of cases at factor 1.
+const SYSTEMS: u64 = 12_000;
+const DAMAGED: u64 = 200_000;
+const STARTS: u64 = starts::COMBINATIONS;
+const ENCODES: u64 = 40_000;
+const DECODES: u64 = 30_000;
+const STARS: u64 = 5_250;
+const MESSAGES: u64 = 40_000;
+
+struct Run {
+    seed: u64,
+    factor: f64,
+    tally: Tally,
+    differences: u64,
+    kinds: u64,
+    since: Instant,
+}
+
+impl Run {
+    /// The cases of a kind. A case ends at its first difference; the first one of the kind is printed.
+    fn cases(
+        &mut self,
+        kind: &str,
+        count: u64,
+        mut case: impl FnMut(&mut Tally, &mut Random, u64) -> Same<()>,
+    ) {
+        self.kinds += 1;
+        let mut differences = 0;
+        for number in 1..=(count as f64 * self.factor) as u64 {
+            let mut random = Random::new(self.seed, self.kinds, number);
+            if let Err(text) = case(&mut self.tally, &mut random, number) {
+                if differences == 0 {
+                    println!("{kind}: seed {}, case {number}: {text}", self.seed);
+                }
+                differences += 1;
+            }
+        }
+        self.differences += differences;
+    }
+
+    fn line(&mut self, text: String) {
+        println!("{text} ({:.1} s)", self.since.elapsed().as_secs_f64());
+        self.since = Instant::now();
+    }
+}
+
+fn main() -> ExitCode {
+    let arguments: Vec<String> = std::env::args().skip(1).collect();
+    let seed = arguments.first().map_or(Some(1), |text| text.parse().ok());
+    let factor = arguments.get(1).map_or(Some(1.0), |text| text.parse().ok());
+    let (Some(seed), Some(factor), ..=2) = (seed, factor, arguments.len()) else {
+        eprintln!("usage: differential [SEED [FACTOR]]");
+        return ExitCode::from(2);
+    };
+    println!("seed {seed}, factor {factor}");
+    let mut run = Run {
+        seed,
+        factor,
+        tally: Tally::default(),
+        differences: 0,
+        kinds: 0,
+        since: Instant::now(),
+    };
+
+    let mut systems = systems::Counts::default();
+    run.cases("systems", SYSTEMS, |tally, random, _| {
+        systems::case(tally, random, &mut systems)
+    });
+    run.line(format!(
+        "systems: {}, of them {} with at most t faulty controllers and {} of these with a correct sender; runs of correct controllers: {}, \
+         agreed {}, none {}, beyond {}; calls {}, outside a core {}; refused steps {}",
+        systems.systems,
+        systems.within_t,
+        systems.correct_sender,
+        systems.runs,
+        systems.agreed,
+        systems.none,
+        systems.beyond,
+        systems.calls,
+        systems.outside,
+        systems.refused
+    ));
+
+    let mut damaged = damaged::Counts::default();
+    run.cases("damaged states", DAMAGED, |tally, random, _| {
+        damaged::case(tally, random, &systems.snapshots, &mut damaged)
+    });
+    run.line(format!(
+        "damaged states: {}; steps carried out {}, by kind of call {:?}; refused 6: {}, 7: {}, 8: {}",
+        damaged.states,
+        damaged.numbers[0],
+        damaged.calls,
+        damaged.numbers[6],
+        damaged.numbers[7],
+        damaged.numbers[8]
+    ));
+
+    let mut starts = starts::Counts::default();
+    run.cases("starts", STARTS, |tally, random, number| {
+        starts::case(tally, random, number, &mut starts)
+    });
+    run.line(format!(
+        "starts: carried out {}, refused 1 to 6: {:?}",
+        starts.numbers[0],
+        &starts.numbers[1..]
+    ));
+
+    let mut coding = coding::Counts::default();
+    run.cases("encode", ENCODES, |tally, random, _| {
+        coding::encode(tally, random, &mut coding)
+    });
+    run.line(format!(
+        "encode: {} pieces, {} refused",
+        coding.pieces, coding.encode_refused
+    ));
+    run.cases("decode", DECODES, |tally, random, _| {
+        coding::decode(tally, random, &mut coding)
+    });
+    run.line(format!(
+        "decode: {} blocks, {} beyond, {} refused",
+        coding.blocks, coding.beyonds, coding.decode_refused
+    ));
+
+    let mut stars = stars::Counts::default();
+    run.cases("star", STARS, |tally, random, number| {
+        stars::case(tally, random, number, &mut stars)
+    });
+    run.line(format!(
+        "star: {} with a core, {} without, {} refused; of any 120 bits {}",
+        stars.cores, stars.without, stars.refused, stars.bits
+    ));
+
+    let mut messages = messages::Counts::default();
+    run.cases("message", MESSAGES, |tally, random, _| {
+        messages::case(tally, random, &mut messages)
+    });
+    run.line(format!(
+        "message: {} present, {} absent or not held",
+        messages.present, messages.absent
+    ));
+
+    let before = run.tally.comparisons;
+    let factor = std::mem::replace(&mut run.factor, 1.0);
+    run.cases("lengths", 1, |tally, _, _| lengths::all(tally));
+    run.factor = factor;
+    let lengths = run.tally.comparisons - before;
+    run.line(format!("lengths: {lengths} compared"));
+
+    println!(
+        "{} comparisons, {} differences",
+        run.tally.comparisons, run.differences
+    );
+    ExitCode::from(u8::from(run.differences > 0))
+}

@@ -1,0 +1,113 @@
+//! A system in a run: settings, who is faulty, what the faulty ones speak of, each controller between two calls, and what each has sent. What
+//! faulty controllers choose is in `faulty`, how a run goes in `systems`.
+use crate::inputs::{costly, sharing_block};
+use crate::random::Random;
+use reference::controller::State;
+use reference::wire;
+
+/// A controller between two calls; the same on both sides.
+pub struct Controller {
+    pub state: State,
+    pub bytes: Vec<u8>,
+    pub block: Vec<u8>,
+}
+
+pub struct System {
+    pub n: usize,
+    pub t: usize,
+    pub k: usize,
+    pub sender: usize,
+    /// The faulty controllers, the bit worth 1 for controller 1.
+    pub faulty: u16,
+    /// Blocks that faulty controllers speak of; the sender's comes first.
+    pub blocks: Vec<Vec<u8>>,
+    /// For each controller the block that a faulty sender has for it.
+    pub groups: Vec<usize>,
+    pub controllers: Vec<Controller>,
+    /// The outboxes of each round, one for each controller.
+    pub outboxes: Vec<Vec<Vec<u8>>>,
+}
+
+impl System {
+    /// A system before its start.
+    pub fn new(random: &mut Random) -> System {
+        let (n, t, k) = random.settings();
+        let count = match random.below(20) {
+            0 => 0,
+            1..=3 => random.within(t + 1, n - 1),
+            4..=10 => t,
+            _ => random.within(1, t),
+        };
+        let mut faulty = random.subset(n, count);
+        let mut sender = random.within(1, n);
+        if count > 0 && random.one_in(2) {
+            // a faulty sender
+            while faulty >> (sender - 1) & 1 == 0 {
+                sender = random.within(1, n);
+            }
+        }
+        if random.one_in(2) {
+            // the kings are among the faulty ones
+            faulty = faulty.rotate_right(faulty.trailing_zeros());
+            sender = if random.one_in(2) {
+                1
+            } else {
+                random.within(1, n)
+            };
+        }
+        if costly(n, t, k) {
+            // pieces of low numbers are right then
+            let last = random.within(0, t);
+            faulty = random.subset(n - t - 1, last) << (t + 1);
+        }
+        let first = random.bytes(k * (t + 1));
+        let mut blocks = vec![first.clone()];
+        for _ in 0..random.within(1, 3) {
+            let mut block = sharing_block(random, n, t, &first);
+            if random.one_in(4) {
+                block = first.clone();
+                block[random.below(k * (t + 1))] ^= 1 << random.below(8);
+            }
+            blocks.push(block);
+        }
+        let mut groups = vec![0; n];
+        let others = random.pick(&[1, t, t, t + 1, n / 2]);
+        for i in &random.order(n)[..others] {
+            groups[*i] = random.below(blocks.len());
+        }
+        System {
+            n,
+            t,
+            k,
+            sender,
+            faulty,
+            blocks,
+            groups,
+            controllers: Vec::new(),
+            outboxes: Vec::new(),
+        }
+    }
+
+    pub fn is_faulty(&self, i: usize) -> bool {
+        self.faulty >> (i - 1) & 1 == 1
+    }
+
+    pub fn message_length(&self, round: usize) -> usize {
+        let (n, t, k) = (self.n as u128, self.t as u128, self.k as u128);
+        wire::message_length(n, t, k, round as u128) as usize
+    }
+
+    pub fn state(&self, i: usize) -> &State {
+        &self.controllers[i - 1].state
+    }
+
+    pub fn block(&self, i: usize) -> &[u8] {
+        &self.controllers[i - 1].block
+    }
+
+    /// The slot that `from` has written for `to` in a round.
+    pub fn sent(&self, round: usize, from: usize, to: usize) -> &[u8] {
+        let width = 1 + self.message_length(round);
+        &self.outboxes[round - 1][from - 1][(to - 1) * width..to * width]
+    }
+}

@@ -1,0 +1,297 @@
+//! Whole systems: every controller is run on both sides from start to end; the faulty ones too, whose slots are then replaced.
+use crate::compare::{self, wrong_length, Same, Start, Tally};
+use crate::faulty::{self, Behaviour};
+use crate::random::Random;
+use crate::state;
+use crate::system::{Controller, System};
+use reference::controller::Outcome;
+
+/// A state before a call, with what it is lent.
+#[derive(Clone)]
+pub struct Snapshot {
+    pub bytes: Vec<u8>,
+    pub block: Vec<u8>,
+    pub inbox: Vec<u8>,
+}
+
+/// How many systems and calls there were, and how they ended.
+#[derive(Default)]
+pub struct Counts {
+    pub systems: u64,
+    pub within_t: u64,
+    pub correct_sender: u64,
+    pub runs: u64,
+    pub calls: u64,
+    pub refused: u64,
+    pub agreed: u64,
+    pub none: u64,
+    pub beyond: u64,
+    /// Calls 3t + 8 of controllers outside a core.
+    pub outside: u64,
+    pub snapshots: Vec<Snapshot>,
+}
+
+const MOST_SNAPSHOTS: usize = 20_000;
+
+impl Counts {
+    /// Now and then keeps what a step is given.
+    fn snapshot(&mut self, random: &mut Random, bytes: &[u8], block: &[u8], inbox: &[u8]) {
+        if self.snapshots.len() < MOST_SNAPSHOTS && random.one_in(40) {
+            self.snapshots.push(Snapshot {
+                bytes: bytes.to_vec(),
+                block: block.to_vec(),
+                inbox: inbox.to_vec(),
+            });
+        }
+    }
+}
+
+/// A run of a system.
+struct Run {
+    system: System,
+    /// How each controller behaves if it is faulty.
+    behaviours: Vec<Behaviour>,
+}
+
+impl Run {
+    fn new(random: &mut Random) -> Run {
+        let system = System::new(random);
+        // mostly faulty from the first round on, else all from one later round on
+        let first = if random.one_in(5) {
+            random.within(2, 3 * system.t + 8)
+        } else {
+            1
+        };
+        let behaviours = (0..system.n)
+            .map(|_| Behaviour::new(random, first))
+            .collect();
+        Run { system, behaviours }
+    }
+
+    /// The inbox of each controller after a round.
+    fn inboxes(&self, random: &mut Random, round: usize) -> Vec<Vec<u8>> {
+        let mut inboxes = vec![Vec::new(); self.system.n];
+        for from in 1..=self.system.n {
+            let slots = if self.system.is_faulty(from) {
+                faulty::slots(
+                    random,
+                    &self.behaviours[from - 1],
+                    &self.system,
+                    round,
+                    from,
+                )
+            } else {
+                (1..=self.system.n)
+                    .map(|to| self.system.sent(round, from, to).to_vec())
+                    .collect()
+            };
+            for (inbox, slot) in inboxes.iter_mut().zip(slots) {
+                inbox.extend(slot);
+            }
+        }
+        inboxes
+    }
+
+    fn start(&mut self, tally: &mut Tally, random: &mut Random) -> Same<()> {
+        for own in 1..=self.system.n {
+            let block = if own == self.system.sender {
+                self.system.blocks[0].clone()
+            } else {
+                random.bytes(self.system.blocks[0].len())
+            };
+            let settings = Start {
+                n: self.system.n,
+                t: self.system.t,
+                k: self.system.k,
+                own,
+                sender: self.system.sender,
+            };
+            let (number, state, bytes) =
+                compare::start(tally, random, settings, &block, state::LENGTH)
+                    .map_err(|text| format!("controller {own}: {text}"))?;
+            tally.holds("a start with right settings is carried out", number == 0)?;
+            self.system.controllers.push(Controller {
+                state,
+                bytes,
+                block,
+            });
+        }
+        Ok(())
+    }
+
+    /// A step with a wrong length, which changes nothing.
+    fn refused(
+        &mut self,
+        tally: &mut Tally,
+        random: &mut Random,
+        i: usize,
+        inbox: &[u8],
+        outbox: usize,
+    ) -> Same<()> {
+        let controller = &self.system.controllers[i];
+        let mut bytes = controller.bytes.clone();
+        let mut block = controller.block.clone();
+        let mut inbox = inbox.to_vec();
+        let mut outbox = outbox;
+        let which = random.within(1, 15);
+        if which & 1 == 1 {
+            block.resize(wrong_length(random, block.len()), 1);
+        }
+        if which & 2 == 2 {
+            inbox.resize(wrong_length(random, inbox.len()), 1);
+        }
+        if which & 4 == 4 {
+            outbox = wrong_length(random, outbox);
+        }
+        if which & 8 == 8 {
+            bytes.resize(wrong_length(random, bytes.len()), 0);
+        }
+        let after = compare::step(
+            tally,
+            random,
+            &controller.state,
+            &bytes,
+            &block,
+            &inbox,
+            outbox,
+        )?;
+        tally.same("a step with a wrong length", after.number, 6)
+    }
+
+    /// The state and block that a step left are those of the next one; a refused step left them as they were.
+    fn call(
+        &mut self,
+        tally: &mut Tally,
+        random: &mut Random,
+        counts: &mut Counts,
+        c: usize,
+    ) -> Same<()> {
+        let inboxes = match c {
+            1 => vec![Vec::new(); self.system.n],
+            _ => self.inboxes(random, c - 1),
+        };
+        let mut outboxes = Vec::new();
+        for (i, inbox) in inboxes.iter().enumerate() {
+            let place = |text| format!("controller {}, call {c}: {text}", i + 1);
+            let outbox = self.system.controllers[i].state.box_length(c);
+            if random.one_in(16) {
+                counts.refused += 1;
+                self.refused(tally, random, i, inbox, outbox)
+                    .map_err(place)?;
+            }
+            let controller = &mut self.system.controllers[i];
+            counts.snapshot(random, &controller.bytes, &controller.block, inbox);
+            let Controller {
+                state,
+                bytes,
+                block,
+            } = controller;
+            let after =
+                compare::step(tally, random, state, bytes, block, inbox, outbox).map_err(place)?;
+            tally
+                .holds("a step of a run is carried out", after.number == 0)
+                .map_err(place)?;
+            counts.calls += 1;
+            let core = after.state.core;
+            if c == 3 * self.system.t + 8 && core != 0 && core >> i & 1 == 0 {
+                counts.outside += 1;
+            }
+            *controller = Controller {
+                state: after.state,
+                bytes: after.bytes,
+                block: after.block,
+            };
+            outboxes.push(after.outbox);
+        }
+        self.system.outboxes.push(outboxes);
+        Ok(())
+    }
+
+    /// A step after the last one is refused with 8, whatever is lent.
+    fn after_the_end(
+        &self,
+        tally: &mut Tally,
+        random: &mut Random,
+        counts: &mut Counts,
+    ) -> Same<()> {
+        for Controller {
+            state,
+            bytes,
+            block,
+        } in &self.system.controllers
+        {
+            let length = random.below(20);
+            let inbox = random.bytes(length);
+            let outbox = random.below(20);
+            let after = compare::step(tally, random, state, bytes, block, &inbox, outbox)?;
+            tally.same("a step after the last one", after.number, 8)?;
+            counts.snapshot(random, bytes, block, &inbox);
+        }
+        Ok(())
+    }
+
+    /// With at most t faulty controllers all correct ones end with one outcome and one block, with a correct sender the sender's.
+    fn agreement(&self, tally: &mut Tally, counts: &mut Counts) -> Same<()> {
+        let correct: Vec<&Controller> = (1..=self.system.n)
+            .filter(|&i| !self.system.is_faulty(i))
+            .map(|i| &self.system.controllers[i - 1])
+            .collect();
+        for controller in &correct {
+            counts.runs += 1;
+            match controller.state.outcome {
+                Outcome::Agreed => counts.agreed += 1,
+                Outcome::None => counts.none += 1,
+                Outcome::Beyond => counts.beyond += 1,
+                Outcome::Open => return Err("a run that ended has outcome open".into()),
+            }
+        }
+        if self.system.faulty.count_ones() as usize > self.system.t {
+            return Ok(());
+        }
+        counts.within_t += 1;
+        let first = correct[0];
+        for other in &correct[1..] {
+            let same = (first.state.outcome, &first.block) == (other.state.outcome, &other.block);
+            tally.holds("one outcome and one block", same)?;
+        }
+        tally.holds(
+            "an outcome within t",
+            first.state.outcome != Outcome::Beyond,
+        )?;
+        if !self.system.is_faulty(self.system.sender) {
+            counts.correct_sender += 1;
+            let senders = (Outcome::Agreed, &self.system.blocks[0]);
+            tally.holds(
+                "the sender's block",
+                (first.state.outcome, &first.block) == senders,
+            )?;
+        }
+        Ok(())
+    }
+}
+
+/// One system.
+pub fn case(tally: &mut Tally, random: &mut Random, counts: &mut Counts) -> Same<()> {
+    let mut run = Run::new(random);
+    let System {
+        n,
+        t,
+        k,
+        sender,
+        faulty,
+        ..
+    } = run.system;
+    let mut whole = || {
+        run.start(tally, random)?;
+        for c in 1..=3 * t + 9 {
+            run.call(tally, random, counts, c)?;
+        }
+        run.after_the_end(tally, random, counts)?;
+        run.agreement(tally, counts)
+    };
+    whole().map_err(|text| {
+        format!("n {n}, t {t}, k {k}, sender {sender}, faulty {faulty:016b}: {text}")
+    })?;
+    counts.systems += 1;
+    Ok(())
+}

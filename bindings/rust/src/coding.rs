@@ -1,0 +1,68 @@
+//! The message in a slot, and the code: a block into pieces, and back from pieces some of which are false.
+use crate::{raw, Refusal};
+
+/// The message in slot `j` of an inbox of messages of `length` bytes; none where the slot is absent, `j` is 0, the inbox does not hold the
+/// slot whole, or `length` is 0.
+///
+/// ```
+/// let inbox = [1, 0x0a, 0x14, 0, 0, 0];
+/// assert_eq!(potekawhi::message(&inbox, 2, 1), Some(&[0x0a, 0x14][..]));
+/// assert_eq!(potekawhi::message(&inbox, 2, 2), None);
+/// ```
+pub fn message(inbox: &[u8], length: usize, j: usize) -> Option<&[u8]> {
+    let mut offset = 0;
+    match raw::message(inbox, length, j, &mut offset) {
+        0 => None,
+        length => Some(&inbox[offset..offset + length]),
+    }
+}
+
+/// Writes piece `number`, k bytes, of the coding of a block of k * (t + 1) bytes.
+///
+/// ```
+/// let mut piece = [0];
+/// potekawhi::encode(4, 1, 1, 2, &[0x0a, 0x14], &mut piece)?;
+/// assert_eq!(piece, [0x22]);
+/// # Ok::<(), potekawhi::Refusal>(())
+/// ```
+pub fn encode(
+    n: usize,
+    t: usize,
+    k: usize,
+    number: usize,
+    block: &[u8],
+    piece: &mut [u8],
+) -> Result<(), Refusal> {
+    Refusal::check(raw::encode(n, t, k, number, block, piece))
+}
+
+/// What decoding found.
+#[derive(Debug, Clone, Copy, PartialEq, Eq)]
+pub enum Decoded {
+    /// The block was written.
+    Block,
+    /// There is no such block; zeros were written.
+    Beyond,
+}
+
+/// Writes the block whose coding agrees, in each stripe, with the pieces in `slots` in at least n - t places. `slots` is n slots of messages of
+/// k bytes; an absent one counts as a piece of zeros. `block` has k * (t + 1) bytes.
+///
+/// ```
+/// let slots = [0, 0, 1, 0x22, 1, 0x36, 1, 0x5a];
+/// let mut block = [0; 2];
+/// assert_eq!(potekawhi::decode(4, 1, 1, &slots, &mut block), Ok(potekawhi::Decoded::Block));
+/// assert_eq!(block, [0x0a, 0x14]);
+/// ```
+pub fn decode(
+    n: usize,
+    t: usize,
+    k: usize,
+    slots: &[u8],
+    block: &mut [u8],
+) -> Result<Decoded, Refusal> {
+    match raw::decode(n, t, k, slots, block) {
+        raw::BEYOND => Ok(Decoded::Beyond),
+        number => Refusal::check(number).map(|()| Decoded::Block),
+    }
+}

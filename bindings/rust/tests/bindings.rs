@@ -1,0 +1,239 @@
+//! The bindings: the header's numbers beside the library's, refusals, lengths, runs, and the parts by themselves.
+use potekawhi::{
+    decode, encode, message, missing_pairs, raw, star, star_of_pairs, Controller, Decoded, Outcome,
+    Refusal, Settings,
+};
+
+const SETTINGS: Settings = Settings {
+    n: 4,
+    t: 1,
+    k: 1,
+    sender: 1,
+};
+
+/// The length of a state that the header defines is the library's: a state has that length and no other.
+#[test]
+fn length_in_the_header() {
+    for length in 0..2 * raw::STATE_LENGTH {
+        let taken = raw::outcome(&vec![0; length]) == 0;
+        assert_eq!(taken, length == raw::STATE_LENGTH);
+    }
+}
+
+/// So are the lengths of rows, missing pairs and sets, and the number for beyond.
+#[test]
+fn numbers_in_the_header() {
+    for length in 0..64 {
+        let rows = vec![0; length];
+        let taken = raw::missing_pairs(4, &rows, &mut [0; raw::PAIRS_LENGTH]) == 0;
+        assert_eq!(taken, length == raw::ROWS_LENGTH);
+        let taken = raw::star_of_pairs(4, 1, &rows, &mut [0; raw::SETS_LENGTH]) == 0;
+        assert_eq!(taken, length == raw::PAIRS_LENGTH);
+        let mut sets = vec![0; length];
+        let taken = raw::star(4, 1, &[0; raw::ROWS_LENGTH], &mut sets) == 0;
+        assert_eq!(taken, length == raw::SETS_LENGTH);
+    }
+    let slots = [1, 0x1e, 1, 0x22, 1, 0x37, 1, 0x5b];
+    assert_eq!(raw::decode(4, 1, 1, &slots, &mut [7; 2]), raw::BEYOND);
+}
+
+/// Document 01's numbers, 1 to 8.
+#[test]
+fn refusal_numbers() {
+    let rows = [
+        Refusal::N,
+        Refusal::T,
+        Refusal::K,
+        Refusal::Number,
+        Refusal::Sender,
+        Refusal::Length,
+        Refusal::State,
+        Refusal::Finished,
+    ];
+    assert_eq!(rows.map(Refusal::number), [1, 2, 3, 4, 5, 6, 7, 8]);
+    assert_eq!(Refusal::K.to_string(), "k is not 1 to 128");
+}
+
+/// Every row, and of several the first. A refused start leaves the block.
+#[test]
+fn refused_starts() {
+    let refused = |settings, own, length| {
+        let mut block = vec![7; length];
+        let refusal = Controller::start(settings, own, &mut block).unwrap_err();
+        assert_eq!(block, vec![7; length]);
+        refusal
+    };
+    assert_eq!(refused(Settings { n: 3, ..SETTINGS }, 1, 2), Refusal::N);
+    assert_eq!(refused(Settings { n: 17, ..SETTINGS }, 1, 2), Refusal::N);
+    assert_eq!(refused(Settings { t: 0, ..SETTINGS }, 1, 1), Refusal::T);
+    assert_eq!(refused(Settings { t: 2, ..SETTINGS }, 1, 3), Refusal::T);
+    assert_eq!(refused(Settings { k: 0, ..SETTINGS }, 1, 0), Refusal::K);
+    assert_eq!(refused(Settings { k: 129, ..SETTINGS }, 1, 258), Refusal::K);
+    assert_eq!(refused(SETTINGS, 0, 2), Refusal::Number);
+    assert_eq!(refused(SETTINGS, 5, 2), Refusal::Number);
+    let sender = |sender| Settings { sender, ..SETTINGS };
+    assert_eq!(refused(sender(0), 1, 2), Refusal::Sender);
+    assert_eq!(refused(sender(5), 1, 2), Refusal::Sender);
+    assert_eq!(refused(SETTINGS, 1, 1), Refusal::Length);
+    assert_eq!(refused(SETTINGS, 1, 3), Refusal::Length);
+    assert_eq!(refused(sender(5), 5, 3), Refusal::Number);
+}
+
+#[test]
+fn lengths_of_a_run() {
+    assert_eq!(SETTINGS.calls(), 12);
+    assert_eq!(SETTINGS.block_length(), 2);
+    let lengths = [2, 2, 2, 8, 16, 8, 8, 16, 8, 1, 1];
+    for (i, length) in lengths.into_iter().enumerate() {
+        let round = i + 1;
+        assert_eq!(SETTINGS.message_length(round), length);
+        assert_eq!(SETTINGS.outbox_length(round), 4 * (1 + length));
+        assert_eq!(SETTINGS.inbox_length(round + 1), 4 * (1 + length));
+        // the slots fill the box, one behind the other
+        let mut end = 0;
+        for j in 1..=4 {
+            assert_eq!(SETTINGS.slot(round, j), end..end + 1 + length);
+            end += 1 + length;
+        }
+        assert_eq!(end, SETTINGS.outbox_length(round));
+    }
+    assert_eq!(
+        (SETTINGS.inbox_length(1), SETTINGS.outbox_length(12)),
+        (0, 0)
+    );
+    assert_eq!(Settings { n: 3, ..SETTINGS }.block_length(), 0);
+    assert_eq!(Settings { n: 0, ..SETTINGS }.slot(1, 1), 0..0);
+    for (round, j) in [(0, 1), (12, 1), (1, 0), (1, 5), (1, usize::MAX)] {
+        assert!(SETTINGS.slot(round, j).is_empty());
+    }
+    let largest = Settings {
+        n: usize::MAX,
+        ..SETTINGS
+    };
+    assert_eq!(largest.slot(1, usize::MAX), 0..0);
+}
+
+/// A wrong length changes nothing, and the step can be made again.
+#[test]
+fn refused_steps() {
+    let (mut block, mut copy) = ([7; 2], [7; 2]);
+    let mut controller = Controller::start(SETTINGS, 1, &mut block).unwrap();
+    let before = Controller::start(SETTINGS, 1, &mut copy).unwrap();
+    let mut outbox = [9; 12];
+    for (inbox, length) in [(1, 12), (0, 11), (0, 0)] {
+        let refused = controller.step(&vec![0; inbox], &mut outbox[..length]);
+        assert_eq!(refused, Err(Refusal::Length));
+        assert_eq!((&controller, outbox), (&before, [9; 12]));
+    }
+    assert_eq!(controller.step(&[], &mut outbox), Ok(()));
+    assert_eq!(outbox, [1, 7, 7, 1, 7, 7, 1, 7, 7, 1, 7, 7]);
+    assert_eq!(controller.next_call(), 2);
+}
+
+/// With every slot absent no core is found: marks of its own alone, and zeros of the others.
+#[test]
+fn a_run_that_hears_nothing() {
+    let mut block = [7; 2];
+    let mut controller = Controller::start(SETTINGS, 2, &mut block).unwrap();
+    assert_eq!(controller.settings(), SETTINGS);
+    for call in 1..=12 {
+        assert_eq!(controller.next_call(), call);
+        assert_eq!(
+            (controller.outcome(), controller.final_block()),
+            (Outcome::Open, None)
+        );
+        let inbox = vec![0; controller.inbox_length()];
+        let mut outbox = vec![9; controller.outbox_length()];
+        assert_eq!(controller.step(&inbox, &mut outbox), Ok(()));
+    }
+    assert_eq!((controller.next_call(), controller.inbox_length()), (13, 0));
+    assert_eq!(controller.outcome(), Outcome::None);
+    assert_eq!(controller.final_block(), Some(&[0, 0][..]));
+    assert_eq!(controller.step(&[], &mut []), Err(Refusal::Finished));
+    assert_eq!(block, [0, 0]);
+}
+
+#[test]
+fn messages() {
+    let inbox = [1, 10, 20, 2, 30, 40, 1, 50, 60];
+    assert_eq!(message(&inbox, 2, 3), Some(&inbox[7..9]));
+    for (length, j) in [
+        (2, 0),
+        (2, 2),
+        (2, 4),
+        (2, usize::MAX),
+        (usize::MAX, 1),
+        (0, 1),
+    ] {
+        assert_eq!(message(&inbox, length, j), None);
+    }
+}
+
+/// Examples c, d and e of document 01.
+#[test]
+fn code() {
+    let mut pieces = [0; 4];
+    for (i, piece) in pieces.chunks_mut(1).enumerate() {
+        assert_eq!(encode(4, 1, 1, i + 1, &[0x0a, 0x14], piece), Ok(()));
+    }
+    assert_eq!(pieces, [0x1e, 0x22, 0x36, 0x5a]);
+    let refused = |k, number, block: &[u8]| {
+        let mut piece = [9];
+        let refusal = encode(4, 1, k, number, block, &mut piece).unwrap_err();
+        assert_eq!(piece, [9]);
+        refusal
+    };
+    assert_eq!(refused(1, 5, &[0x0a, 0x14]), Refusal::Number);
+    assert_eq!(refused(1, 1, &[0x0a]), Refusal::Length);
+    assert_eq!(refused(129, 1, &[0x0a]), Refusal::K);
+    let slots = |values: [u8; 4]| values.map(|value| [1, value]).concat();
+    let right = [0x00, 0x22, 0x36, 0x5a];
+    let mut block = [9; 2];
+    assert_eq!(
+        decode(4, 1, 1, &slots(right)[1..], &mut block),
+        Err(Refusal::Length)
+    );
+    assert_eq!(decode(4, 2, 1, &slots(right), &mut block), Err(Refusal::T));
+    assert_eq!(block, [9; 2]);
+    assert_eq!(
+        decode(4, 1, 1, &slots(right), &mut block),
+        Ok(Decoded::Block)
+    );
+    assert_eq!(block, [0x0a, 0x14]);
+    assert_eq!(
+        decode(4, 1, 1, &slots([0x1e, 0x22, 0x37, 0x5b]), &mut block),
+        Ok(Decoded::Beyond)
+    );
+    assert_eq!(block, [0; 2]);
+}
+
+/// Examples g and h of document 01: the pairs that are not neighbours, in rows and as bits. The bits of numbers past 4 are set.
+#[test]
+fn stars() {
+    let star_without = |pairs: &[(usize, usize)]| {
+        let mut rows = [0xffff; 16];
+        for (i, j) in pairs {
+            rows[i - 1] &= !(1 << (j - 1));
+        }
+        let mut bits = missing_pairs(4, &rows);
+        let found = star(4, 1, &rows).unwrap();
+        assert_eq!(star_of_pairs(4, 1, &bits), Ok(found));
+        // (1, 5) to (1, 16) are the places 3 to 14, the last pairs the places up to 119
+        bits[0] |= 0xf8;
+        bits[14] = 0xff;
+        assert_eq!(star_of_pairs(4, 1, &bits), Ok(found));
+        found
+    };
+    let found = star_without(&[(1, 4), (2, 4), (3, 4)]).unwrap();
+    assert_eq!((found.c, found.d, found.f, found.e), (6, 7, 7, 7));
+    assert_eq!(
+        star_without(&[(1, 2), (1, 3), (1, 4), (2, 4), (3, 4)]),
+        None
+    );
+    assert_eq!(star(3, 1, &[0; 16]), Err(Refusal::N));
+    assert_eq!(star(4, 2, &[0; 16]), Err(Refusal::T));
+    assert_eq!(star_of_pairs(17, 5, &[0; 15]), Err(Refusal::N));
+    assert_eq!(star_of_pairs(16, 6, &[0; 15]), Err(Refusal::T));
+    assert_eq!(missing_pairs(16, &[0; 16]), [0xff; 15]);
+    assert_eq!(missing_pairs(17, &[0; 16]), [0xff; 15]);
+}

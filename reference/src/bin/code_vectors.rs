@@ -1,0 +1,319 @@
+//! The expected output of the program reed_solomon_cases, from the reference.
+use reference::code::{decode, encode, product, Decoded};
+use reference::wire::send_one;
+
+struct Case {
+    n: usize,
+    t: usize,
+    k: usize,
+    manner: usize,
+    seed: u64,
+}
+
+/// The generator of the program: x times 1664525 plus 1013904223, modulo 2 to the 32.
+fn next(x: u64) -> u64 {
+    (x % (1 << 32) * 1664525 + 1013904223) % (1 << 32)
+}
+
+fn mix(x: u64, y: u64) -> u64 {
+    next(x + y)
+}
+
+fn draw(seed: u64, purpose: u64, i: usize, b: usize) -> u64 {
+    [purpose, i as u64, b as u64]
+        .iter()
+        .fold(seed, |x, &y| mix(x, y))
+        / 65536
+}
+
+fn digest(d: u64, s: &[u8]) -> u64 {
+    s.iter().fold(d, |d, &b| mix(d, u64::from(b)))
+}
+
+fn seed_of(n: usize, t: usize, k: usize, manner: usize) -> u64 {
+    [t, k, manner]
+        .iter()
+        .fold(n as u64, |x, &y| mix(x, y as u64))
+}
+
+fn fill(len: usize, seed: u64) -> Vec<u8> {
+    (0..len).map(|b| draw(seed, 0, 0, b) as u8).collect()
+}
+
+/// Another block, which differs in each stripe by (x + 1) .. (x + t): pieces 1 to t are the same, the others have no byte in common.
+fn other(block: &[u8], t: usize) -> Vec<u8> {
+    let roots = (1..=t as u8).fold(vec![1], |p, i| product(&p, &[i, 1]));
+    block
+        .chunks(t + 1)
+        .flat_map(|stripe| stripe.iter().zip(&roots).map(|(m, r)| m ^ r))
+        .collect()
+}
+
+fn flipped(x: u8, seed: u64, i: usize, b: usize) -> u8 {
+    x ^ (1 + draw(seed, 2, i, b) % 255) as u8
+}
+
+impl Case {
+    fn piece(&self, block: &[u8], i: usize) -> Vec<u8> {
+        let mut piece = vec![0; self.k];
+        let r = encode(
+            self.n as u64,
+            self.t as u64,
+            self.k as u64,
+            i as u64 + 1,
+            block,
+            &mut piece,
+        );
+        assert_eq!(r, 0);
+        piece
+    }
+
+    /// 0 its piece, 1 all bytes false, 2 those of one stripe, 3 absent, 4 the piece of the other block.
+    fn kind(&self, mask: usize, seed: u64, i: usize) -> usize {
+        if mask >> i & 1 == 0 {
+            0
+        } else if self.manner < 5 {
+            self.manner
+        } else {
+            1 + draw(seed, 1, i, 0) as usize % 4
+        }
+    }
+
+    fn slots(&self, block: &[u8], other: &[u8], mask: usize, seed: u64) -> Vec<u8> {
+        let mut slots = vec![0; self.n * (self.k + 1)];
+        for i in 0..self.n {
+            let kind = self.kind(mask, seed, i);
+            let mut piece = self.piece(if kind == 4 { other } else { block }, i);
+            if kind == 1 {
+                for (b, x) in piece.iter_mut().enumerate() {
+                    *x = flipped(*x, seed, i, b);
+                }
+            }
+            if kind == 2 {
+                let b = draw(seed, 3, i, 0) as usize % self.k;
+                piece[b] = flipped(piece[b], seed, i, b);
+            }
+            send_one(&mut slots, self.k, i + 1, &piece);
+            if kind == 3 {
+                slots[i * (self.k + 1)] = (2 + draw(seed, 4, i, 0) % 255) as u8;
+            }
+        }
+        slots
+    }
+
+    /// The sets of false slots: at n 4 and n 7 all up to t + 1, else two of each size to t + 1; with the seed of each.
+    fn sets(&self) -> Vec<(usize, u64)> {
+        let seed = |x: usize| mix(self.seed, x as u64);
+        if self.n == 4 || self.n == 7 {
+            return (0..1usize << self.n)
+                .filter(|mask| mask.count_ones() as usize <= self.t + 1)
+                .map(|mask| (mask, seed(mask)))
+                .collect();
+        }
+        (0..2 * (self.t + 2))
+            .map(|x| (self.scattered(x / 2, seed(x)), seed(x)))
+            .collect()
+    }
+
+    fn scattered(&self, size: usize, seed: u64) -> usize {
+        let mut order: Vec<usize> = (0..self.n).collect();
+        order.sort_by_key(|&i| (draw(seed, 5, i, 0), i));
+        order[..size].iter().map(|i| 1 << i).sum()
+    }
+
+    fn play(&self) {
+        let (n, t, k) = (self.n as u64, self.t as u64, self.k as u64);
+        let block = fill(self.k * (self.t + 1), self.seed);
+        let other = other(&block, self.t);
+        for i in 0..self.n {
+            let (a, b) = (self.piece(&block, i), self.piece(&other, i));
+            assert!(a.iter().zip(&b).all(|(x, y)| (x == y) == (i < self.t)));
+        }
+        let (mut blocks, mut beyond, mut d) = (0, 0, 0);
+        let mut out = vec![255; block.len()];
+        for (mask, seed) in self.sets() {
+            let slots = self.slots(&block, &other, mask, seed);
+            let r = decode(n, t, k, &slots, &mut out);
+            // what the code promises
+            if mask.count_ones() as usize <= self.t {
+                assert_eq!((r, &out), (Decoded::Block, &block));
+            }
+            blocks += usize::from(r == Decoded::Block);
+            beyond += usize::from(r == Decoded::Beyond);
+            d = digest(mix(d, answer(r)), &out);
+        }
+        println!(
+            "decode {n} {t} {k} {}: {blocks} {beyond} {d:08x}",
+            self.manner
+        );
+    }
+}
+
+fn answer(r: Decoded) -> u64 {
+    match r {
+        Decoded::Block => 0,
+        Decoded::Beyond => 9,
+        Decoded::Refused(x) => u64::from(x),
+    }
+}
+
+fn code(n: usize, t: usize, k: usize) {
+    let case = Case {
+        n,
+        t,
+        k,
+        manner: 0,
+        seed: seed_of(n, t, k, 0),
+    };
+    let block = fill(k * (t + 1), case.seed);
+    let d = (0..n).fold(0, |d, i| digest(mix(d, 0), &case.piece(&block, i)));
+    println!("code {n} {t} {k}: {d:08x}");
+}
+
+fn try_encode(n: u64, t: u64, k: u64, number: u64, size: usize, len: usize) {
+    let block = [85; 4096];
+    let mut piece = [170; 4096];
+    let r = encode(n, t, k, number, &block[..size], &mut piece[..len]);
+    assert!(r == 0 || piece == [170; 4096]);
+    let d = digest(digest(0, &block), &piece);
+    println!("encode {n} {t} {k} {number} {size} {len}: {r} {d:08x}");
+}
+
+fn try_decode(n: u64, t: u64, k: u64, end: usize, size: usize) {
+    let slots = [1; 4096];
+    let mut block = [170; 4096];
+    let r = decode(n, t, k, &slots[..end], &mut block[..size]);
+    assert!(r == Decoded::Block || block == [170; 4096]);
+    let d = digest(digest(0, &slots), &block);
+    println!("decode {n} {t} {k} {end} {size}: {} {d:08x}", answer(r));
+}
+
+const LARGEST: u64 = u64::MAX;
+
+/// Three times this is 2 more than the largest number.
+const THIRD: u64 = LARGEST / 3 + 1;
+
+const ENCODES: [(u64, u64, u64, u64, usize, usize); 43] = [
+    (3, 1, 1, 1, 2, 1),
+    (17, 1, 1, 1, 2, 1),
+    (4, 0, 1, 1, 1, 1),
+    (4, 2, 1, 1, 3, 1),
+    (16, 6, 1, 1, 7, 1),
+    (4, 1, 0, 1, 0, 0),
+    (4, 1, 129, 1, 258, 129),
+    (4, 1, 1, 0, 2, 1),
+    (4, 1, 1, 5, 2, 1),
+    (4, 1, 1, 1, 2, 1),
+    (4, 1, 1, 4, 2, 1),
+    (4, 1, 1, 1, 1, 1),
+    (4, 1, 1, 1, 3, 1),
+    (4, 1, 1, 1, 2, 0),
+    (4, 1, 1, 1, 2, 2),
+    (7, 2, 128, 7, 384, 128),
+    (7, 2, 128, 7, 383, 128),
+    (7, 2, 128, 7, 385, 128),
+    (7, 2, 128, 7, 384, 127),
+    (7, 2, 128, 7, 384, 129),
+    (7, 2, 128, 8, 384, 128),
+    (16, 5, 128, 16, 768, 128),
+    (16, 5, 128, 17, 768, 128),
+    (3, 0, 0, 0, 0, 0),
+    (3, 1, 129, 1, 258, 129),
+    (3, 1, 1, 0, 2, 1),
+    (3, 1, 1, 1, 1, 1),
+    (4, 0, 129, 1, 129, 129),
+    (4, 2, 1, 5, 3, 1),
+    (4, 2, 1, 1, 2, 1),
+    (4, 1, 0, 5, 0, 0),
+    (4, 1, 129, 1, 258, 128),
+    (4, 1, 1, 0, 2, 2),
+    (4, 1, 1, 5, 1, 1),
+    (0, 0, 0, 0, 0, 0),
+    (LARGEST, LARGEST, 1, 1, 2, 1),
+    (4, LARGEST, LARGEST, 1, 2, 1),
+    (4, THIRD, 1, 1, 2, 1),
+    (4, 1, LARGEST, 0, 2, 1),
+    (4, 1, 1 << 63, 0, 0, 1),
+    (4, 1, 1, LARGEST, 1, 1),
+    (4, 1, 1, 256, 2, 1),
+    (4, 1, 1, 257, 2, 1),
+];
+
+const DECODES: [(u64, u64, u64, usize, usize); 35] = [
+    (3, 1, 1, 6, 2),
+    (17, 1, 1, 34, 2),
+    (4, 0, 1, 8, 1),
+    (4, 2, 1, 8, 3),
+    (16, 6, 1, 32, 7),
+    (4, 1, 0, 4, 0),
+    (4, 1, 129, 520, 258),
+    (4, 1, 1, 8, 2),
+    (4, 1, 1, 7, 2),
+    (4, 1, 1, 9, 2),
+    (4, 1, 1, 6, 2),
+    (4, 1, 1, 10, 2),
+    (4, 1, 1, 8, 1),
+    (4, 1, 1, 8, 3),
+    (4, 1, 1, 4, 2),
+    (4, 1, 1, 0, 0),
+    (7, 2, 128, 903, 384),
+    (7, 2, 128, 902, 384),
+    (7, 2, 128, 904, 384),
+    (7, 2, 128, 903, 383),
+    (7, 2, 128, 903, 385),
+    (16, 5, 128, 2064, 768),
+    (3, 0, 0, 0, 0),
+    (3, 1, 129, 390, 258),
+    (3, 1, 1, 5, 2),
+    (4, 0, 129, 520, 129),
+    (4, 2, 1, 8, 2),
+    (4, 1, 0, 8, 2),
+    (4, 1, 129, 519, 258),
+    (0, 0, 0, 0, 0),
+    (LARGEST, LARGEST, 1, 8, 2),
+    (4, LARGEST, LARGEST, 8, 2),
+    (4, THIRD, 1, 8, 2),
+    (4, 1, LARGEST, 0, 0),
+    (4, 1, 1 << 63, 4, 0),
+];
+
+fn example_slots(name: &str, slots: &[u8]) {
+    let mut block = [255; 2];
+    let r = decode(4, 1, 1, slots, &mut block);
+    println!("{name} {} {:02x}{:02x}", answer(r), block[0], block[1]);
+}
+
+fn main() {
+    for n in 4..=16 {
+        for t in (1..).take_while(|t| 3 * t < n) {
+            for k in [1, 2, 32, 128] {
+                code(n, t, k);
+                for manner in 1..=5 {
+                    let seed = seed_of(n, t, k, manner);
+                    Case {
+                        n,
+                        t,
+                        k,
+                        manner,
+                        seed,
+                    }
+                    .play();
+                }
+            }
+        }
+    }
+    for (n, t, k, number, size, len) in ENCODES {
+        try_encode(n, t, k, number, size, len);
+    }
+    for (n, t, k, end, size) in DECODES {
+        try_decode(n, t, k, end, size);
+    }
+    for number in 1..=4 {
+        let mut piece = [0];
+        encode(4, 1, 1, number, &[0x0a, 0x14], &mut piece);
+        println!("c {:02x}", piece[0]);
+    }
+    example_slots("d", &[1, 0x00, 1, 0x22, 1, 0x36, 1, 0x5a]);
+    example_slots("d", &[0, 0x1e, 1, 0x22, 1, 0x36, 1, 0x5a]);
+    example_slots("e", &[1, 0x1e, 1, 0x22, 1, 0x37, 1, 0x5b]);
+}

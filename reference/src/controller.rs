@@ -1,0 +1,406 @@
+//! One controller: start and step (document 01, 'The house', 'Rounds', 'Turned down'), for all inputs, refused ones too, and for states
+//! that no run reaches.
+use crate::code::{self, Decoded};
+use crate::vote::{self, Message};
+use crate::{star, wire};
+
+#[derive(Debug, Clone, Copy, PartialEq, Eq, Default)]
+pub enum Outcome {
+    #[default]
+    Open,
+    Agreed,
+    None,
+    Beyond,
+}
+
+/// Rows and bits past n, and core members past n, are not read.
+#[derive(Debug, Clone, Copy, PartialEq, Eq, Default)]
+pub struct State {
+    pub n: usize,
+    pub t: usize,
+    pub k: usize,
+    pub own: usize,
+    pub sender: usize,
+    /// The number of the next call.
+    pub next: usize,
+    pub outcome: Outcome,
+    /// Rows of marks, the bit worth 1 for controller 1.
+    pub matrix: [u16; 16],
+    /// Where the count of the bit now held is below n - t.
+    pub weak: [u16; 16],
+    /// Marks of the core's members.
+    pub core: u16,
+}
+
+/// Rows 1 to 5 of 'Turned down', in order; 0 if none of them is met.
+fn settings_refusal(n: usize, t: usize, k: usize, own: usize, sender: usize) -> u8 {
+    match code::settings_refusal(n as u128, t as u128, k as u128) {
+        0 if !(1..=n).contains(&own) => 4,
+        0 if !(1..=n).contains(&sender) => 5,
+        number => number,
+    }
+}
+
+/// Start tries 1 to 6. The lent block is neither read nor changed; a refused start returns the zero state.
+pub fn start(n: usize, t: usize, k: usize, own: usize, sender: usize, block: &[u8]) -> (u8, State) {
+    let number = match settings_refusal(n, t, k, own, sender) {
+        0 if block.len() != k * (t + 1) => 6,
+        number => number,
+    };
+    if number != 0 {
+        return (number, State::default());
+    }
+    let state = State {
+        n,
+        t,
+        k,
+        own,
+        sender,
+        next: 1,
+        ..State::default()
+    };
+    (0, state)
+}
+
+/// One step: the number and the next state. A refused step returns the state as given and leaves the lent bytes unchanged.
+pub fn step(state: State, block: &mut [u8], inbox: &[u8], outbox: &mut [u8]) -> (u8, State) {
+    let number = state.refusal(block.len(), inbox.len(), outbox.len());
+    if number != 0 {
+        return (number, state);
+    }
+    let mut next = State {
+        next: state.next + 1,
+        outcome: Outcome::Open,
+        ..state
+    };
+    let sent = next.call(state.next, block, inbox);
+    let length = state.message_length(state.next);
+    outbox.fill(0);
+    for (j, message) in sent.iter().enumerate() {
+        if let Some(message) = message {
+            wire::send_one(outbox, length, j + 1, message);
+        }
+    }
+    (0, next)
+}
+
+impl State {
+    /// The message length of round c; 0 before the first round and after the last.
+    pub fn message_length(&self, c: usize) -> usize {
+        wire::message_length(self.n as u128, self.t as u128, self.k as u128, c as u128) as usize
+    }
+
+    /// The length of the inbox or outbox of round c.
+    pub fn box_length(&self, c: usize) -> usize {
+        wire::box_length(self.n as u128, self.t as u128, self.k as u128, c as u128) as usize
+    }
+
+    /// A step tries 7, 8, 6.
+    fn refusal(&self, block: usize, inbox: usize, outbox: usize) -> u8 {
+        if settings_refusal(self.n, self.t, self.k, self.own, self.sender) != 0 {
+            return 7;
+        }
+        let finished = 3 * self.t + 10;
+        if !(1..=finished).contains(&self.next) {
+            return 7;
+        }
+        if self.next == finished {
+            return 8;
+        }
+        let stated = [
+            self.k * (self.t + 1),
+            self.box_length(self.next - 1),
+            self.box_length(self.next),
+        ];
+        if [block, inbox, outbox] == stated {
+            0
+        } else {
+            6
+        }
+    }
+
+    /// Call c: what it does to the state and the block, and the message to each controller.
+    fn call(&mut self, c: usize, block: &mut [u8], inbox: &[u8]) -> Vec<Message> {
+        let received = self.received(c - 1, inbox);
+        match wire::call_row(self.t as u128, c as u128) {
+            1 if self.own == self.sender => self.to_all(block.to_vec()),
+            1 => self.silence(),
+            2 => self.disperse(block, &received),
+            3 => self.to_all(self.marks(block, &received).to_le_bytes().to_vec()),
+            4 => {
+                self.matrix = vote::words(&vote::first(&received));
+                self.to_all(self.matrix_bytes())
+            }
+            5 => {
+                let (zeros, ones) = vote::seen(&received, self.t);
+                self.to_all([vote::bytes(&zeros), vote::bytes(&ones)].concat())
+            }
+            6 => self.hold(c / 3 - 1, &received),
+            7 => {
+                self.settle((c - 4) / 3, &received);
+                self.to_all(self.matrix_bytes())
+            }
+            8 => {
+                self.settle(self.t + 1, &received);
+                self.core = star::star(&self.matrix, self.n, self.t).e;
+                self.pieces_for_others(block)
+            }
+            9 => match self.own_or_received_piece(block, &received) {
+                Some(piece) => self.to_all(piece),
+                None => self.silence(),
+            },
+            10 => {
+                self.outcome = self.decode(block, inbox);
+                self.silence()
+            }
+            _ => unreachable!(),
+        }
+    }
+
+    /// The messages of round c from controller 1 on.
+    fn received(&self, c: usize, inbox: &[u8]) -> Vec<Message> {
+        let length = self.message_length(c) as u128;
+        (1..=self.n as u128)
+            .map(|j| match wire::message(inbox, length, j) {
+                [] => None,
+                message => Some(message.to_vec()),
+            })
+            .collect()
+    }
+
+    fn to_all(self, message: Vec<u8>) -> Vec<Message> {
+        vec![Some(message); self.n]
+    }
+
+    fn silence(&self) -> Vec<Message> {
+        vec![None; self.n]
+    }
+
+    /// Piece j of the coding of a block.
+    fn piece(&self, block: &[u8], j: usize) -> Vec<u8> {
+        let (n, t, k) = (self.n as u64, self.t as u64, self.k as u64);
+        let mut piece = vec![0; self.k];
+        assert_eq!(code::encode(n, t, k, j as u64, block, &mut piece), 0);
+        piece
+    }
+
+    /// Call 2: the block is the sender's message, zeros if absent; to j go the own piece and piece j.
+    fn disperse(&self, block: &mut [u8], received: &[Message]) -> Vec<Message> {
+        match &received[self.sender - 1] {
+            Some(message) => block.copy_from_slice(message),
+            None => block.fill(0),
+        }
+        let own = self.piece(block, self.own);
+        (1..=self.n)
+            .map(|j| Some([own.clone(), self.piece(block, j)].concat()))
+            .collect()
+    }
+
+    /// Call 3: the own bit, and that of each j whose two pieces are piece j of the own coding and the own piece.
+    fn marks(&self, block: &[u8], received: &[Message]) -> u16 {
+        let own = self.piece(block, self.own);
+        (1..=self.n)
+            .filter(|&j| {
+                let expected = [self.piece(block, j), own.clone()].concat();
+                j == self.own || received[j - 1].as_ref() == Some(&expected)
+            })
+            .map(|j| 1 << (j - 1))
+            .sum()
+    }
+
+    fn matrix_bytes(&self) -> Vec<u8> {
+        vote::bytes(&vote::from_words(self.n, &self.matrix))
+    }
+
+    /// After round 3p + 2: the bits held, and where they are weak; king p sends its matrix.
+    fn hold(&mut self, p: usize, received: &[Message]) -> Vec<Message> {
+        let (held, weak) = vote::held(received, self.t);
+        self.matrix = vote::words(&held);
+        self.weak = vote::words(&weak);
+        if self.own == p {
+            self.to_all(self.matrix_bytes())
+        } else {
+            self.silence()
+        }
+    }
+
+    /// After round 3p + 3: the bits of king p where weak.
+    fn settle(&mut self, p: usize, received: &[Message]) {
+        let held = vote::from_words(self.n, &self.matrix);
+        let weak = vote::from_words(self.n, &self.weak);
+        self.matrix = vote::words(&vote::settled(&held, &weak, &received[p - 1]));
+    }
+
+    /// The core's members, rising.
+    fn members(&self) -> Vec<usize> {
+        (1..=self.n)
+            .filter(|i| self.core >> (i - 1) & 1 == 1)
+            .collect()
+    }
+
+    /// Round 3t + 7: a member sends to j piece j of its own coding.
+    fn pieces_for_others(&self, block: &[u8]) -> Vec<Message> {
+        if !self.members().contains(&self.own) {
+            return self.silence();
+        }
+        (1..=self.n).map(|j| Some(self.piece(block, j))).collect()
+    }
+
+    /// Call 3t + 8: a member's own piece; another's is the one that at least t + 1 members sent, of several that of the lowest-numbered
+    /// member.
+    fn own_or_received_piece(&self, block: &[u8], received: &[Message]) -> Message {
+        let members = self.members();
+        if members.contains(&self.own) {
+            return Some(self.piece(block, self.own));
+        }
+        let pieces: Vec<&Vec<u8>> = members
+            .iter()
+            .filter_map(|i| received[i - 1].as_ref())
+            .collect();
+        let senders = |piece| pieces.iter().filter(|&&other| other == piece).count();
+        pieces
+            .iter()
+            .find(|&&piece| senders(piece) > self.t)
+            .map(|&piece| piece.clone())
+    }
+
+    /// The last call: the block that the inbox decodes to, zeros where there is no core or no such block.
+    fn decode(&self, block: &mut [u8], inbox: &[u8]) -> Outcome {
+        if self.members().is_empty() {
+            block.fill(0);
+            return Outcome::None;
+        }
+        match code::decode(self.n as u64, self.t as u64, self.k as u64, inbox, block) {
+            Decoded::Block => Outcome::Agreed,
+            Decoded::Beyond => Outcome::Beyond,
+            Decoded::Refused(number) => unreachable!("{number}"),
+        }
+    }
+}
+
+#[cfg(test)]
+mod tests {
+    use super::*;
+
+    /// n 4, t 1, k 1, own number 2, sender 1.
+    fn at(next: usize) -> State {
+        let (number, state) = start(4, 1, 1, 2, 1, &[0, 0]);
+        assert_eq!(number, 0);
+        State { next, ..state }
+    }
+
+    /// The slots of messages, an empty one absent.
+    fn slots(length: usize, messages: [&[u8]; 4]) -> Vec<u8> {
+        let mut inbox = vec![0; 4 * (1 + length)];
+        for (j, message) in messages.iter().enumerate() {
+            wire::send_one(&mut inbox, length, j + 1, message);
+        }
+        inbox
+    }
+
+    fn carried_out(state: State, block: &mut [u8], inbox: &[u8]) -> (State, Vec<u8>) {
+        let mut outbox = vec![0xa5; state.box_length(state.next)];
+        let (number, after) = step(state, block, inbox, &mut outbox);
+        assert_eq!((number, after.next), (0, state.next + 1));
+        (after, outbox)
+    }
+
+    #[test]
+    fn the_sender_sends_its_block() {
+        let mut block = [10, 20];
+        let (_, outbox) = carried_out(at(1), &mut block, &[]);
+        assert_eq!(outbox, [0; 12]);
+        let sender = State { own: 1, ..at(1) };
+        let (_, outbox) = carried_out(sender, &mut block, &[]);
+        assert_eq!(outbox, slots(2, [&[10, 20]; 4]));
+    }
+
+    /// Example c of document 01: 0a14 codes to 1e 22 36 5a.
+    #[test]
+    fn pieces_and_marks() {
+        let mut block = [0, 0];
+        let inbox = slots(2, [&[0x0a, 0x14], &[1, 2], &[], &[3, 4]]);
+        let (state, outbox) = carried_out(at(2), &mut block, &inbox);
+        assert_eq!(block, [0x0a, 0x14]);
+        let sent = [0x1e, 0x22, 0x36, 0x5a].map(|piece| [0x22, piece]);
+        assert_eq!(outbox, slots(2, sent.each_ref().map(|m| &m[..])));
+        let inbox = slots(2, [&[0x1e, 0x22], &[], &[0x36, 0x23], &[0x5a, 0x22]]);
+        let (_, outbox) = carried_out(state, &mut block, &inbox);
+        assert_eq!(outbox, slots(2, [&[0b1011, 0]; 4]));
+    }
+
+    #[test]
+    fn what_lies_past_n_is_not_read() {
+        let full = State {
+            matrix: [0xffff; 16],
+            weak: [0xfff0; 16],
+            core: 0xfff0,
+            outcome: Outcome::Beyond,
+            ..at(7)
+        };
+        let (state, outbox) = carried_out(full, &mut [1, 2], &[0; 36]);
+        let rows = [15, 0, 15, 0, 15, 0, 15, 0];
+        assert_eq!(outbox, slots(8, [&rows; 4]));
+        assert_eq!((state.outcome, state.core), (Outcome::Open, 0xfff0));
+        assert_eq!(state.matrix[..5], [15, 15, 15, 15, 0]);
+        assert_eq!(state.weak, full.weak);
+        // a core of numbers past n is no core
+        let mut block = [1, 2];
+        let last = State { next: 12, ..full };
+        let (state, _) = carried_out(last, &mut block, &[1; 8]);
+        assert_eq!((state.outcome, block), (Outcome::None, [0, 0]));
+    }
+
+    #[test]
+    fn the_kings_bits_where_weak() {
+        let state = State {
+            matrix: [1; 16],
+            weak: [2; 16],
+            ..at(7)
+        };
+        let king = [255; 8];
+        let inbox = slots(8, [&king, &[], &[], &[]]);
+        let (after, _) = carried_out(state, &mut [0, 0], &inbox);
+        assert_eq!(after.matrix[..5], [3, 3, 3, 3, 0]);
+        // the others do not send in the round
+        let inbox = slots(8, [&[], &king, &king, &king]);
+        let (after, _) = carried_out(state, &mut [0, 0], &inbox);
+        assert_eq!(after.matrix[..5], [1, 1, 1, 1, 0]);
+    }
+
+    #[test]
+    fn the_piece_that_two_members_sent() {
+        let piece = |core, messages| {
+            let state = State { core, ..at(11) };
+            let (_, outbox) = carried_out(state, &mut [0x0a, 0x14], &slots(1, messages));
+            assert_eq!(outbox, outbox[..2].repeat(4));
+            (outbox[0] == 1).then_some(outbox[1])
+        };
+        assert_eq!(piece(0b1101, [&[7], &[8], &[7], &[8]]), Some(7));
+        assert_eq!(piece(0b1101, [&[7], &[8], &[8], &[8]]), Some(8));
+        // a slot from outside the core does not count
+        assert_eq!(piece(0b1001, [&[7], &[8], &[7], &[8]]), None);
+        // a member's piece is its own
+        assert_eq!(piece(0b0111, [&[7], &[7], &[7], &[7]]), Some(0x22));
+        assert_eq!(piece(0, [&[7], &[7], &[7], &[7]]), None);
+    }
+
+    /// Examples d and e of document 01.
+    #[test]
+    fn the_last_call() {
+        let decoded = |messages| {
+            let mut block = [1, 2];
+            let last = State { core: 1, ..at(12) };
+            let (state, _) = carried_out(last, &mut block, &slots(1, messages));
+            (state.outcome, block)
+        };
+        assert_eq!(
+            decoded([&[], &[0x22], &[0x36], &[0x5a]]),
+            (Outcome::Agreed, [0x0a, 0x14])
+        );
+        assert_eq!(
+            decoded([&[0x1e], &[0x22], &[0x37], &[0x5b]]),
+            (Outcome::Beyond, [0, 0])
+        );
+    }
+}
