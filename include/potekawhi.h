@@ -74,14 +74,14 @@ uint8_t potekawhi_start(size_t n, size_t t, size_t k, size_t own, size_t sender,
 /* Makes the next call of the run. `state` is what potekawhi_start or the step before wrote; `block` is the controller's block, which the
  * caller keeps for the whole run and which step overwrites in calls 2 and 3t + 9; `inbox` and `outbox` are as long as
  * potekawhi_inbox_length and potekawhi_outbox_length say of the call, and all of `outbox` is written.
- * Answers 6 if `state` has another length than POTEKAWHI_STATE_LENGTH; else 7 if it has settings that are refused or a next call that is
- * not 1 to 3t + 10; else 8 if the run is at its end; else 6 if another lent length is wrong. Refused, nothing changes, and the step can
- * be made again. Every buffer of POTEKAWHI_STATE_LENGTH bytes is a state, damaged or not: step has an answer for it. */
+ * Answers 6 if `state` has another length than POTEKAWHI_STATE_LENGTH; else 7 if its settings or its own number are refused with one of 1 to
+ * 5, or its next call is not 1 to 3t + 10; else 8 if the run is at its end; else 6 if another lent length is wrong. Refused, nothing changes,
+ * and the step can be made again. Every buffer of POTEKAWHI_STATE_LENGTH bytes is a state, damaged or not: step has an answer for it. */
 uint8_t potekawhi_step(uint8_t *state, size_t state_length, uint8_t *block, size_t block_length, const uint8_t *inbox, size_t inbox_length,
                        uint8_t *outbox, size_t outbox_length);
 
-/* The number of the next call that `state` stands before: 1 to 3t + 9, or 3t + 10 at the end; 0 if `state` has another length than
- * POTEKAWHI_STATE_LENGTH. */
+/* The number of the next call that `state` stands before: in a run 1 to 3t + 9, or 3t + 10 at the end; in a damaged state whatever stands there.
+ * 0 if `state` has another length than POTEKAWHI_STATE_LENGTH. */
 size_t potekawhi_next_call(const uint8_t *state, size_t state_length);
 
 /* The outcome in `state`: one of POTEKAWHI_OUTCOME_..; 6 if `state` has another length than POTEKAWHI_STATE_LENGTH. */

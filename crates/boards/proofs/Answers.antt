@@ -149,7 +149,7 @@ module _ (state block out : List ℕ) where
         ap₂ returned is-r (is-v ∙ copied-all block out (f ∙ sym g))
         ∙ sym (cond-no (eqb (outcomeIn state) 0) (returned 0 out) (returned (outcomeIn state) block) (ne-eqb (outcomeIn state) 0 (λ z. n (is-r ∙ z)))) ∙ right
 
--- ---- the star
+-- ---- the sets of a star, written
 pub sets-written : (s : Sets) (sets v : List ℕ) → length sets ≡ 8 → v ≡ filled (rowByte 16 (setRows s)) (2 * min 16 16) sets → v ≡ setBytes s
 unfolding setBytes
 sets-written s sets v e is-v =

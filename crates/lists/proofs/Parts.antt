@@ -79,8 +79,8 @@ end-drop s l d e =
           (lt-or-le d (length l)),
     )
 
--- ---- slots of one width
--- slot j of n lies within the box
+-- ---- parts of one width, one behind the other
+-- part j of n lies within them
 pub slot-within : (n w j : ℕ) → j < n → j * w + w ≤ n * w
 slot-within n w j l = subst (λ (m : ℕ). m ≤ n * w) (suc-mul j w) (mul-le-mul-right w l)
 

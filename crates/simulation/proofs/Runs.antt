@@ -55,7 +55,7 @@ module _ (F : Scenario) where
   unfolding outboxOf
   cleared c = refl
 
--- ---- what is held
+-- ---- of what the others hold, only the outboxes of correct ones count
 module _ (F : Scenario) (c : ℕ) (now now′ : ℕ → Playing) (i : ℕ)
     (outboxes : (j : ℕ) → 1 ≤ j → j ≤ F .settings .n → F .faulty j ≡ false → now j .outbox ≡ now′ j .outbox) where
   slot-ext : (j : ℕ) → 1 ≤ j → j ≤ F .settings .n → slotTo F c now i j ≡ slotTo F c now′ i j
