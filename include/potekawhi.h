@@ -101,9 +101,11 @@ size_t potekawhi_message(const uint8_t *inbox, size_t inbox_length, size_t lengt
 uint8_t potekawhi_encode(size_t n, size_t t, size_t k, size_t number, const uint8_t *block, size_t block_length, uint8_t *piece,
                          size_t piece_length);
 
-/* The block whose coding agrees, in each stripe, with the pieces in `slots` in at least n - t places, to `block`. `slots` is n slots of
- * messages of k bytes; an absent one counts as a piece of zeros. `block` has k * (t + 1) bytes. Answers 0 and the block; POTEKAWHI_BEYOND
- * and zeros if there is no such block; or the first of 1, 2, 3, 6, and nothing changes. */
+/* The block from the pieces in `slots`, to `block`. `slots` is n slots of messages of k bytes; absent ones are dropped. With N slots present,
+ * it is the block in each stripe of which twice the number of present values that differ from its coding is at most N - t - 1: any t + 1 true
+ * pieces suffice if all other slots are absent, and with all n present up to (n - t - 1) / 2 may be false. With N at most t there is none.
+ * `block` has k * (t + 1) bytes. Answers 0 and the block; POTEKAWHI_BEYOND and zeros if there is no such block; or the first of 1, 2, 3, 6, and
+ * nothing changes. */
 uint8_t potekawhi_decode(size_t n, size_t t, size_t k, const uint8_t *slots, size_t slots_length, uint8_t *block, size_t block_length);
 
 /* The star of the neighbour graph of `rows`, 16 rows of marks of two bytes each, low byte first, of which the first n rows and of them the

@@ -1,4 +1,5 @@
-//! The code (document 01, 'Field and code'): coding by powers, decoding by trying sets of t + 1 slots, and the refusals of both.
+//! The code (document 01, 'Field and code'; decoding by document 02, U2): coding by powers, decoding by trying sets of t + 1 present slots, and
+//! the refusals of both.
 use crate::field;
 use std::sync::OnceLock;
 
@@ -61,20 +62,19 @@ fn through(points: &[(u8, u8)]) -> Vec<u8> {
     out
 }
 
-/// The sets of `size` of the numbers from `from` to n, in dictionary order, until `test` answers something.
+/// The sets of `size` of the points, in dictionary order, until `test` answers something.
 fn first_set<R>(
-    n: usize,
-    from: usize,
+    points: &[(u8, u8)],
     size: usize,
-    set: &mut Vec<usize>,
-    test: &impl Fn(&[usize]) -> Option<R>,
+    set: &mut Vec<(u8, u8)>,
+    test: &impl Fn(&[(u8, u8)]) -> Option<R>,
 ) -> Option<R> {
     if size == 0 {
         return test(set);
     }
-    for i in from..=n {
-        set.push(i);
-        let found = first_set(n, i + 1, size - 1, set, test);
+    for (i, &point) in points.iter().enumerate() {
+        set.push(point);
+        let found = first_set(&points[i + 1..], size - 1, set, test);
         set.pop();
         if found.is_some() {
             return found;
@@ -83,16 +83,14 @@ fn first_set<R>(
     None
 }
 
-/// The bytes of a stripe from the values received from 1 to n.
-fn stripe(values: &[u8], t: usize) -> Option<Vec<u8>> {
-    let n = values.len();
-    first_set(n, 1, t + 1, &mut Vec::new(), &|set| {
-        let points: Vec<(u8, u8)> = set.iter().map(|&i| (i as u8, values[i - 1])).collect();
-        let m = through(&points);
-        let agree = (1..=n)
-            .filter(|&i| value(&m, i as u8) == values[i - 1])
-            .count();
-        (agree >= n - t).then_some(m)
+/// The bytes of a stripe from its N present values, each with the number of its slot: twice the number of values that differ from the code
+/// of these bytes is at most N - t - 1.
+fn stripe(present: &[(u8, u8)], t: usize) -> Option<Vec<u8>> {
+    first_set(present, t + 1, &mut Vec::new(), &|set| {
+        let m = through(set);
+        let differs = |&&(i, received): &&(u8, u8)| value(&m, i) != received;
+        let differing = present.iter().filter(differs).count();
+        (2 * differing + t + 1 <= present.len()).then_some(m)
     })
 }
 
@@ -148,11 +146,12 @@ pub fn decode(n: u64, t: u64, k: u64, slots: &[u8], block: &mut [u8]) -> Decoded
     let (t, k) = (t as usize, k as usize);
     let mut all = Vec::new();
     for s in 0..k {
-        let values: Vec<u8> = slots
-            .chunks(1 + k)
-            .map(|slot| if slot[0] == 1 { slot[1 + s] } else { 0 })
+        let present: Vec<(u8, u8)> = (1..)
+            .zip(slots.chunks(1 + k))
+            .filter(|(_, slot)| slot[0] == 1)
+            .map(|(i, slot)| (i, slot[1 + s]))
             .collect();
-        match stripe(&values, t) {
+        match stripe(&present, t) {
             Some(m) => all.extend(m),
             None => {
                 block.fill(0);
@@ -197,6 +196,176 @@ mod tests {
     #[test]
     fn example_e() {
         assert_eq!(decoded([0x1e, 0x22, 0x37, 0x5b]), (Decoded::Beyond, [0, 0]));
+    }
+
+    /// n and t, each that is taken.
+    fn settings() -> impl Iterator<Item = (usize, usize)> {
+        (4..=16).flat_map(|n| (1..=(n - 1) / 3).map(move |t| (n, t)))
+    }
+
+    /// A block of k stripes, bytes without a pattern.
+    fn some_block(t: usize, k: usize) -> Vec<u8> {
+        (1..=k * (t + 1))
+            .map(|b| (b * b * b * 41 / 8) as u8)
+            .collect()
+    }
+
+    /// The slots of all pieces of a block.
+    fn slots(n: usize, t: usize, block: &[u8]) -> Vec<Vec<u8>> {
+        let k = block.len() / (t + 1);
+        let slot = |i| {
+            let mut slot = vec![1; 1 + k];
+            let (n, t, k) = (n as u64, t as u64, k as u64);
+            assert_eq!(encode(n, t, k, i, block, &mut slot[1..]), 0);
+            slot
+        };
+        (1..=n as u64).map(slot).collect()
+    }
+
+    /// The answer to slots, and the block, lent with ff.
+    fn answer(t: usize, slots: &[Vec<u8>]) -> (Decoded, Vec<u8>) {
+        let (n, k) = (slots.len(), slots[0].len() - 1);
+        let mut block = vec![0xff; k * (t + 1)];
+        let answer = decode(n as u64, t as u64, k as u64, &slots.concat(), &mut block);
+        (answer, block)
+    }
+
+    fn beyond(block: &[u8]) -> (Decoded, Vec<u8>) {
+        (Decoded::Beyond, vec![0; block.len()])
+    }
+
+    /// Document 02, U2.
+    #[test]
+    fn any_three_silent_of_seven() {
+        let block = some_block(2, 5);
+        let sets = (0..1u8 << 7).filter(|set| set.count_ones() == 3);
+        assert_eq!(sets.clone().count(), 35);
+        for set in sets {
+            let mut slots = slots(7, 2, &block);
+            for i in (0..7).filter(|i| set >> i & 1 == 1) {
+                slots[i].fill(0);
+            }
+            assert_eq!(
+                answer(2, &slots),
+                (Decoded::Block, block.clone()),
+                "{set:b}"
+            );
+        }
+    }
+
+    /// t 2: of five present pieces one may be false, of four none.
+    #[test]
+    fn one_false_of_those_present() {
+        let block = some_block(2, 3);
+        for wrong in 0..7 {
+            let mut slots = slots(7, 2, &block);
+            slots[wrong][2] ^= 0x40;
+            for other in [1, 2] {
+                slots[(wrong + other) % 7][0] = 0;
+            }
+            assert_eq!(answer(2, &slots), (Decoded::Block, block.clone()));
+            slots[(wrong + 3) % 7][0] = 0;
+            assert_eq!(answer(2, &slots), beyond(&block));
+        }
+    }
+
+    /// n 16, t 1: seven false pieces are corrected, eight are not.
+    #[test]
+    fn seven_false_of_sixteen() {
+        let block = some_block(1, 2);
+        let mut slots = slots(16, 1, &block);
+        for (i, slot) in (1..).zip(&mut slots[..7]) {
+            slot[1] ^= i;
+            slot[2] ^= 0xff - i;
+        }
+        assert_eq!(answer(1, &slots), (Decoded::Block, block.clone()));
+        slots[12][2] ^= 0x80;
+        assert_eq!(answer(1, &slots), beyond(&block));
+    }
+
+    /// As many false pieces as the rule allows, the first ones, are corrected, and one more gives another answer.
+    #[test]
+    fn false_pieces_at_the_edge() {
+        for (n, t) in settings() {
+            let block = some_block(t, 1);
+            for present in t + 1..=n {
+                let most = (present - t - 1) / 2;
+                let mut slots = slots(n, t, &block);
+                for slot in &mut slots[present..] {
+                    slot[0] = 0;
+                }
+                for slot in &mut slots[..most] {
+                    slot[1] ^= 0x11;
+                }
+                let expected = (Decoded::Block, block.clone());
+                assert_eq!(answer(t, &slots), expected, "{n} {t} {present}");
+                slots[most][1] ^= 0x11;
+                assert_ne!(answer(t, &slots), expected, "{n} {t} {present}");
+            }
+        }
+    }
+
+    /// All bytes of a stripe are tried: at most one pair is right, and it is the answer.
+    #[test]
+    fn right_bytes_of_all() {
+        let block = [0x0a, 0x14];
+        let (n, t) = (6, 1);
+        for (present, wrong) in (0..=n).flat_map(|p| (0..=p).map(move |w| (p, w))) {
+            let mut slots = slots(n, t, &block);
+            for slot in &mut slots[present..] {
+                slot[0] = 0;
+            }
+            for slot in &mut slots[..wrong] {
+                slot[1] ^= 0x35;
+            }
+            let right = |m: &[u8; 2]| {
+                let differs = |&i: &usize| value(m, i as u8 + 1) != slots[i][1];
+                2 * (0..present).filter(differs).count() + t + 1 <= present
+            };
+            let all = (0..=u16::MAX).map(u16::to_le_bytes);
+            let expected = match all.filter(right).collect::<Vec<_>>()[..] {
+                [] => beyond(&block),
+                [m] => (Decoded::Block, m.to_vec()),
+                _ => panic!("more than one"),
+            };
+            assert_eq!(answer(t, &slots), expected, "{present} {wrong}");
+        }
+    }
+
+    /// With t or fewer present there is no block, with t + 1 there is.
+    #[test]
+    fn few_present() {
+        for (n, t) in settings() {
+            let block = some_block(t, 2);
+            for present in 0..=t + 1 {
+                for first in [0, n - present] {
+                    let mut slots = slots(n, t, &block);
+                    for i in (0..n).filter(|i| !(first..first + present).contains(i)) {
+                        slots[i].fill(0);
+                    }
+                    let expected = if present > t {
+                        (Decoded::Block, block.clone())
+                    } else {
+                        beyond(&block)
+                    };
+                    assert_eq!(answer(t, &slots), expected, "{n} {t} {present}");
+                }
+            }
+        }
+    }
+
+    /// What stands behind another first byte than 01 is not read: false bytes do no harm there, and true ones do not help.
+    #[test]
+    fn absent_bytes_are_not_read() {
+        let block = some_block(1, 2);
+        for first in (0..=255).filter(|&byte| byte != 1) {
+            let mut slots = slots(4, 1, &block);
+            slots[0][0] = first;
+            slots[2] = vec![first, 0xee, 0xee];
+            assert_eq!(answer(1, &slots), (Decoded::Block, block.clone()));
+            slots[1][0] = first;
+            assert_eq!(answer(1, &slots), beyond(&block));
+        }
     }
 
     #[test]

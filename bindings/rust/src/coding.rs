@@ -45,14 +45,21 @@ pub enum Decoded {
     Beyond,
 }
 
-/// Writes the block whose coding agrees, in each stripe, with the pieces in `slots` in at least n - t places. `slots` is n slots of messages of
-/// k bytes; an absent one counts as a piece of zeros. `block` has k * (t + 1) bytes.
+/// Writes the block from the pieces in `slots`, n slots of messages of k bytes, of which absent ones are dropped. With N slots present, it is the
+/// block in each stripe of which twice the number of present values that differ from its coding is at most N - t - 1. With N at most t there
+/// is none. `block` has k * (t + 1) bytes.
+///
+/// Two true pieces suffice for t 1 if the other slots are silent:
 ///
 /// ```
-/// let slots = [0, 0, 1, 0x22, 1, 0x36, 1, 0x5a];
+/// use potekawhi::{decode, Decoded};
+///
 /// let mut block = [0; 2];
-/// assert_eq!(potekawhi::decode(4, 1, 1, &slots, &mut block), Ok(potekawhi::Decoded::Block));
+/// let slots = [0, 0, 1, 0x22, 0, 0, 1, 0x5a];
+/// assert_eq!(decode(4, 1, 1, &slots, &mut block), Ok(Decoded::Block));
 /// assert_eq!(block, [0x0a, 0x14]);
+/// let slots = [0, 0, 1, 0x22, 0, 0, 0, 0];
+/// assert_eq!(decode(4, 1, 1, &slots, &mut block), Ok(Decoded::Beyond));
 /// ```
 pub fn decode(
     n: usize,

@@ -13,7 +13,7 @@ use Rattle.wire.specs.Length.{blockLength}
 use Rattle.wire.specs.Slot.{layoutWith, messageOf}
 use Rattle.reed_solomon.specs.Encode.{pieceOf}
 use Rattle.reed_solomon.specs.Decode.{Decodes}
-use Rattle.reed_solomon.proofs.Laws.{length-piece, blocks-equal, pieces-decode}
+use Rattle.reed_solomon.proofs.Laws.{length-piece, blocks-equal, pieces-decode, present-count-le}
 
 -- a block: of the right length, and of bytes
 pub record IsBlock (k t : ℕ) (B : List ℕ) : Type 0 where
@@ -38,5 +38,5 @@ code-laws n t k v = record {
       (λ i l y. same-eq (pieceOf k t A (i + 1)) (pieceOf k t B (i + 1)) y) many;
   recovered = λ slots B is many.
       pieces-decode n t k slots B (λ i. same (messageOf slots (layoutWith k) (i + 1)) (pieceOf k t B (i + 1))) (is .size) (is .bytes)
-      (λ i l y. same-eq (messageOf slots (layoutWith k) (i + 1)) (pieceOf k t B (i + 1)) y) (omega (arith, many));
+      (λ i l y. same-eq (messageOf slots (layoutWith k) (i + 1)) (pieceOf k t B (i + 1)) y) (omega (arith, many, present-count-le n k slots, v .quorum .t-most));
 }

@@ -1,3 +1,4 @@
 -- The proofs of the tables.
 pub mod Proved
 pub mod Pairs
+pub mod Decoding

@@ -8,9 +8,9 @@ use lib.Dec.{lit<}
 use Rattle.lists.specs.Sum.{sum, count}
 use Rattle.lists.specs.Fill.{tabulate, filled}
 use Rattle.lists.specs.Join.{part}
+use Rattle.lists.specs.Select.{selected}
 use Rattle.bitset.specs.Set.{member, setOf, sizeOf}
 use Rattle.gf256.specs.Field.{gadd, gmul, ginv, gpow, polyMul, reduce}
-use Rattle.settings.specs.Valid.{Coded}
 use Rattle.settings.specs.Refusal.{outside, tooMany, broken, refusalOf, encodingRefusal, decodingRefusal, starRefusal}
 use Rattle.wire.specs.Length.{blockLength}
 use Rattle.wire.specs.Slot.{width, slotOf, holds, isPresent, messageOf}
@@ -18,10 +18,10 @@ use Rattle.polynomial.specs.Polynomial.{Bytes, gsum, evaluate, horner, plus, sc
 use Rattle.interpolation.specs.Interpolation.{wrongBy, combine, withRoot, start, advance, next, run, smaller, reduced, series, candidate}
 use Rattle.reed_solomon.specs.Encode.{stripe, pieceOf, encodeRefusal, encodeOf}
 use Rattle.reed_solomon.specs.declared.Decoded.the-variants.{Block, Beyond}
-use Rattle.reed_solomon.specs.Decode.{received, agreeing, decodeRefusal}
+use Rattle.reed_solomon.specs.Decode.{hasPiece, received, presentCount, differing, decodeRefusal}
 use Rattle.reed_solomon.specs.First.{meets}
-use Rattle.reed_solomon.specs.Steps.{points, column, stripeOf, isFound}
-use Rattle.reed_solomon.proofs.Laws.{decode-0, meets-decodes, stripe-beyond}
+use Rattle.reed_solomon.specs.Steps.{points, column, differences, stripeOf, isFound}
+use Rattle.reed_solomon.proofs.Laws.{meets-decodes, stripe-beyond}
 use Rattle.phase_king.specs.Bit.{zeroSeen, oneSeen}
 use Rattle.graph.specs.Neighbour.{neighbour}
 use Rattle.matching.specs.Matching.{matched}
@@ -31,11 +31,7 @@ use Rattle.wire.specs.Round.{roundCount, roundKind}
 use Rattle.examples.specs.Examples.{fourPieces, decodes, Examples}
 
 -- ---- decoding, at n 4, t 1, k 1
-coded : Coded 4 1 1
-unfolding decodeRefusal decodingRefusal refusalOf outside tooMany broken blockLength width
-coded = decode-0 4 1 1 (fourPieces 0 0 0 0) (0 ∷ 0 ∷ []) refl .0
-
--- example d: the block is of bytes, and its code agrees with three of the pieces
+-- example d: the block is of bytes, and one of the four present pieces differs from its code
 bytes-d : Bytes (0x0a ∷ 0x14 ∷ [])
 bytes-d zero = lit< tt
 bytes-d (suc zero) = lit< tt
@@ -43,15 +39,15 @@ bytes-d (suc (suc i)) = lit< tt
 
 example-d : decodes 0x00 0x22 0x36 0x5a Block (0x0a ∷ 0x14 ∷ [])
 unfolding sum count gadd gmul gpow polyMul reduce outside tooMany broken refusalOf encodingRefusal decodingRefusal starRefusal blockLength width slotOf part
-    holds isPresent messageOf gsum evaluate stripe received agreeing meets decodeRefusal
+    holds isPresent messageOf gsum evaluate stripe hasPiece received presentCount differing meets decodeRefusal
 example-d = (refl, meets-decodes 4 1 1 (fourPieces 0x00 0x22 0x36 0x5a) (0x0a ∷ 0x14 ∷ []) refl bytes-d refl)
 
--- example e: the candidate for the stripe agrees with too few of the pieces, so no block meets the rule
+-- example e: too many of the pieces differ from the code of the candidate for the stripe, so no block meets the rule
 example-e : decodes 0x1e 0x22 0x37 0x5b Beyond (0 ∷ 0 ∷ [])
 unfolding sum count tabulate filled gadd gmul ginv gpow polyMul reduce outside tooMany broken refusalOf encodingRefusal decodingRefusal starRefusal
     blockLength width slotOf part holds isPresent messageOf gsum evaluate horner plus scale timesRoot wrongBy combine withRoot start advance next run smaller
-    reduced series candidate received agreeing points column stripeOf isFound decodeRefusal
-example-e = (refl, stripe-beyond 4 1 1 (fourPieces 0x1e 0x22 0x37 0x5b) coded 0 (omega arith) refl, refl)
+    reduced series candidate hasPiece received selected points column differences stripeOf isFound decodeRefusal
+example-e = (refl, stripe-beyond 4 1 1 (fourPieces 0x1e 0x22 0x37 0x5b) (omega arith) 0 (omega arith) refl, refl)
 
 pub examples : Examples
 unfolding sum count tabulate filled member setOf sizeOf gadd gmul gpow polyMul reduce outside tooMany broken refusalOf encodingRefusal decodingRefusal

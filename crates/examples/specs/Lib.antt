@@ -1,3 +1,4 @@
 -- The worked examples.
 pub mod Examples
 pub mod Pairs
+pub mod Decoding

@@ -6,4 +6,5 @@ pub mod Fills
 pub mod Table
 pub mod Sames
 pub mod Joins
+pub mod Selects
 pub mod Zeros

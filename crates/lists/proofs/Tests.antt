@@ -1,11 +1,11 @@
 -- Laws of tests (Bool): a test holds or fails, never both; what `&&`, `||` and `cond` say.
-use mathlib.Core.Path.{_≡_, refl, sym}
+use mathlib.Core.Path.{_≡_, refl, sym, ap, _∙_}
 use mathlib.Core.Logic.{_⊎_, inl, inr}
 use mathlib.Core.Bool.{Bool, true, false, cond, not, _&&_, _||_}
-use Prim.Native.Nat.{ℕ, suc, _≤_, _<_}
+use Prim.Native.Nat.{ℕ, zero, suc, _≤_, _<_}
 use native.Mathlib.Omega.{arith}
-use borrow.Author.Tests.{eq-eqb, eqb-true, eqb-false, ltb-true, ltb-false}
-use lib.Dec.{eqb, ltb}
+use borrow.Author.Tests.{eq-eqb, ne-eqb, eqb-true, eqb-false, le-leb, ltb-true, ltb-false}
+use lib.Dec.{eqb, leb, ltb}
 
 pub true≢false : true ≡ false → ⊥
 true≢false e = let z : _≡_ {A = ℕ} 0 1 = cc in omega arith
@@ -128,3 +128,8 @@ lt-or-le a b = go (ltb a b) refl
 
 pub eqb-comm : (a b : ℕ) → eqb a b ≡ eqb b a
 eqb-comm a b = bool-ext (eqb a b) (eqb b a) (λ e. eq-eqb b a (sym (eqb-true a b e))) (λ e. eq-eqb a b (sym (eqb-true b a e)))
+
+-- the two ways to ask whether there is something
+pub pos-test : (x : ℕ) → leb 1 x ≡ not (eqb x 0)
+pos-test zero = refl
+pos-test (suc x) = le-leb 1 (suc x) (omega arith) ∙ sym (ap not (ne-eqb (suc x) 0 (λ e. omega (arith, e))))

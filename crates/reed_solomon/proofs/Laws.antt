@@ -12,11 +12,11 @@
 --     decodes-unique                   at most one block meets the rule
 --     answers-unique                   so there is one answer, and one block that is left
 --     meets-decodes                    a block that passes the test `meets` meets the rule
---     stripe-beyond                    where the candidate for a stripe agrees in too few places, no block meets the rule
+--     stripe-beyond                    where the candidate for a stripe is not right, no block meets the rule; few-beyond: nor with at most t slots present
 --     rebuilt-decodes, rebuilt-block   `rebuilt` gives the block that meets the rule; rebuilt-none: or none where none does
 --     decodes-or-not                   a block meets the rule, or none does
---     pieces-decode                    a block whose piece stands in at least n - t of the slots meets the rule
+--     pieces-decode                    a block whose piece stands in enough slots meets the rule; present-count-le: at most n are present
 pub use Rattle.reed_solomon.proofs.Ready.{ready-yes, yes-ready}
 pub use Rattle.reed_solomon.proofs.Rule.{encode-0, encode-valid, encode-refused, length-piece, bytes-piece, getD-piece, blocks-equal, decode-0}
 pub use Rattle.reed_solomon.proofs.Rule.{0-decode, decodes-unique, answers-unique, meets-decodes, stripe-beyond, rebuilt-decodes, rebuilt-block}
-pub use Rattle.reed_solomon.proofs.Rule.{rebuilt-none, decodes-or-not, pieces-decode}
+pub use Rattle.reed_solomon.proofs.Rule.{few-beyond, rebuilt-none, decodes-or-not, pieces-decode, present-count-le}

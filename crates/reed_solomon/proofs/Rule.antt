@@ -1,54 +1,55 @@
 -- The decoding rule. The main laws: `decodes-unique` (at most one block meets it), `answers-unique` (so there is one answer), `found-block` and
 -- `found-none` (what the code finds is that block, or there is none), `rebuilt-block` and `rebuilt-none` (the same of the function `rebuilt`).
-use mathlib.Core.Path.{_≡_, refl, sym, ap, subst, _∙_}
-use mathlib.Core.Bool.{Bool, true, false}
+use mathlib.Core.Path.{_≡_, refl, sym, ap, ap₂, subst, _∙_}
+use mathlib.Core.Bool.{Bool, true, false, not, _&&_}
 use mathlib.Core.List.{List}
 use mathlib.Core.Option.{Option, none, some}
 use mathlib.Core.Logic.{_⊎_, inl, inr, ⊎-elim}
-use Prim.Native.Nat.{ℕ, _+_, _-_, _*_, _≤_, _<_}
+use Prim.Native.Nat.{ℕ, _+_, _*_, _≤_, _<_}
 use native.Mathlib.Omega.{arith}
 use borrow.Author.Tests.{eq-eqb, ne-eqb, eqb-true, eqb-false, le-leb, leb-true}
 use lib.Dec.{eqb, leb, lit<}
 use lib.ListN.{length, getD, replicate}
 use Rattle.lists.specs.Sum.{count}
-use Rattle.lists.proofs.Sums.{count-all, count-full, count-mono}
+use Rattle.lists.proofs.Sums.{count-le, count-all, count-none, count-full, count-mono, count-split}
 use Rattle.lists.proofs.Fills.{length-tabulate, getD-tabulate}
-use Rattle.lists.proofs.Tests.{true≢false, cond-yes, cond-no, lt-or-le}
+use Rattle.lists.proofs.Tests.{true≢false, fails, and-both, cond-yes, cond-no, lt-or-le}
 use Rattle.settings.specs.Refusal.{encodingRefusal, decodingRefusal}
 use Rattle.settings.specs.Valid.{Coded, Numbered}
 use Rattle.settings.proofs.Laws.{encoding-0, 0-encoding, decoding-0, 0-decoding}
 use Rattle.wire.specs.Length.{blockLength}
 use Rattle.wire.specs.Slot.{layoutWith, width, messageOf}
 use Rattle.wire.proofs.Laws.{block-length-is}
-use Rattle.polynomial.specs.Polynomial.{evaluate, Bytes, Points}
+use Rattle.polynomial.specs.Polynomial.{evaluate, Bytes}
 use Rattle.polynomial.proofs.Laws.{evaluate-lt, equal-of-values, past-end}
-use Rattle.interpolation.specs.Interpolation.{agreements, candidate}
-use Rattle.interpolation.proofs.Laws.{Units, recovers}
+use Rattle.interpolation.specs.Interpolation.{candidate}
+use Rattle.interpolation.proofs.Laws.{recovers}
 use Rattle.reed_solomon.specs.Encode.{stripe, pieceOf, encodeFits, encodeRefusal, encoded, encodeOf}
 use Rattle.reed_solomon.specs.declared.Decoded.{Decoded}
 use Rattle.reed_solomon.specs.declared.Decoded.the-variants.{Block, Beyond, Refused}
-use Rattle.reed_solomon.specs.Decode.{received, agreeing, Decodes, decodeFits, decodeRefusal, Answers, DecodesUnique, AnswersUnique}
+use Rattle.reed_solomon.specs.Decode.{hasPiece, received, presentCount, differing, Decodes, decodeFits, decodeRefusal, Answers, DecodesUnique}
+use Rattle.reed_solomon.specs.Decode.{AnswersUnique, PiecesDecode, FewBeyond}
 use Rattle.reed_solomon.specs.First.{firstBytes, meets, DecodesMeets, MeetsDecodes, rebuilt, RebuiltDecodes, RebuiltBlock, RebuiltNone}
-use Rattle.reed_solomon.specs.Steps.{points, column, stripeOf, isFound, Pointed, Tried, Found}
+use Rattle.reed_solomon.specs.Steps.{points, column, differences, isRight, stripeOf, isFound, Pointed, Tried, Found}
 use Rattle.reed_solomon.proofs.Sizes.{both-true, true-both}
 use Rattle.reed_solomon.proofs.First.{Right, first-right}
-use Rattle.reed_solomon.proofs.Stripes.{length-points, agreeing-points, units-points, points-points, different-numbers, length-stripe, bytes-stripe}
-use Rattle.reed_solomon.proofs.Stripes.{length-found, bytes-found, stripe-joined, block-joined}
+use Rattle.reed_solomon.proofs.Stripes.{length-points, differing-points, agreements-differences, units-points, points-points, different-numbers}
+use Rattle.reed_solomon.proofs.Stripes.{length-stripe, bytes-stripe, length-found, bytes-found, stripe-joined, block-joined}
 use Rattle.lists.specs.Join.{joined}
 use Rattle.lists.proofs.Joins.{joined-ext, length-joined, all-joined}
 
 -- ---- what the code tries is what the definition says
-pub tried-found : (t k : ℕ) (slots : List ℕ) (s : ℕ) (xs : List ℕ) (r : Bool) (m : List ℕ) → xs ≡ points (length xs) → Tried t xs (column k slots s xs) r m
-    → (m ≡ stripeOf (length xs) t k slots s) × (r ≡ isFound (length xs) t k slots s)
+pub tried-found : (t k : ℕ) (slots : List ℕ) (s : ℕ) (xs : List ℕ) (r : Bool) (m : List ℕ) → Tried t xs (column k slots s xs) r m
+    → (m ≡ stripeOf t k slots xs s) × (r ≡ isFound t k slots xs s)
 unfolding stripeOf isFound
-tried-found t k slots s xs r m e h =
-    let n = length xs in
-    let same : m ≡ candidate t (points n) (column k slots s (points n)) = h .message ∙ ap (λ z. candidate t z (column k slots s z)) e in (
-      same,
-      h .enough
-          ∙ ap (leb (n - t))
-          (ap (λ z. agreements z (column k slots s z) m) e ∙ agreeing-points n k slots s m ∙ ap (agreeing n k slots s) same),
-    )
+tried-found t k slots s xs r m h = (h .message, h .right ∙ ap (isRight t xs (column k slots s xs)) (h .message))
+
+-- with fewer than t + 1 points nothing is right
+pub few-found : (t k : ℕ) (slots xs : List ℕ) (s : ℕ) → length xs ≤ t → isFound t k slots xs s ≡ false
+unfolding isFound
+few-found t k slots xs s few =
+    fails (isFound t k slots xs s)
+    (λ e. omega (arith, leb-true (2 * differences xs (column k slots s xs) (stripeOf t k slots xs s) + t + 1) (length xs) e))
 
 module _ (n t k : ℕ) (slots : List ℕ) where
   -- ---- the number of the refusal table, and what 0 says
@@ -72,61 +73,85 @@ module _ (n t k : ℕ) (slots : List ℕ) where
       (true-both (length slots) (n * width (layoutWith k)) (length block) (blockLength k t) a b)
 
   -- ---- the rule and the candidate
-  module _ (v : Coded n t k) where
-    -- bytes that agree in at least n - t places are those that the function finds
-    stripe-found : (s : ℕ) (m : List ℕ) → Bytes m → length m ≡ t + 1 → n - t ≤ agreeing n k slots s m → stripeOf n t k slots s ≡ m
+  abbrev xs : List ℕ
+  xs = points n k slots
+
+  -- the rule at the points of the present slots
+  right-points : (s : ℕ) (m : List ℕ) → isRight t xs (column k slots s xs) m ≡ leb (2 * differing n k slots s m + t + 1) (presentCount n k slots)
+  right-points s m = ap₂ (λ d c. leb (2 * d + t + 1) c) (differing-points k slots s n m) (length-points n k slots)
+
+  -- where every stripe is found, the block meets the rule
+  found-decodes : ((s : ℕ) → s < k → isFound t k slots xs s ≡ true) → Decodes n t k slots (joined (stripeOf t k slots xs) k)
+  unfolding isFound
+  found-decodes h = record {
+    size = length-joined (t + 1) (stripeOf t k slots xs) k (λ s l. length-found t k slots xs s) ∙ sym (block-length-is k t);
+    bytes = all-joined (λ x. x < 256) (stripeOf t k slots xs) k (lit< tt) (λ s l. bytes-found t k slots xs s);
+    right = λ s l.
+        subst (λ m. 2 * differing n k slots s m + t + 1 ≤ presentCount n k slots)
+        (sym (stripe-joined t (stripeOf t k slots xs) k (λ s l. length-found t k slots xs s) s l))
+        (leb-true (2 * differing n k slots s (stripeOf t k slots xs s) + t + 1) (presentCount n k slots)
+        (sym (right-points s (stripeOf t k slots xs s)) ∙ h s l));
+  }
+
+  -- what the code found is a block that meets the rule
+  pub found-block : (block : List ℕ) → Found t k slots xs true block → Decodes n t k slots block
+  found-block block h =
+      subst (Decodes n t k slots) (sym (h .block-is refl))
+      (found-decodes (count-full k (isFound t k slots xs) (omega (arith, eqb-true (count k (isFound t k slots xs)) k (sym (h .all))))))
+
+  -- 1 .. n are different elements of the field
+  module _ (few : n < 256) where
+    -- bytes that are right are those that the candidate gives
+    stripe-found : (s : ℕ) (m : List ℕ) → Bytes m → length m ≡ t + 1 → 2 * differing n k slots s m + t + 1 ≤ presentCount n k slots → stripeOf t k slots xs s ≡ m
     unfolding stripeOf
-    stripe-found s m hm lm many =
-        recovers t (points n) (column k slots s (points n)) m (units-points n (omega (arith, v .quorum .n-most)))
-        (points-points n (omega (arith, v .quorum .n-most))) hm lm
-        (omega (arith, length-points n, agreeing-points n k slots s m, v .quorum .t-most))
+    stripe-found s m hm lm right =
+        recovers t xs (column k slots s xs) m (units-points n k slots few) (points-points n k slots few) hm lm
+        (omega (arith, length-points n k slots, differing-points k slots s n m, agreements-differences xs (column k slots s xs) m))
 
     module _ (block : List ℕ) (d : Decodes n t k slots block) where
-      each : (s : ℕ) → s < k → stripeOf n t k slots s ≡ stripe t block s
+      each : (s : ℕ) → s < k → stripeOf t k slots xs s ≡ stripe t block s
       each s l =
-          stripe-found s (stripe t block s) (bytes-stripe t block s (d .bytes)) (length-stripe k t block s (d .size ∙ block-length-is k t) l) (d .agrees s l)
+          stripe-found s (stripe t block s) (bytes-stripe t block s (d .bytes)) (length-stripe k t block s (d .size ∙ block-length-is k t) l) (d .right s l)
 
-      pub decodes-joined : block ≡ joined (stripeOf n t k slots) k
+      pub decodes-joined : block ≡ joined (stripeOf t k slots xs) k
       decodes-joined =
-          block-joined k t block (d .size ∙ block-length-is k t) ∙ joined-ext (stripe t block) (stripeOf n t k slots) k (λ s l. sym (each s l))
+          block-joined k t block (d .size ∙ block-length-is k t) ∙ joined-ext (stripe t block) (stripeOf t k slots xs) k (λ s l. sym (each s l))
 
-      decodes-found : (s : ℕ) → s < k → isFound n t k slots s ≡ true
+      decodes-found : (s : ℕ) → s < k → isFound t k slots xs s ≡ true
       unfolding isFound
       decodes-found s l =
-          le-leb (n - t) (agreeing n k slots s (stripeOf n t k slots s)) (subst (λ m. n - t ≤ agreeing n k slots s m) (sym (each s l)) (d .agrees s l))
+          right-points s (stripeOf t k slots xs s)
+          ∙ le-leb (2 * differing n k slots s (stripeOf t k slots xs s) + t + 1) (presentCount n k slots)
+          (subst (λ m. 2 * differing n k slots s m + t + 1 ≤ presentCount n k slots) (sym (each s l)) (d .right s l))
 
-    -- where a stripe's candidate does not agree in enough places, no block meets the rule
-    pub stripe-beyond : (s : ℕ) → s < k → isFound n t k slots s ≡ false → (B : List ℕ) → Decodes n t k slots B → ⊥
+    -- where a stripe's candidate is not right, no block meets the rule
+    pub stripe-beyond : (s : ℕ) → s < k → isFound t k slots xs s ≡ false → (B : List ℕ) → Decodes n t k slots B → ⊥
     stripe-beyond s l e B d = true≢false (sym (decodes-found B d s l) ∙ e)
 
-    -- where every stripe is found, the block meets the rule
-    found-decodes : ((s : ℕ) → s < k → isFound n t k slots s ≡ true) → Decodes n t k slots (joined (stripeOf n t k slots) k)
-    unfolding isFound
-    found-decodes h = record {
-      size = length-joined (t + 1) (stripeOf n t k slots) k (λ s l. length-found n t k slots s) ∙ sym (block-length-is k t);
-      bytes = all-joined (λ x. x < 256) (stripeOf n t k slots) k (lit< tt) (λ s l. bytes-found n t k slots s);
-      agrees = λ s l.
-          subst (λ m. n - t ≤ agreeing n k slots s m) (sym (stripe-joined t (stripeOf n t k slots) k (λ s l. length-found n t k slots s) s l))
-          (leb-true (n - t) (agreeing n k slots s (stripeOf n t k slots s)) (h s l));
-    }
+    -- where the code did not find every stripe, none does
+    pub found-none : (block : List ℕ) → Found t k slots xs false block → (B : List ℕ) → Decodes n t k slots B → ⊥
+    found-none block h B d = eqb-false (count k (isFound t k slots xs)) k (sym (h .all)) (count-all k (isFound t k slots xs) (decodes-found B d))
 
-    -- what the code found is the block that meets the rule
-    pub found-block : (block : List ℕ) → Found n t k slots true block → Decodes n t k slots block
-    found-block block h =
-        subst (Decodes n t k slots) (sym (h .block-is refl))
-        (found-decodes (count-full k (isFound n t k slots) (omega (arith, eqb-true (count k (isFound n t k slots)) k (sym (h .all))))))
-
-    -- where it did not find every stripe, none does
-    pub found-none : (block : List ℕ) → Found n t k slots false block → (B : List ℕ) → Decodes n t k slots B → ⊥
-    found-none block h B d = eqb-false (count k (isFound n t k slots)) k (sym (h .all)) (count-all k (isFound n t k slots) (decodes-found B d))
+-- fewer than t + 1 points: the code finds nothing
+pub few-points : (t k : ℕ) (slots xs block : List ℕ) → 1 ≤ k → length xs ≤ t → Found t k slots xs false block
+few-points t k slots xs block least few = record {
+  all =
+      sym
+      (ne-eqb (count k (isFound t k slots xs)) k
+      (λ e. omega (arith, count-none k (isFound t k slots xs) (λ s l. few-found t k slots xs s few))));
+  block-is = λ e. absurd (true≢false (sym e));
+}
 
 -- ---- at most one block meets the rule, and there is one answer
 pub decodes-unique : DecodesUnique
-decodes-unique n t k slots v B C d e = decodes-joined n t k slots v B d ∙ sym (decodes-joined n t k slots v C e)
+decodes-unique n t k slots few B C d e = decodes-joined n t k slots few B d ∙ sym (decodes-joined n t k slots few C e)
+
+pub few-beyond : FewBeyond
+few-beyond n t k slots least few B d = omega (arith, d .right 0 least)
 
 pub answers-unique : AnswersUnique
 answers-unique n t k slots before Block Block B C d e =
-    (refl, decodes-unique n t k slots (decode-0 n t k slots before (d .0) .0) B C (d .1) (e .1))
+    (refl, decodes-unique n t k slots (omega (arith, decode-0 n t k slots before (d .0) .0 .quorum .n-most)) B C (d .1) (e .1))
 answers-unique n t k slots before Block Beyond B C d e = absurd (e .1 B (d .1))
 answers-unique n t k slots before Block (Refused r) B C d e = absurd (e .1 (e .0 ∙ d .0))
 answers-unique n t k slots before Beyond Block B C d e = absurd (d .1 C (e .1))
@@ -137,23 +162,24 @@ answers-unique n t k slots before (Refused r) Beyond B C d e = absurd (d .1 (d .
 answers-unique n t k slots before (Refused r) (Refused q) B C d e = (ap Refused (d .0 ∙ sym (e .0)), d .2 ∙ sym (e .2))
 
 -- ---- the rule as a test
-agrees : (n t k : ℕ) → List ℕ → List ℕ → ℕ → Bool
-agrees n t k slots B s = leb (n - t) (agreeing n k slots s (stripe t B s))
+isStripeRight : (n t k : ℕ) → List ℕ → List ℕ → ℕ → Bool
+isStripeRight n t k slots B s = leb (2 * differing n k slots s (stripe t B s) + t + 1) (presentCount n k slots)
 
 pub decodes-meets : DecodesMeets
-unfolding meets agrees
+unfolding meets isStripeRight
 decodes-meets n t k slots B d =
-    eq-eqb (count k (agrees n t k slots B)) k
-    (count-all k (agrees n t k slots B) (λ s l. le-leb (n - t) (agreeing n k slots s (stripe t B s)) (d .agrees s l)))
+    eq-eqb (count k (isStripeRight n t k slots B)) k
+    (count-all k (isStripeRight n t k slots B)
+    (λ s l. le-leb (2 * differing n k slots s (stripe t B s) + t + 1) (presentCount n k slots) (d .right s l)))
 
 pub meets-decodes : MeetsDecodes
-unfolding meets agrees
+unfolding meets isStripeRight
 meets-decodes n t k slots B size bytes e = record {
   size = size;
   bytes = bytes;
-  agrees = λ s l.
-      leb-true (n - t) (agreeing n k slots s (stripe t B s))
-      (count-full k (agrees n t k slots B) (omega (arith, eqb-true (count k (agrees n t k slots B)) k e)) s l);
+  right = λ s l.
+      leb-true (2 * differing n k slots s (stripe t B s) + t + 1) (presentCount n k slots)
+      (count-full k (isStripeRight n t k slots B) (omega (arith, eqb-true (count k (isStripeRight n t k slots B)) k e)) s l);
 }
 
 -- ---- the block that meets the rule as a function
@@ -174,11 +200,11 @@ pub rebuilt-decodes : RebuiltDecodes
 rebuilt-decodes n t k slots B e = subst (Rebuilds n t k slots) e (rebuilds n t k slots)
 
 pub rebuilt-block : RebuiltBlock
-rebuilt-block n t k slots v B d = go (rebuilt n t k slots) (rebuilds n t k slots)
+rebuilt-block n t k slots few B d = go (rebuilt n t k slots) (rebuilds n t k slots)
   where
     go : (r : Option (List ℕ)) → Rebuilds n t k slots r → r ≡ some B
     go none h = absurd (h B d)
-    go (some C) h = ap some (decodes-unique n t k slots v C B h d)
+    go (some C) h = ap some (decodes-unique n t k slots few C B h d)
 
 pub rebuilt-none : RebuiltNone
 rebuilt-none n t k slots unmet = go (rebuilt n t k slots) (rebuilds n t k slots)
@@ -266,28 +292,52 @@ blocks-equal n t k b b′ same few l l′ h h′ equal many =
               (sym (getD-piece k t b (i + 1) s g) ∙ ap (λ p. getD p s 0) (equal i u e) ∙ getD-piece k t b′ (i + 1) s g)),
         ))
 
--- ---- true pieces in enough slots: `right` says of an index that its slot has the block's piece
-pub pieces-decode : (n t k : ℕ) (slots b : List ℕ) (right : ℕ → Bool) → length b ≡ blockLength k t → Bytes b
-    → ((i : ℕ) → i < n → right i ≡ true → messageOf slots (layoutWith k) (i + 1) ≡ pieceOf k t b (i + 1)) → n - t ≤ count n right → Decodes n t k slots b
-unfolding agreeing received
+-- ---- true pieces in enough slots
+module _ (n t k : ℕ) (slots b : List ℕ) (right : ℕ → Bool)
+    (true-piece : (i : ℕ) → i < n → right i ≡ true → messageOf slots (layoutWith k) (i + 1) ≡ pieceOf k t b (i + 1)) where
+  -- `right` says of an index that its slot has the block's piece: that slot is present, and its values are those of the code
+  right-present : 1 ≤ k → (i : ℕ) → i < n → right i ≡ true → hasPiece k slots (i + 1) ≡ true
+  unfolding hasPiece
+  right-present least i l e =
+      ap not
+      (ne-eqb (length (messageOf slots (layoutWith k) (i + 1))) 0
+      (λ z. omega (arith, z, ap length (true-piece i l e), length-piece k t b (i + 1))))
+
+  right-equal : (s : ℕ) → s < k → (i : ℕ) → i < n → right i ≡ true → eqb (evaluate (stripe t b s) (i + 1)) (received k slots s (i + 1)) ≡ true
+  unfolding received
+  right-equal s g i l e =
+      eq-eqb (evaluate (stripe t b s) (i + 1)) (getD (messageOf slots (layoutWith k) (i + 1)) s 0)
+      (sym (getD-piece k t b (i + 1) s g) ∙ ap (λ p. getD p s 0) (sym (true-piece i l e)))
+
+  -- so at most the other present ones differ
+  pub few-differ : (s : ℕ) → s < k → differing n k slots s (stripe t b s) + count n right ≤ presentCount n k slots
+  unfolding presentCount differing
+  few-differ s g =
+      let p : ℕ → Bool = λ i. hasPiece k slots (i + 1) in
+      let q : ℕ → Bool = λ i. eqb (evaluate (stripe t b s) (i + 1)) (received k slots s (i + 1)) in
+      omega (
+        arith,
+        count-split n p q,
+        count-mono n right (λ i. p i && q i) (λ i l e. and-both (p i) (q i) (right-present (omega (arith, g)) i l e) (right-equal s g i l e)),
+      )
+
+pub pieces-decode : PiecesDecode
 pieces-decode n t k slots b right l h true-piece many = record {
   size = l;
   bytes = h;
-  agrees = λ s g.
-      omega (
-        arith,
-        count-mono n right (λ i. eqb (evaluate (stripe t b s) (i + 1)) (getD (messageOf slots (layoutWith k) (i + 1)) s 0))
-            (λ i u e. eq-eqb (evaluate (stripe t b s) (i + 1)) (getD (messageOf slots (layoutWith k) (i + 1)) s 0)
-            (sym (getD-piece k t b (i + 1) s g) ∙ ap (λ p. getD p s 0) (sym (true-piece i u e)))),
-      );
+  right = λ s g. omega (arith, few-differ n t k slots b right true-piece s g);
 }
 
+pub present-count-le : (n k : ℕ) (slots : List ℕ) → presentCount n k slots ≤ n
+unfolding presentCount
+present-count-le n k slots = count-le n (λ i. hasPiece k slots (i + 1))
+
 -- ---- a guess
--- bytes that agree with all but t of the values are the candidate, however they were found
-pub guessed : (t : ℕ) (xs ys m : List ℕ) → Pointed t xs → Bytes m → length m ≡ t + 1 → leb (length xs - t) (agreements xs ys m) ≡ true → m ≡ candidate t xs ys
-guessed t xs ys m p hm lm many =
-    let few : length xs < 256 = omega (arith, p .most) in
+-- bytes that are right are the candidate, however they were found
+pub guessed : (t : ℕ) (xs ys m : List ℕ) → Pointed t xs → Bytes m → length m ≡ t + 1 → isRight t xs ys m ≡ true → m ≡ candidate t xs ys
+guessed t xs ys m p hm lm right =
     sym
-    (recovers t xs ys m (subst Units (sym (p .is)) (units-points (length xs) few))
-    (subst (λ (l : List ℕ). Points (length l) (λ i. getD l i 0)) (sym (p .is)) (points-points (length xs) few)) hm lm
-    (omega (arith, p .least, leb-true (length xs - t) (agreements xs ys m) many)))
+    (recovers t xs ys m
+    (record { positive = p .least; small = λ i l. omega (arith, p .most i l) })
+    (record { element = λ i l. omega (arith, p .most i l); different = p .different }) hm lm
+    (omega (arith, leb-true (2 * differences xs ys m + t + 1) (length xs) right, agreements-differences xs ys m)))

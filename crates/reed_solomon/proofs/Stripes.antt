@@ -1,7 +1,8 @@
--- Stripes and blocks, points and columns. The main laws: `block-joined`, a block is its stripes joined, and `agreeing-points`, places counted
--- over the list of points.
-use mathlib.Core.Path.{_≡_, sym, ap, ap₂, subst, _∙_}
-use mathlib.Core.List.{List}
+-- Stripes and blocks, points and columns. The main laws: `block-joined`, a block is its stripes joined, and `differing-points`, the values that
+-- differ counted over the list of points.
+use mathlib.Core.Path.{_≡_, sym, ap, _∙_}
+use mathlib.Core.Bool.{Bool, true, false, not}
+use mathlib.Core.List.{List, [], _∷_, _++_}
 use mathlib.Core.Logic.{⊎-elim}
 use Prim.Native.Nat.{ℕ, _+_, _*_, _≤_, _<_}
 use native.Mathlib.Omega.{arith}
@@ -10,7 +11,9 @@ use lib.ListN.{length, getD, take, drop, length-drop}
 use lib.Seq.{length-take-le, getD-take, getD-drop}
 use Rattle.lists.specs.Sum.{count}
 use Rattle.lists.specs.Join.{joined, part}
-use Rattle.lists.proofs.Sums.{count-ext}
+use Rattle.lists.proofs.Sums.{count-le, count-ext, count-not}
+use Rattle.lists.proofs.Selects.{Rising, selected-none, selected-yes, selected-no, rising-selected, rising-different, length-selected}
+use Rattle.lists.proofs.Selects.{count-selected}
 use Rattle.lists.proofs.Tests.{lt-or-le}
 use Rattle.lists.proofs.Fills.{length-tabulate, getD-tabulate}
 use Rattle.lists.proofs.Parts.{slot-within}
@@ -20,52 +23,84 @@ use Rattle.polynomial.proofs.Laws.{past-end}
 use Rattle.interpolation.specs.Interpolation.{agreements}
 use Rattle.interpolation.proofs.Laws.{Units, agreements-count, length-candidate, bytes-candidate}
 use Rattle.reed_solomon.specs.Encode.{stripe}
-use Rattle.reed_solomon.specs.Decode.{received, agreeing}
-use Rattle.reed_solomon.specs.Steps.{points, column, stripeOf}
+use Rattle.reed_solomon.specs.Decode.{hasPiece, received, presentCount, differing}
+use Rattle.reed_solomon.specs.Steps.{points, column, differences, stripeOf, Pointed}
 
 -- ---- points and columns
-pub length-points : (n : ℕ) → length (points n) ≡ n
+module _ (n k : ℕ) (slots : List ℕ) where
+  rising-points : Rising n (points n k slots)
+  unfolding points
+  rising-points = rising-selected (hasPiece k slots) n
+
+  pub points-yes : hasPiece k slots (n + 1) ≡ true → points (n + 1) k slots ≡ points n k slots ++ ((n + 1) ∷ [])
+  unfolding points
+  points-yes e = selected-yes (hasPiece k slots) n e
+
+  pub points-no : hasPiece k slots (n + 1) ≡ false → points (n + 1) k slots ≡ points n k slots
+  unfolding points
+  points-no e = selected-no (hasPiece k slots) n e
+
+  pub length-points : length (points n k slots) ≡ presentCount n k slots
+  unfolding points presentCount
+  length-points = length-selected (hasPiece k slots) n
+
+  pub points-le : length (points n k slots) ≤ n
+  unfolding presentCount
+  points-le = omega (arith, length-points, count-le n (λ i. hasPiece k slots (i + 1)))
+
+  -- the present slots' numbers are different points, enough where more than t are present
+  pub pointed-points : (t : ℕ) → n ≤ 16 → t ≤ 5 → t + 1 ≤ length (points n k slots) → Pointed t (points n k slots)
+  pointed-points t few few-faulty many = record {
+    least = rising-points .least;
+    most = λ i l. omega (arith, rising-points .most i l);
+    different = rising-different n (points n k slots) rising-points;
+    many = many;
+    few = omega (arith, points-le);
+    few-faulty = few-faulty;
+  }
+
+  pub units-points : n < 256 → Units (points n k slots)
+  units-points h = record { positive = rising-points .least; small = λ i l. omega (arith, rising-points .most i l) }
+
+  pub points-points : n < 256 → Points (length (points n k slots)) (λ i. getD (points n k slots) i 0)
+  points-points h = record {
+    element = λ i l. omega (arith, rising-points .most i l);
+    different = rising-different n (points n k slots) rising-points;
+  }
+
+pub points-none : (k : ℕ) (slots : List ℕ) → points 0 k slots ≡ []
 unfolding points
-length-points n = length-tabulate (λ i. i + 1) n
+points-none k slots = selected-none (hasPiece k slots)
 
-pub at-points : (n i : ℕ) → i < n → getD (points n) i 0 ≡ i + 1
-unfolding points
-at-points n i l = getD-tabulate (λ i. i + 1) n i 0 l
+module _ (k : ℕ) (slots : List ℕ) (s : ℕ) where
+  pub length-column : (xs : List ℕ) → length (column k slots s xs) ≡ length xs
+  unfolding column
+  length-column xs = length-tabulate (λ j. received k slots s (getD xs j 0)) (length xs)
 
-pub at-column : (n k : ℕ) (slots : List ℕ) (s i : ℕ) → i < n → getD (column k slots s (points n)) i 0 ≡ received k slots s (i + 1)
-unfolding column
-at-column n k slots s i l =
-    getD-tabulate (λ j. received k slots s (getD (points n) j 0)) (length (points n)) i 0 (subst (λ m. i < m) (sym (length-points n)) l)
-    ∙ ap (received k slots s) (at-points n i l)
+  differs : List ℕ → ℕ → Bool
+  differs m j = not (eqb (evaluate m j) (received k slots s j))
 
-pub length-column : (k : ℕ) (slots : List ℕ) (s : ℕ) (xs : List ℕ) → length (column k slots s xs) ≡ length xs
-unfolding column
-length-column k slots s xs = length-tabulate (λ j. received k slots s (getD xs j 0)) (length xs)
+  differences-column : (xs m : List ℕ) → differences xs (column k slots s xs) m ≡ count (length xs) (λ i. differs m (getD xs i 0))
+  unfolding column differences differs
+  differences-column xs m =
+      count-ext (length xs) (λ i. not (eqb (evaluate m (getD xs i 0)) (getD (column k slots s xs) i 0))) (λ i. differs m (getD xs i 0))
+      (λ i l. ap (λ y. not (eqb (evaluate m (getD xs i 0)) y)) (getD-tabulate (λ j. received k slots s (getD xs j 0)) (length xs) i 0 l))
 
-pub agreeing-points : (n k : ℕ) (slots : List ℕ) (s : ℕ) (m : List ℕ) → agreements (points n) (column k slots s (points n)) m ≡ agreeing n k slots s m
-unfolding agreeing
-agreeing-points n k slots s m =
-    let ys = column k slots s (points n) in
-    agreements-count (points n) ys m
-    ∙ ap (λ c. count c (λ i. eqb (evaluate m (getD (points n) i 0)) (getD ys i 0))) (length-points n)
-    ∙ count-ext n (λ i. eqb (evaluate m (getD (points n) i 0)) (getD ys i 0)) (λ i. eqb (evaluate m (i + 1)) (received k slots s (i + 1)))
-    (λ i l. ap₂ (λ x y. eqb (evaluate m x) y) (at-points n i l) (at-column n k slots s i l))
+  -- what differs at the points of the present slots is what the rule counts
+  pub differing-points : (n : ℕ) (m : List ℕ) → differences (points n k slots) (column k slots s (points n k slots)) m ≡ differing n k slots s m
+  unfolding points differing differs
+  differing-points n m = differences-column (points n k slots) m ∙ count-selected (hasPiece k slots) (differs m) n
 
--- 1 .. n are units, all different
-pub units-points : (n : ℕ) → n < 256 → Units (points n)
-units-points n h = record {
-  positive = λ i l. rw (at-points n i (subst (λ m. i < m) (length-points n) l)) (omega arith);
-  small = λ i l. rw (at-points n i (subst (λ m. i < m) (length-points n) l)) (omega (arith, length-points n));
-}
+pub differences-le : (xs ys m : List ℕ) → differences xs ys m ≤ length xs
+unfolding differences
+differences-le xs ys m = count-le (length xs) (λ i. not (eqb (evaluate m (getD xs i 0)) (getD ys i 0)))
 
-pub points-points : (n : ℕ) → n < 256 → Points (length (points n)) (λ i. getD (points n) i 0)
-points-points n h = record {
-  element = λ i l. rw (at-points n i (subst (λ m. i < m) (length-points n) l)) (omega (arith, length-points n));
-  different = λ i j l g e.
-      let p = at-points n i (subst (λ m. i < m) (length-points n) l) in
-      let q = at-points n j (subst (λ m. j < m) (length-points n) g) in
-      omega (arith, sym p ∙ e ∙ q);
-}
+-- a value agrees or differs
+pub agreements-differences : (xs ys m : List ℕ) → agreements xs ys m + differences xs ys m ≡ length xs
+unfolding differences
+agreements-differences xs ys m =
+    let same : ℕ → Bool = λ i. eqb (evaluate m (getD xs i 0)) (getD ys i 0) in
+    omega (arith, agreements-count xs ys m, count-not (length xs) same)
 
 pub different-numbers : (n : ℕ) → n < 256 → Points n (λ i. i + 1)
 different-numbers n h = record { element = λ i l. omega arith; different = λ i j l g e. omega arith }
@@ -85,13 +120,13 @@ bytes-stripe t block s h i =
     rw (past-end (take (t + 1) (drop (s * (t + 1)) block)) i (omega (arith, lib.ListN.length-take (t + 1) (drop (s * (t + 1)) block)))) (lit< tt))
     (lt-or-le i (t + 1))
 
-pub length-found : (n t k : ℕ) (slots : List ℕ) (s : ℕ) → length (stripeOf n t k slots s) ≡ t + 1
+pub length-found : (t k : ℕ) (slots xs : List ℕ) (s : ℕ) → length (stripeOf t k slots xs s) ≡ t + 1
 unfolding stripeOf
-length-found n t k slots s = length-candidate t (points n) (column k slots s (points n))
+length-found t k slots xs s = length-candidate t xs (column k slots s xs)
 
-pub bytes-found : (n t k : ℕ) (slots : List ℕ) (s : ℕ) → Bytes (stripeOf n t k slots s)
+pub bytes-found : (t k : ℕ) (slots xs : List ℕ) (s : ℕ) → Bytes (stripeOf t k slots xs s)
 unfolding stripeOf
-bytes-found n t k slots s = bytes-candidate t (points n) (column k slots s (points n))
+bytes-found t k slots xs s = bytes-candidate t xs (column k slots s xs)
 
 -- ---- stripes joined
 pub stripe-joined : (t : ℕ) (f : ℕ → List ℕ) (k : ℕ) → ((s : ℕ) → s < k → length (f s) ≡ t + 1) → (s : ℕ) → s < k → stripe t (joined f k) s ≡ f s

@@ -1,17 +1,24 @@
--- Decoding (document 01, 'Field and code'): the rule, and what a call answers.
---   received k slots s j                the value of stripe s in slot j: byte s of its message; an absent slot counts as a piece of zeros
---   agreeing n k slots s m              in how many of the places 1 .. n the code of m agrees with the received values of stripe s
---   Decodes n t k slots block           the rule: for each stripe, the bytes whose code agrees in at least n - t places
+-- Decoding (document 01, 'Field and code'; document 02, U2): the rule, and what a call answers.
+--   hasPiece k slots j                  slot j is present. An absent slot has no message, and no piece is empty
+--   received k slots s j                the value of stripe s in slot j: byte s of its message
+--   presentCount n k slots              how many of the slots 1 .. n are present: N in document 02
+--   differing n k slots s m             how many present values of stripe s differ from the code of m
+--   Decodes n t k slots block           the rule: for each stripe, twice the number of present values that differ from their code is at most N - t - 1.
+--                                       It is written as a sum, since with N at most t nothing is right
 --   decodeFits n t k slots block        the lent lengths are the stated ones: n slots of messages of k bytes, and a block
 --   decodeRefusal n t k slots block     the number of the refusal table's row, or 0 ('Turned down': decoding tries 1, 2, 3, 6)
 --   Answers n t k slots before d after  what a call answers, d, and leaves in the lent block: the block that meets the rule; beyond and zeros where
 --                                       none does; refused, the row's number, and the block as it was
---   DecodesUnique                       within the settings at most one block meets the rule (law `decodes-unique`)
+--   DecodesUnique                       at most one block meets the rule, whatever t and k are, where 1 .. n are different elements of the field (law
+--                                       `decodes-unique`)
 --   AnswersUnique                       so there is one answer, and one block that is left (law `answers-unique`)
+--   PiecesDecode                        a block meets the rule where N + t + 1 is at most twice the number of slots that have its piece (law
+--                                       `pieces-decode`)
+--   FewBeyond                           with at most t present, no block does (law `few-beyond`)
 use mathlib.Core.Path.{_≡_}
-use mathlib.Core.Bool.{Bool, _&&_}
+use mathlib.Core.Bool.{Bool, true, not, _&&_}
 use mathlib.Core.List.{List}
-use Prim.Native.Nat.{ℕ, _+_, _-_, _*_, _≤_, _<_}
+use Prim.Native.Nat.{ℕ, _+_, _*_, _≤_, _<_}
 use lib.Dec.{eqb}
 use lib.ListN.{length, getD, replicate}
 use Rattle.lists.specs.Sum.{count}
@@ -22,18 +29,24 @@ use Rattle.wire.specs.Slot.{layoutWith, width, messageOf}
 use Rattle.polynomial.specs.Polynomial.{evaluate, Bytes}
 use Rattle.reed_solomon.specs.declared.Decoded.{Decoded}
 use Rattle.reed_solomon.specs.declared.Decoded.the-variants.{Block, Beyond, Refused}
-use Rattle.reed_solomon.specs.Encode.{stripe}
+use Rattle.reed_solomon.specs.Encode.{stripe, pieceOf}
+
+unfoldable pub hasPiece : ℕ → List ℕ → ℕ → Bool
+hasPiece k slots j = not (eqb (length (messageOf slots (layoutWith k) j)) 0)
 
 unfoldable pub received : ℕ → List ℕ → ℕ → ℕ → ℕ
 received k slots s j = getD (messageOf slots (layoutWith k) j) s 0
 
-unfoldable pub agreeing : (n k : ℕ) → List ℕ → ℕ → List ℕ → ℕ
-agreeing n k slots s m = count n (λ i. eqb (evaluate m (i + 1)) (received k slots s (i + 1)))
+unfoldable pub presentCount : (n k : ℕ) → List ℕ → ℕ
+presentCount n k slots = count n (λ i. hasPiece k slots (i + 1))
+
+unfoldable pub differing : (n k : ℕ) → List ℕ → ℕ → List ℕ → ℕ
+differing n k slots s m = count n (λ i. hasPiece k slots (i + 1) && not (eqb (evaluate m (i + 1)) (received k slots s (i + 1))))
 
 pub record Decodes (n t k : ℕ) (slots block : List ℕ) : Type 0 where
   pub size : length block ≡ blockLength k t
   pub bytes : Bytes block
-  pub agrees : (s : ℕ) → s < k → n - t ≤ agreeing n k slots s (stripe t block s)
+  pub right : (s : ℕ) → s < k → 2 * differing n k slots s (stripe t block s) + t + 1 ≤ presentCount n k slots
 
 abbrev pub decodeFits : (n t k : ℕ) → List ℕ → List ℕ → Bool
 decodeFits n t k slots block = eqb (length slots) (n * width (layoutWith k)) && eqb (length block) (blockLength k t)
@@ -49,9 +62,19 @@ Answers n t k slots before Beyond after =
 Answers n t k slots before (Refused r) after = (r ≡ decodeRefusal n t k slots before) × (r ≡ 0 → ⊥) × (after ≡ before)
 
 abbrev pub DecodesUnique : Type 0
-DecodesUnique = (n t k : ℕ) (slots : List ℕ) → Coded n t k → (B C : List ℕ) → Decodes n t k slots B → Decodes n t k slots C → B ≡ C
+DecodesUnique = (n t k : ℕ) (slots : List ℕ) → n < 256 → (B C : List ℕ) → Decodes n t k slots B → Decodes n t k slots C → B ≡ C
 
 abbrev pub AnswersUnique : Type 0
 AnswersUnique =
     (n t k : ℕ) (slots before : List ℕ) (d e : Decoded) (B C : List ℕ) → Answers n t k slots before d B → Answers n t k slots before e C
     → (d ≡ e) × (B ≡ C)
+
+-- `right` says of the index i that slot i + 1 has the piece of B
+abbrev pub PiecesDecode : Type 0
+PiecesDecode =
+    (n t k : ℕ) (slots B : List ℕ) (right : ℕ → Bool) → length B ≡ blockLength k t → Bytes B
+    → ((i : ℕ) → i < n → right i ≡ true → messageOf slots (layoutWith k) (i + 1) ≡ pieceOf k t B (i + 1))
+    → presentCount n k slots + t + 1 ≤ 2 * count n right → Decodes n t k slots B
+
+abbrev pub FewBeyond : Type 0
+FewBeyond = (n t k : ℕ) (slots : List ℕ) → 1 ≤ k → presentCount n k slots ≤ t → (B : List ℕ) → Decodes n t k slots B → ⊥

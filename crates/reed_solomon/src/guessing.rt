@@ -73,7 +73,7 @@ fn coefficients(xs: &[u8], m: &mut [u8])
 }
 
 // A guess: the polynomial through the first values, into m. It is the right one if these are true; whether it is, is told by the number of
-// agreements, whatever is written here.
+// values that differ, whatever is written here.
 pub(crate) fn guess(xs: &[u8], ys: &[u8], m: &mut [u8])
     requires { ⌜ (length (now m) ≤ length (now xs)) × (length (now ys) ≡ length (now xs)) ⌝ }
     ensures { λ _. ⌜ Bytes (now (m .exit)) ⌝ }

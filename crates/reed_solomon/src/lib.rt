@@ -1,16 +1,16 @@
-// The Reed-Solomon code (document 01, 'Field and code'): one piece of a block's coding, and a block from n slots of pieces. It knows of the
-// field only its contracts and laws.
+// The Reed-Solomon code (document 01, 'Field and code'; document 02, U2): one piece of a block's coding, and a block from the present ones of n
+// slots of pieces. It knows of the field only its contracts and laws.
 mod guessing;
 
 ghost use mathlib.Core.Path.{_≡_};
-ghost use Prim.Native.Nat.{_+_, _-_, _*_, _≤_};
-ghost use lib.Dec.{eqb, leb};
+ghost use Prim.Native.Nat.{_+_, _*_, _≤_};
+ghost use lib.Dec.{eqb};
 ghost use lib.ListN.{length};
+ghost use Rattle.settings.specs.Valid.{Coded};
 ghost use Rattle.wire.specs.Length.{blockLength};
-ghost use Rattle.interpolation.specs.Interpolation.{agreements};
 ghost use Rattle.reed_solomon.specs.Encode.{pieceOf, encodeFits, encoded, encodeOf, isReady};
-ghost use Rattle.reed_solomon.specs.Decode.{received, decodeFits, decodeRefusal, Answers};
-ghost use Rattle.reed_solomon.specs.Steps.{points, column, Pointed, Tried, Found};
+ghost use Rattle.reed_solomon.specs.Decode.{hasPiece, received, decodeFits, decodeRefusal, Answers};
+ghost use Rattle.reed_solomon.specs.Steps.{points, column, differences, isRight, Pointed, Tried, Found, Listed};
 
 // What decoding answers; the block itself is in the lent bytes.
 pub enum Decoded {
@@ -19,10 +19,10 @@ pub enum Decoded {
     Refused(u8),
 }
 
-// At how many of the points xs the message m takes the value that ys has.
-fn agreements(xs: &[u8], ys: &[u8], m: &[u8]) -> usize
+// At how many of the points xs the message m does not take the value that ys has.
+fn differences(xs: &[u8], ys: &[u8], m: &[u8]) -> usize
     requires { ⌜ length (now ys) ≡ length (now xs) ⌝ }
-    ensures { λ r. ⌜ r ≡ agreements (now (xs .entry)) (now (ys .entry)) (now (m .entry)) ⌝ }
+    ensures { λ r. ⌜ r ≡ differences (now (xs .entry)) (now (ys .entry)) (now (m .entry)) ⌝ }
 {
     let mut count: usize = 0;
     let mut i: usize = 0;
@@ -30,7 +30,39 @@ fn agreements(xs: &[u8], ys: &[u8], m: &[u8]) -> usize
         let y = ys[i];
         let x = xs[i];
         i += 1;
-        if interpolation::evaluate(m, x) == y {
+        if interpolation::evaluate(m, x) != y {
+            count += 1;
+        }
+    }
+    count
+}
+
+// Whether the message m is right for the values ys at the points xs: twice the number of values that differ is at most xs.len() - t - 1.
+fn is_right(xs: &[u8], ys: &[u8], t: usize, m: &[u8]) -> bool
+    requires { ⌜ (length (now ys) ≡ length (now xs)) × (length (now xs) ≤ 16) × (t ≤ 5) ⌝ }
+    ensures { λ r. ⌜ r ≡ isRight t (now (xs .entry)) (now (ys .entry)) (now (m .entry)) ⌝ }
+{
+    2 * differences(xs, ys, m) + t + 1 <= xs.len()
+}
+
+// Whether slot j is present.
+fn has_piece(slots: &[u8], k: usize, j: usize) -> bool
+    ensures { λ r. ⌜ r ≡ hasPiece k (now (slots .entry)) j ⌝ }
+{
+    1 <= wire::message(slots, wire::layout_with(k), j).len()
+}
+
+// The points of the present ones of n slots, rising, into the front of xs; how many they are.
+fn list_points(n: usize, k: usize, slots: &[u8], xs: &mut [u8]) -> usize
+    requires { ⌜ (n ≤ 16) × (n ≤ length (now xs)) ⌝ }
+    ensures { λ r. ⌜ Listed n k (now (slots .entry)) r (now (xs .exit)) ⌝ }
+{
+    let mut count: usize = 0;
+    let mut j: usize = 0;
+    while j < n {
+        j += 1;
+        if has_piece(slots, k, j) {
+            xs[count] = j as u8;
             count += 1;
         }
     }
@@ -60,20 +92,7 @@ fn gather(slots: &[u8], k: usize, s: usize, xs: &[u8], ys: &mut [u8])
     }
 }
 
-// The points 1, 2, ..
-fn number_points(xs: &mut [u8])
-    requires { ⌜ length (now xs) ≤ 16 ⌝ }
-    ensures { λ _. ⌜ now (xs .exit) ≡ points (length (now (xs .entry))) ⌝ }
-{
-    let mut i: usize = 0;
-    while i < xs.len() {
-        xs[i] = (i + 1) as u8;
-        i += 1;
-    }
-}
-
-// The bytes of stripe s from the values at the points xs, into m, by way of ys; whether their code agrees with all but t of the values. First
-// the guess is tried.
+// The bytes of stripe s from the values at the points xs, into m, by way of ys; whether they are right. First the guess is tried.
 fn decode_column(
     slots: &[u8],
     t: usize,
@@ -88,11 +107,11 @@ fn decode_column(
 {
     gather(slots, k, s, xs, ys);
     guessing::guess(xs, ys, m);
-    if enough(xs.len(), t, agreements(xs, ys, m)) {
+    if is_right(xs, ys, t, m) {
         return true;
     }
     interpolation::candidate(xs, ys, m);
-    enough(xs.len(), t, agreements(xs, ys, m))
+    is_right(xs, ys, t, m)
 }
 
 // The same, with bytes of its own for the values.
@@ -105,20 +124,10 @@ fn decode_stripe(slots: &[u8], t: usize, k: usize, s: usize, xs: &[u8], m: &mut 
     decode_column(slots, t, k, s, xs, &mut ys[..n], m)
 }
 
-// Whether `count` is at least n - t.
-fn enough(n: usize, t: usize, count: usize) -> bool
-    ensures { λ r. ⌜ r ≡ leb (n - t) count ⌝ }
-{
-    if n < t {
-        return true;
-    }
-    n - t <= count
-}
-
 // The stripes of a block, one after the other, from the values at the points xs; whether each was found. The rest of the block stays.
 fn decode_stripes(slots: &[u8], t: usize, k: usize, xs: &[u8], block: &mut [u8]) -> bool
     requires { ⌜ Pointed t (now xs) × (k ≤ 128) × (length (now block) ≡ k * (t + 1)) ⌝ }
-    ensures { λ r. ⌜ Found (length (now (xs .entry))) t k (now (slots .entry)) r (now (block .exit)) ⌝ }
+    ensures { λ r. ⌜ Found t k (now (slots .entry)) (now (xs .entry)) r (now (block .exit)) ⌝ }
 {
     let mut s: usize = 0;
     while s < k {
@@ -132,13 +141,23 @@ fn decode_stripes(slots: &[u8], t: usize, k: usize, xs: &[u8], block: &mut [u8])
     true
 }
 
-// The same at the points 1, 2, .., which are written to xs.
-fn decode_points(slots: &[u8], t: usize, k: usize, xs: &mut [u8], block: &mut [u8]) -> bool
-    requires { ⌜ (length (now xs) ≤ 16) × (3 * t + 1 ≤ length (now xs)) × (k ≤ 128) × (length (now block) ≡ k * (t + 1)) ⌝ }
-    ensures { λ r. ⌜ Found (length (now (xs .entry))) t k (now (slots .entry)) r (now (block .exit)) ⌝ }
+// The same from the present ones of n slots, whose points are written to xs. Fewer than t + 1 determine nothing.
+fn decode_present(
+    n: usize,
+    t: usize,
+    k: usize,
+    slots: &[u8],
+    xs: &mut [u8],
+    block: &mut [u8],
+) -> bool
+    requires { ⌜ Coded n t k × (n ≤ length (now xs)) × (length (now block) ≡ k * (t + 1)) ⌝ }
+    ensures { λ r. ⌜ Found t k (now (slots .entry)) (points n k (now (slots .entry))) r (now (block .exit)) ⌝ }
 {
-    number_points(xs);
-    decode_stripes(slots, t, k, xs, block)
+    let count = list_points(n, k, slots, xs);
+    if count <= t {
+        return false;
+    }
+    decode_stripes(slots, t, k, &xs[..count], block)
 }
 
 // Whether a list is exactly as long as a block of k stripes.
@@ -181,7 +200,7 @@ fn rebuild(n: usize, t: usize, k: usize, slots: &[u8], block: &mut [u8]) -> Deco
     ensures { λ r. ⌜ Answers n t k (now (slots .entry)) (now (block .entry)) r (now (block .exit)) ⌝ }
 {
     let mut xs = [0u8; 16];
-    if decode_points(slots, t, k, &mut xs[..n], block) {
+    if decode_present(n, t, k, slots, &mut xs, block) {
         return Decoded::Block;
     }
     let end = block.len();
@@ -189,10 +208,11 @@ fn rebuild(n: usize, t: usize, k: usize, slots: &[u8], block: &mut [u8]) -> Deco
     Decoded::Beyond
 }
 
-// Decoding: the block whose code agrees, in each stripe, with the pieces in the n slots in at least n - t places, into the lent block; beyond
-// and zeros where there is none. The relation determines the answer and the block that is left: at most one block meets the rule (laws
-// `decodes-unique`, `answers-unique`).
-// Shut out: must-fail/one_agreement_less; must-fail/points_off_by_one; must-fail/beyond_keeps_the_block; must-fail/refusal_clears_the_block.
+// Decoding: the block in each stripe of which twice the number of present values that differ from their code is at most N - t - 1, with N of the n
+// slots present, into the lent block; beyond and zeros where there is none. The relation determines the answer and the block that is left: at
+// most one block meets the rule (laws `decodes-unique`, `answers-unique`).
+// Shut out: must-fail/bound_off_by_one; must-fail/absent_as_zeros; must-fail/absent_differ; must-fail/points_renumbered;
+// must-fail/beyond_keeps_the_block; must-fail/refusal_clears_the_block.
 pub fn decode(n: usize, t: usize, k: usize, slots: &[u8], block: &mut [u8]) -> Decoded
     ensures { λ r. ⌜ Answers n t k (now (slots .entry)) (now (block .entry)) r (now (block .exit)) ⌝ }
 {

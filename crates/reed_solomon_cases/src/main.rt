@@ -1,8 +1,9 @@
 // Codes and decodes blocks for each n from 4 to 16, each t that n allows and 1, 2, 32 and 128 stripes. A line `code` has n, t, k and a
 // digest of the n pieces. A line `decode` has n, t, k and how false pieces are made, then how many calls answered a block and how many beyond,
-// and a digest of all answers and blocks: up to t + 1 pieces are false, at n 4 and n 7 every set of them, else scattered ones. Then come calls
-// that are refused or just taken, with a digest of all lent bytes after each, and examples c, d and e of document 01. The expected output
-// comes from the independent reference, which decodes by trying sets of t + 1 slots:
+// and a digest of all answers and blocks: any number of pieces are false or absent, at n 4 and n 7 every set of them, else scattered ones. Then
+// come calls that are refused or just taken, with a digest of all lent bytes after each, examples c, d and e of document 01, and at n 7 and t 2
+// the block from four true pieces (document 02, U2), and the answers with 0 to 3 of them. The expected output comes from the independent
+// reference, which decodes by trying sets of t + 1 present slots:
 //     cargo run --release --bin code_vectors > crates/reed_solomon_cases/stdout
 use reed_solomon::Decoded;
 ghost use mathlib.Core.Path.{_≡_};
@@ -375,9 +376,9 @@ fn scattered(n: usize, size: usize, seed: u64) -> u64
     mask
 }
 
-// How many sets of false slots are looked at: at n 4 and n 7 all sets, else two of each size to t + 1.
-fn set_count(n: usize, t: usize) -> usize
-    requires { ⌜ t ≤ 5 ⌝ }
+// How many sets of false slots are looked at: at n 4 and n 7 all sets, else two of each size.
+fn set_count(n: usize) -> usize
+    requires { ⌜ n ≤ 16 ⌝ }
 {
     if n == 4 {
         return 16;
@@ -385,7 +386,7 @@ fn set_count(n: usize, t: usize) -> usize
     if n == 7 {
         return 128;
     }
-    2 * (t + 2)
+    2 * (n + 1)
 }
 
 fn set_at(n: usize, seed: u64, x: usize) -> u64
@@ -397,18 +398,7 @@ fn set_at(n: usize, seed: u64, x: usize) -> u64
     scattered(n, x / 2, cases::mix(seed, x as u64))
 }
 
-fn size(x: u32) -> usize {
-    x as usize
-}
-
-// Whether a set has at most t + 1 members.
-fn is_small(mask: u64, t: usize) -> bool
-    requires { ⌜ t ≤ 5 ⌝ }
-{
-    size(u64::count_ones(mask)) <= t + 1
-}
-
-// Set x of false slots, if it is small enough.
+// Set x of false slots.
 fn play_set(
     slots: &mut [u8],
     m: &mut [u8],
@@ -421,13 +411,9 @@ fn play_set(
 ) -> Tally
     requires { ⌜ (c .n ≤ 16) × (c .t ≤ 5) × (c .k ≤ 128) ⌝ }
 {
-    let mask = set_at(c.n, c.seed, x);
-    if !is_small(mask, c.t) {
-        return so_far;
-    }
     let mut with = c;
     with.seed = cases::mix(c.seed, x as u64);
-    with.mask = mask;
+    with.mask = set_at(c.n, c.seed, x);
     play(slots, m, block, other, out, with, so_far)
 }
 
@@ -441,7 +427,7 @@ fn play_sets(
 ) -> Tally
     requires { ⌜ (c .n ≤ 16) × (c .t ≤ 5) × (c .k ≤ 128) ⌝ }
 {
-    let end = set_count(c.n, c.t);
+    let end = set_count(c.n);
     let mut r = Tally {
         blocks: 0,
         beyond: 0,
@@ -652,12 +638,22 @@ fn example_piece(number: usize) {
     cases::newline();
 }
 
+fn example_decoded(name: &[u8], c: Case, slots: &[u8], block: &mut [u8]) {
+    let a = decode(c, slots, block);
+    cases::numbers(name, &[a as usize]);
+    cases::hex(block);
+    cases::newline();
+}
+
 fn example_slots(name: &[u8], slots: &[u8]) {
     let mut block = [255u8; 2];
-    let a = decode(case_of(4, 1, 1, 0), slots, &mut block);
-    cases::numbers(name, &[a as usize]);
-    cases::hex(&block);
-    cases::newline();
+    example_decoded(name, case_of(4, 1, 1, 0), slots, &mut block);
+}
+
+// Slots of seven controllers, t 2: those that are present have their pieces of 0a141e.
+fn example_present(name: &[u8], slots: &[u8]) {
+    let mut block = [255u8; 3];
+    example_decoded(name, case_of(7, 2, 1, 0), slots, &mut block);
 }
 
 // Examples c, d and e of document 01; example d with slot 1 absent too.
@@ -671,9 +667,34 @@ fn examples() {
     example_slots(b"e", b"\x01\x1e\x01\x22\x01\x37\x01\x5b");
 }
 
+// Three of seven silent, and at most t + 1 present.
+fn silent_examples() {
+    example_present(
+        b"silent",
+        b"\x00\xff\x01\x5a\x00\xff\x01\xa7\x01\xad\x00\xff\x01\xfd",
+    );
+    example_present(
+        b"present 0",
+        b"\x00\x00\x00\x00\x00\x00\x00\x00\x00\x00\x00\x00\x00\x00",
+    );
+    example_present(
+        b"present 1",
+        b"\x01\x00\x00\x00\x00\x00\x00\x00\x00\x00\x00\x00\x00\x00",
+    );
+    example_present(
+        b"present 2",
+        b"\x01\x00\x01\x5a\x00\x00\x00\x00\x00\x00\x00\x00\x00\x00",
+    );
+    example_present(
+        b"present 3",
+        b"\x01\x00\x01\x5a\x01\x50\x00\x00\x00\x00\x00\x00\x00\x00",
+    );
+}
+
 fn main() {
     play_all();
     try_encodings();
     try_decodings();
     examples();
+    silent_examples();
 }

@@ -24,7 +24,7 @@ use Rattle.wire.specs.Round.{roundKind, callKind, phaseOf}
 use Rattle.wire.specs.Slot.{width, slotOf, holds, isPresent, messageOf, written, slots, copied}
 use Rattle.polynomial.specs.Polynomial.{Bytes, gsum, evaluate}
 use Rattle.reed_solomon.specs.Encode.{stripe, pieceOf, isReady}
-use Rattle.reed_solomon.specs.Decode.{received, agreeing}
+use Rattle.reed_solomon.specs.Decode.{hasPiece, received, presentCount, differing}
 use Rattle.reed_solomon.specs.First.{meets}
 use Rattle.reed_solomon.proofs.Laws.{meets-decodes}
 use Rattle.dispersal.specs.Dispersal.{sentBlock, receivedBlock, twoPieces, sentPieces, isMarked, marksOf, marksMessage, sentMarks}
@@ -125,7 +125,7 @@ unfolding faulty-sender stepsOf lents tabulate filled sum count same gadd gmul g
     sentBlock receivedBlock twoPieces sentPieces isMarked marksOf marksMessage sentMarks zeroSeen oneSeen held support weak settled matrixOf
     said kingSays firstMatrix zerosOf onesOf heldOf weakOf settledOf seenMessage sentByKing neighbour matched firstFound ofSize upTo matchingOf struck
     setC lacks setD atLeast setF setE setsFrom noSets isLarge starFrom refusalFor starOf inCore forwarded votes isChosen
-    chosenPiece ownPiece sentPiece shared callOf startRefusal startOf lengthsFit stepRefusal stepOf decodingRefusal received agreeing meets
+    chosenPiece ownPiece sentPiece shared callOf startRefusal startOf lengthsFit stepRefusal stepOf decodingRefusal hasPiece received presentCount differing meets
 faulty-sender-agreed = (
   ends 2 (record { least = omega arith; most = omega arith; is = refl }) refl refl,
   (

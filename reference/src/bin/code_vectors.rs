@@ -1,5 +1,6 @@
 //! The expected output of the program reed_solomon_cases, from the reference.
 use reference::code::{decode, encode, product, Decoded};
+use reference::simulator::hex;
 use reference::wire::send_one;
 
 struct Case {
@@ -101,18 +102,23 @@ impl Case {
         slots
     }
 
-    /// The sets of false slots: at n 4 and n 7 all up to t + 1, else two of each size to t + 1; with the seed of each.
+    /// The sets of slots that are false or absent: at n 4 and n 7 all, else two of each size from 0 to n; with the seed of each.
     fn sets(&self) -> Vec<(usize, u64)> {
         let seed = |x: usize| mix(self.seed, x as u64);
         if self.n == 4 || self.n == 7 {
-            return (0..1usize << self.n)
-                .filter(|mask| mask.count_ones() as usize <= self.t + 1)
-                .map(|mask| (mask, seed(mask)))
-                .collect();
+            return (0..1 << self.n).map(|mask| (mask, seed(mask))).collect();
         }
-        (0..2 * (self.t + 2))
+        (0..2 * (self.n + 1))
             .map(|x| (self.scattered(x / 2, seed(x)), seed(x)))
             .collect()
+    }
+
+    /// How many slots are present, and how many of these have a false byte. Pieces 1 to t of the other block are true.
+    fn present(&self, mask: usize, seed: u64) -> (usize, usize) {
+        let kinds = (0..self.n).map(|i| (i, self.kind(mask, seed, i)));
+        let present: Vec<_> = kinds.filter(|&(_, kind)| kind != 3).collect();
+        let differs = |&&(i, kind): &&(usize, usize)| kind != 0 && (kind != 4 || i >= self.t);
+        (present.len(), present.iter().filter(differs).count())
     }
 
     fn scattered(&self, size: usize, seed: u64) -> usize {
@@ -134,9 +140,14 @@ impl Case {
         for (mask, seed) in self.sets() {
             let slots = self.slots(&block, &other, mask, seed);
             let r = decode(n, t, k, &slots, &mut out);
+            let (present, differing) = self.present(mask, seed);
             // what the code promises
-            if mask.count_ones() as usize <= self.t {
+            let few = mask.count_ones() as usize <= self.t;
+            if few || 2 * differing + self.t + 1 <= present {
                 assert_eq!((r, &out), (Decoded::Block, &block));
+            }
+            if present <= self.t {
+                assert_eq!((r, &out), (Decoded::Beyond, &vec![0; block.len()]));
             }
             blocks += usize::from(r == Decoded::Block);
             beyond += usize::from(r == Decoded::Beyond);
@@ -280,7 +291,24 @@ const DECODES: [(u64, u64, u64, usize, usize); 35] = [
 fn example_slots(name: &str, slots: &[u8]) {
     let mut block = [255; 2];
     let r = decode(4, 1, 1, slots, &mut block);
-    println!("{name} {} {:02x}{:02x}", answer(r), block[0], block[1]);
+    println!("{name} {} {}", answer(r), hex(&block));
+}
+
+/// The pieces of a block with n 7, t 2 and k 1 in the slots that are present; the others hold the bytes given for them.
+fn example_silent(name: &str, present: impl Fn(u64) -> bool, absent: [u8; 2]) {
+    let slot = |i| {
+        let mut slot = [1, 0];
+        encode(7, 2, 1, i, &[0x0a, 0x14, 0x1e], &mut slot[1..]);
+        if present(i) {
+            slot
+        } else {
+            absent
+        }
+    };
+    let slots: Vec<u8> = (1..=7).flat_map(slot).collect();
+    let mut block = [255; 3];
+    let r = decode(7, 2, 1, &slots, &mut block);
+    println!("{name} {} {}", answer(r), hex(&block));
 }
 
 fn main() {
@@ -316,4 +344,8 @@ fn main() {
     example_slots("d", &[1, 0x00, 1, 0x22, 1, 0x36, 1, 0x5a]);
     example_slots("d", &[0, 0x1e, 1, 0x22, 1, 0x36, 1, 0x5a]);
     example_slots("e", &[1, 0x1e, 1, 0x22, 1, 0x37, 1, 0x5b]);
+    example_silent("silent", |i| ![1, 3, 6].contains(&i), [0, 0xff]);
+    for count in 0..=3 {
+        example_silent(&format!("present {count}"), |i| i <= count, [0, 0]);
+    }
 }

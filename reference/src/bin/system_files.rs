@@ -228,6 +228,17 @@ fn silent(files: &mut Files) {
     files.agreed("silent", head(&system) + &lines, &[1, 2, 3, 5, 7], &BLOCK);
 }
 
+/// More than t are faulty, three of seven, but only by silence in the last round: the four pieces that are present give the block (document
+/// 02, U2).
+fn silent_at_the_end(files: &mut Files) {
+    let system = with_choices(system(7, 2, 1, &BLOCK, &[2, 4, 7]), |c| match c.kind {
+        1 | 8 => None,
+        6 => c.king().then(|| c.honest.clone()),
+        _ => Some(c.honest.clone()),
+    });
+    files.agreed("silent_at_the_end", text(&system), &[1, 3, 5, 6], &BLOCK);
+}
+
 /// Sender 4 sends one block to 1, 2, 3, 5 and another to 6, and supports each towards those who hold it; 7 supports the other one towards
 /// all. The four and the sender make up the core, so that 6 ends with their block.
 fn two_faced_sender(files: &mut Files) {
@@ -823,6 +834,7 @@ fn main() {
     let block = &[0x0a, 0x14];
     files.agreed("document_01", EXAMPLE.to_string(), &[2, 3, 4], block);
     silent(&mut files);
+    silent_at_the_end(&mut files);
     two_faced_sender(&mut files);
     lying_kings(&mut files);
     last_kings(&mut files);

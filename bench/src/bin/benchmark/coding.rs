@@ -67,7 +67,7 @@ impl Case {
     fn decode_by_peer(&mut self) {
         self.decoded.fill(BEFORE);
         let slots = black_box(&self.slots);
-        let found = peer::decode(N, self.t, self.k, slots, black_box(&mut self.decoded));
+        let found = peer::decode(self.t, self.k, slots, black_box(&mut self.decoded));
         assert!(found);
     }
 
@@ -89,29 +89,46 @@ impl Case {
     }
 }
 
-/// Library and peer answer alike, also where pieces are absent, false in some stripes only, or too many for an answer.
+/// Library and peer answer alike, with slots absent, and with up to one false piece more than is corrected.
 fn compare_answers(random: &mut Random) {
     let mut beyond = 0;
-    for (t, wrong, absent) in (1..=5).flat_map(|t| {
-        (0..=t + 1).flat_map(move |wrong| (0..=2).map(move |absent| (t, wrong, absent)))
-    }) {
-        let mut case = Case::new(random, t, 8, &[]);
-        for i in random.choice(N, wrong) {
-            for s in 0..case.k {
-                case.slots[i * (1 + case.k) + 1 + s] ^= random.below(3) as u8;
+    for t in 1..=5 {
+        for present in [N, N - 1, N - 2, N - t, t + 1, t] {
+            let corrected = present.saturating_sub(t + 1) / 2;
+            for wrong in 0..=corrected + 1 {
+                let found = compare_answer(random, t, present, wrong);
+                beyond += usize::from(present > t && !found);
             }
         }
-        for i in random.choice(N, absent) {
-            case.slots[i * (1 + case.k)] = 0;
-        }
-        let mut by_peer = vec![!BEFORE; case.block.len()];
-        let number = raw::decode(N, t, case.k, &case.slots, &mut case.decoded);
-        let found = peer::decode(N, t, case.k, &case.slots, &mut by_peer);
-        assert_eq!(number, if found { 0 } else { raw::BEYOND });
-        assert_eq!(case.decoded, by_peer);
-        beyond += usize::from(!found);
     }
-    assert!(beyond > 0, "no case without an answer");
+    assert!(beyond > 0, "no case with too many false pieces");
+}
+
+/// One answer; whether it is a block. It is the coded one exactly where the rule allows so many false pieces, which are false in the first
+/// stripe and in some of the others.
+fn compare_answer(random: &mut Random, t: usize, present: usize, wrong: usize) -> bool {
+    let mut case = Case::new(random, t, 8, &[]);
+    let slots = random.choice(N, present);
+    for i in (0..N).filter(|i| !slots.contains(i)) {
+        case.slots[i * (1 + case.k)] = 0;
+    }
+    for i in random.choice(present, wrong) {
+        let piece = slots[i] * (1 + case.k) + 1;
+        case.slots[piece] ^= 1 + random.below(255) as u8;
+        for s in 1..case.k {
+            case.slots[piece + s] ^= random.below(3) as u8;
+        }
+    }
+    let mut by_peer = vec![!BEFORE; case.block.len()];
+    let number = raw::decode(N, t, case.k, &case.slots, &mut case.decoded);
+    let found = peer::decode(t, case.k, &case.slots, &mut by_peer);
+    assert_eq!(number, if found { 0 } else { raw::BEYOND });
+    assert_eq!(case.decoded, by_peer);
+    let right = 2 * wrong + t + 1 <= present;
+    assert_eq!(by_peer == case.block, right);
+    assert!(found || by_peer.iter().all(|&byte| byte == 0));
+    assert!(!found || present > t);
+    found
 }
 
 /// Table 1: decoding beside the peer.
@@ -140,7 +157,7 @@ pub fn against_peer() {
         }
     }
     let heading =
-        "1. Decoding a block, n 16, k 128, beside a peer that tries sets of t + 1 slots in dictionary order. Microseconds.
+        "1. Decoding a block, n 16, k 128, beside a peer that tries sets of t + 1 present slots in dictionary order. Microseconds.
 The false pieces are false in every byte. Each repetition has another block and, at random, other false pieces.
 The block is filled with a5 before each call, on both sides, within the time.";
     let names = "t | false pieces | library | min | max | peer | min | max | peer / library";

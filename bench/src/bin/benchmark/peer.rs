@@ -1,8 +1,9 @@
-//! What the library's decoding is compared with: for each stripe the sets of t + 1 slots are tried in dictionary order, and the first one
-//! whose polynomial agrees with the values in at least n - t places is the answer. It shares no code with the library or the reference.
+//! What the library's decoding is compared with: for each stripe the sets of t + 1 present slots are tried in dictionary order, until twice
+//! the number of present values that differ from a set's polynomial is at most N - t - 1, where N slots are present. It shares no code with
+//! the library or the reference.
 //!
-//! The coefficients of a set are computed once in a decoding and kept for the other stripes, and a set is given up as soon as more than t
-//! values differ.
+//! The coefficients of a set are computed once in a decoding and kept for the other stripes, and a set is given up as soon as too many values
+//! differ.
 
 /// The most points that there are.
 const POINTS: usize = 16;
@@ -62,29 +63,27 @@ fn dot<const M: usize>(a: &[u8; M], b: &[u16; M]) -> u8 {
     sum
 }
 
-/// Slot i, counted from 0, has the value at this point.
-fn point(i: usize) -> u8 {
-    i as u8 + 1
-}
-
-/// The value at the point of slot `other`, outside a set, as a sum: the exponents of the factors of the members' values.
+/// The value of a present slot outside a set, `other` by its index, as a sum: the exponents of the factors of the members' values.
 struct Row<const M: usize> {
     other: u8,
     factors: [u8; M],
 }
 
-/// The sets of M of n slots in dictionary order, as far as they were needed. Set x has the n - M rows from x * (n - M) on.
-struct Sets<const M: usize> {
-    n: usize,
+/// The sets of M of the N present slots in dictionary order, as far as they were needed, by the slots' indices among those present. Set x
+/// has the N - M rows from x * (N - M) on.
+struct Sets<'a, const M: usize> {
+    /// The numbers of the present slots, rising: at these points they have their values.
+    points: &'a [u8],
     members: Vec<[usize; M]>,
     rows: Vec<Row<M>>,
 }
 
-impl<const M: usize> Sets<M> {
-    fn new(n: usize) -> Self {
+impl<'a, const M: usize> Sets<'a, M> {
+    /// The first set; there are M points or more.
+    fn new(points: &'a [u8]) -> Self {
         let first = std::array::from_fn(|i| i);
         let mut sets = Sets {
-            n,
+            points,
             members: Vec::new(),
             rows: Vec::new(),
         };
@@ -92,10 +91,15 @@ impl<const M: usize> Sets<M> {
         sets
     }
 
+    /// How many present slots are outside a set.
+    fn others(&self) -> usize {
+        self.points.len() - M
+    }
+
     /// Adds the set behind the last one; whether there is one.
     fn add_next(&mut self) -> bool {
         let mut members = self.members[self.members.len() - 1];
-        let Some(i) = (0..M).rev().find(|&i| members[i] < self.n - M + i) else {
+        let Some(i) = (0..M).rev().find(|&i| members[i] < self.others() + i) else {
             return false;
         };
         let next = members[i] + 1;
@@ -108,9 +112,10 @@ impl<const M: usize> Sets<M> {
 
     /// Lagrange: the factor of member i for the point x is the product of x - y over the other members' points y, by the weight of i.
     fn add(&mut self, members: [usize; M]) {
-        let weights = weights(&members);
-        for other in (0..self.n).filter(|i| !members.contains(i)) {
-            let differences = members.map(|m| exponent(point(other) ^ point(m)));
+        let points = members.map(|m| self.points[m]);
+        let weights = weights(&points);
+        for other in (0..self.points.len()).filter(|i| !members.contains(i)) {
+            let differences = points.map(|point| exponent(self.points[other] ^ point));
             let all: u16 = differences.iter().sum();
             let factor = |i| (all + 2 * 255 - differences[i] - weights[i]) % 255;
             self.rows.push(Row {
@@ -121,16 +126,17 @@ impl<const M: usize> Sets<M> {
         self.members.push(members);
     }
 
-    /// Whether the polynomial through the values of set x differs from at most t, which is M - 1, of all values. The remainders by POINTS
-    /// change no index; with them no bound is tested.
+    /// Whether twice the number of present values that differ from the polynomial through the values of set x is at most N - t - 1, which is
+    /// N - M. The remainders by POINTS change no index; with them no bound is tested.
     fn agrees(&self, x: usize, values: &[u8; POINTS], exponents: &[u16; POINTS]) -> bool {
         let own = self.members[x].map(|m| exponents[m % POINTS]);
-        let others = self.n - M;
-        let mut differing = 0;
+        let others = self.others();
+        // so many differing values are too many
+        let mut left = others / 2 + 1;
         for row in &self.rows[x * others..(x + 1) * others] {
             let received = values[usize::from(row.other) % POINTS];
-            differing += usize::from(dot(&row.factors, &own) != received);
-            if differing >= M {
+            left -= usize::from(dot(&row.factors, &own) != received);
+            if left == 0 {
                 return false;
             }
         }
@@ -138,25 +144,25 @@ impl<const M: usize> Sets<M> {
     }
 }
 
-/// The exponents of the products of the differences of each member's point from those of the other members.
-fn weights<const M: usize>(members: &[usize; M]) -> [u16; M] {
-    members.map(|i| {
-        let others = members.iter().filter(|&&j| j != i);
-        others.map(|&j| exponent(point(i) ^ point(j))).sum::<u16>() % 255
+/// The exponents of the products of the differences of each point from the others.
+fn weights<const M: usize>(points: &[u8; M]) -> [u16; M] {
+    points.map(|x| {
+        let others = points.iter().filter(|&&y| y != x);
+        others.map(|y| exponent(x ^ y)).sum::<u16>() % 255
     })
 }
 
-/// The polynomial through the members' values: in row d the factors of the values for the coefficient of degree d.
-fn coefficients<const M: usize>(members: &[usize; M]) -> [[u8; M]; M] {
-    let weights = weights(members);
+/// The polynomial through values at points: in row d the factors of the values for the coefficient of degree d.
+fn coefficients<const M: usize>(points: &[u8; M]) -> [[u8; M]; M] {
+    let weights = weights(points);
     let mut rows = [[0; M]; M];
     for i in 0..M {
         let mut polynomial = [0; M];
         polynomial[0] = power(255 - weights[i]);
-        for &j in members.iter().filter(|&&j| j != members[i]) {
+        for &y in points.iter().filter(|&&y| y != points[i]) {
             for d in (0..M).rev() {
                 let below = if d == 0 { 0 } else { polynomial[d - 1] };
-                polynomial[d] = below ^ product(point(j), polynomial[d]);
+                polynomial[d] = below ^ product(y, polynomial[d]);
             }
         }
         for d in 0..M {
@@ -166,42 +172,57 @@ fn coefficients<const M: usize>(members: &[usize; M]) -> [[u8; M]; M] {
     rows
 }
 
-/// The block of n slots of a byte and a piece of k bytes, an absent piece read as zeros; whether there is one. Else the block is zeros.
-pub fn decode(n: usize, t: usize, k: usize, slots: &[u8], block: &mut [u8]) -> bool {
-    match t {
-        1 => decode_by::<2>(n, k, slots, block),
-        2 => decode_by::<3>(n, k, slots, block),
-        3 => decode_by::<4>(n, k, slots, block),
-        4 => decode_by::<5>(n, k, slots, block),
-        5 => decode_by::<6>(n, k, slots, block),
+/// The block of slots of a byte and a piece of k bytes, present where the byte is 01; whether there is one. Else the block is zeros.
+pub fn decode(t: usize, k: usize, slots: &[u8], block: &mut [u8]) -> bool {
+    let found = match t {
+        1 => decode_by::<2>(k, slots, block),
+        2 => decode_by::<3>(k, slots, block),
+        3 => decode_by::<4>(k, slots, block),
+        4 => decode_by::<5>(k, slots, block),
+        5 => decode_by::<6>(k, slots, block),
         _ => panic!("t is not 1 to 5"),
+    };
+    if !found {
+        block.fill(0);
     }
+    found
 }
 
-/// The same with sets of M slots, which is t + 1.
-fn decode_by<const M: usize>(n: usize, k: usize, slots: &[u8], block: &mut [u8]) -> bool {
-    let mut sets = Sets::<M>::new(n);
-    // the set that was right last, and its coefficients
-    let mut last = (0, coefficients(&sets.members[0]));
-    for s in 0..k {
-        let mut values = [0; POINTS];
-        for (value, slot) in values.iter_mut().zip(slots.chunks_exact(1 + k)) {
-            *value = if slot[0] == 1 { slot[1 + s] } else { 0 };
+/// The same with sets of M slots, which is t + 1, but for the zeros.
+fn decode_by<const M: usize>(k: usize, slots: &[u8], block: &mut [u8]) -> bool {
+    // the numbers of the present slots, and their values stripe by stripe
+    let mut points = Vec::with_capacity(POINTS);
+    let mut stripes = vec![[0; POINTS]; k];
+    for (point, slot) in (1..).zip(slots.chunks_exact(1 + k)) {
+        if slot[0] == 1 {
+            let i = points.len();
+            assert!(i < POINTS, "more slots than points");
+            for (values, &value) in stripes.iter_mut().zip(&slot[1..]) {
+                values[i] = value;
+            }
+            points.push(point);
         }
+    }
+    if points.len() < M {
+        return false;
+    }
+    let mut sets = Sets::<M>::new(&points);
+    // the set that was right last, and its coefficients
+    let mut last = (0, coefficients(&sets.members[0].map(|m| points[m])));
+    for (values, bytes) in stripes.iter().zip(block.chunks_exact_mut(M)) {
         let exponents = values.map(exponent);
         let mut x = 0;
-        while !sets.agrees(x, &values, &exponents) {
+        while !sets.agrees(x, values, &exponents) {
             x += 1;
             if x == sets.members.len() && !sets.add_next() {
-                block.fill(0);
                 return false;
             }
         }
-        if last.0 != x {
-            last = (x, coefficients(&sets.members[x]));
-        }
         let members = sets.members[x];
-        for (byte, row) in block[s * M..(s + 1) * M].iter_mut().zip(&last.1) {
+        if last.0 != x {
+            last = (x, coefficients(&members.map(|m| points[m])));
+        }
+        for (byte, row) in bytes.iter_mut().zip(&last.1) {
             let products = row.iter().zip(members);
             *byte = products.fold(0, |sum, (&c, m)| sum ^ product(c, values[m]));
         }

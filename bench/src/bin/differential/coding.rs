@@ -1,4 +1,4 @@
-//! encode and decode: right and wrong settings and lengths, false pieces up to t + 2, absent slots, random slots.
+//! encode and decode: right and wrong settings and lengths, any numbers of absent slots and of false pieces, random slots.
 use crate::compare::{wrong_length, Lent, Same, Tally};
 use crate::inputs::{self, EDGES};
 use crate::random::Random;
@@ -11,7 +11,12 @@ pub struct Counts {
     pub pieces: u64,
     pub encode_refused: u64,
     pub blocks: u64,
+    /// Blocks although in some stripe more than t values are false, and although more than t slots are absent.
+    pub many_false: u64,
+    pub many_absent: u64,
     pub beyonds: u64,
+    /// Beyond with at most t slots present.
+    pub few_present: u64,
     pub decode_refused: u64,
 }
 
@@ -55,20 +60,18 @@ pub fn decode(tally: &mut Tally, random: &mut Random, counts: &mut Counts) -> Sa
         k,
         ..State::default()
     };
-    let message = random.bytes(k * (t + 1));
-    let mut slots = Vec::new();
-    let pieces = match random.below(16) {
-        0 => (0..n).map(|_| random.bytes(k)).collect(),
-        1 => mixed(random, &coded, &message),
-        _ => {
-            let errors = random.within(0, t + 2);
-            inputs::false_pieces(random, &coded, &message, errors)
+    let message = inputs::some_block(random, k * (t + 1));
+    let mut slots = match random.below(16) {
+        0 => {
+            let pieces: Vec<_> = (0..n).map(|_| random.bytes(k)).collect();
+            some_absent(random, &pieces)
         }
+        1 if !inputs::costly(n, t, k) => {
+            let pieces = mixed(random, &coded, &message);
+            some_absent(random, &pieces)
+        }
+        _ => inputs::received(random, &coded, &message),
     };
-    let absent = random.pick(&[0, 0, 0, 1, 2, 8]);
-    for piece in pieces {
-        slots.extend(inputs::slot(random, &piece, absent));
-    }
     let mut block = random.bytes(k * (t + 1));
     let (mut n, mut t, mut k) = (n, t, k);
     if random.one_in(12) {
@@ -100,13 +103,47 @@ pub fn decode(tally: &mut Tally, random: &mut Random, counts: &mut Counts) -> Sa
         tally.same_lent("decode's block", &lent_block, &block)?;
         tally.same_lent("decode's slots", &lent_slots, &slots)
     };
-    compare().map_err(|text| format!("n {n}, t {t}, k {k}: {text}"))?;
+    let place = |text| format!("n {n}, t {t}, k {k}: {text}");
+    compare().map_err(place)?;
+    let present = || slots.chunks(1 + k).filter(|slot| slot[0] == 1).count();
     match answer {
-        0 => counts.blocks += 1,
-        255 => counts.beyonds += 1,
+        0 => {
+            let coded = State { n, t, k, ..coded };
+            let (present, differing) = (present(), most_differing(&coded, &slots, &block));
+            let right = 2 * differing + t + 1 <= present;
+            tally
+                .holds("2 * differing + t + 1 <= present", right)
+                .map_err(place)?;
+            counts.blocks += 1;
+            counts.many_false += u64::from(differing > t);
+            counts.many_absent += u64::from(n - present > t);
+        }
+        255 => {
+            counts.beyonds += 1;
+            counts.few_present += u64::from(present() <= t);
+        }
         _ => counts.decode_refused += 1,
     }
     Ok(())
+}
+
+/// The most present values of a stripe that differ from the code of a block.
+fn most_differing(state: &State, slots: &[u8], block: &[u8]) -> usize {
+    let mut differing = vec![0; state.k];
+    for (number, slot) in (1..).zip(slots.chunks(1 + state.k)) {
+        let piece = inputs::piece(state, number, block);
+        for s in (0..state.k).filter(|&s| slot[0] == 1 && slot[1 + s] != piece[s]) {
+            differing[s] += 1;
+        }
+    }
+    differing.into_iter().fold(0, usize::max)
+}
+
+/// The slots of pieces, all present or some absent.
+fn some_absent(random: &mut Random, pieces: &[Vec<u8>]) -> Vec<u8> {
+    let absent = random.pick(&[0, 0, 0, 1, 2, 8]);
+    let slot = |piece: &Vec<u8>| inputs::slot(random, piece, absent);
+    pieces.iter().flat_map(slot).collect()
 }
 
 /// Some pieces of one block and the others of a block that shares pieces with it.

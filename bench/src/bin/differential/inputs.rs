@@ -49,7 +49,7 @@ pub fn settings(random: &mut Random) -> (usize, usize, usize) {
     (n, t, k)
 }
 
-/// Whether the reference, which tries sets of t + 1 pieces, needs long for a block if pieces of low numbers are false.
+/// Whether the reference, which tries sets of t + 1 present pieces, needs long for a block if pieces of low numbers are false.
 pub fn costly(n: usize, t: usize, k: usize) -> bool {
     let sets = (0..=t).fold(1, |sets, i| sets * (n - i) / (i + 1));
     sets * k > 10_000
@@ -265,7 +265,12 @@ pub fn inbox(random: &mut Random, state: &State, block: &[u8]) -> Vec<u8> {
     if length == 0 {
         return Vec::new();
     }
-    let mut messages: Vec<Vec<u8>> = match wire::round_row(t as u128, round as u128) {
+    let row = wire::round_row(t as u128, round as u128);
+    if row == 8 {
+        let block = some_block(random, block.len());
+        return received(random, state, &block);
+    }
+    let mut messages: Vec<Vec<u8>> = match row {
         2 => (1..=n).map(|j| pieces(random, state, block, j)).collect(),
         4 | 5 => thresholds(random, n, t, length),
         7 => {
@@ -282,14 +287,6 @@ pub fn inbox(random: &mut Random, state: &State, block: &[u8]) -> Vec<u8> {
             (0..n)
                 .map(|_| pool[random.below(pool.len())].clone())
                 .collect()
-        }
-        8 => {
-            let mut block = random.bytes(block.len());
-            if random.one_in(8) {
-                block.fill(0);
-            }
-            let errors = random.within(0, t + 1);
-            false_pieces(random, state, &block, errors)
         }
         _ => (0..n).map(|_| random.bytes(length)).collect(),
     };
@@ -334,19 +331,36 @@ pub fn thresholds(random: &mut Random, n: usize, t: usize, length: usize) -> Vec
     messages
 }
 
-/// The pieces of a block, of which in each stripe the given number is false, mostly those of the same controllers; now and then fewer in
-/// all stripes but one.
-pub fn false_pieces(
-    random: &mut Random,
-    state: &State,
-    block: &[u8],
-    errors: usize,
-) -> Vec<Vec<u8>> {
+/// A random block, now and then of zeros, whose pieces differ from an absent slot of zeros in the first byte only.
+pub fn some_block(random: &mut Random, length: usize) -> Vec<u8> {
+    if random.one_in(8) {
+        vec![0; length]
+    } else {
+        random.bytes(length)
+    }
+}
+
+/// The slots of the pieces of a block, any number of them present. In each stripe some of the present ones are false, mostly those of the
+/// same controllers: any number, or up to as many as decoding corrects, or one more; now and then fewer in all stripes but one.
+pub fn received(random: &mut Random, state: &State, block: &[u8]) -> Vec<u8> {
     let State { n, t, k, .. } = *state;
-    let mut pieces: Vec<Vec<u8>> = (1..=n).map(|j| piece(state, j, block)).collect();
-    // the false ones come first
+    let count = if random.one_in(4) {
+        n
+    } else {
+        random.within(0, n)
+    };
+    let mut present = random.order(n)[..count].to_vec();
+    present.sort_unstable();
+    let corrected = count.saturating_sub(t + 1) / 2;
+    let errors = match random.below(4) {
+        0 => random.within(0, count),
+        1 => random.within(0, corrected),
+        2 => corrected,
+        _ => (corrected + 1).min(count),
+    };
+    // indices of `present`; the false ones come first
     let order = |random: &mut Random| {
-        let mut order = random.order(n);
+        let mut order = random.order(count);
         if costly(n, t, k) {
             order.sort_by_key(|&i| i <= t);
         }
@@ -355,15 +369,26 @@ pub fn false_pieces(
     let alike = order(random);
     let apart = random.one_in(4);
     let only = random.one_in(4).then(|| random.below(k));
+    let mut pieces: Vec<Vec<u8>> = (1..=n).map(|j| piece(state, j, block)).collect();
     for s in 0..k {
         let errors = match only {
-            Some(other) if other != s => random.below(t + 1).min(errors),
+            Some(other) if other != s => random.within(0, corrected.min(errors)),
             _ => errors,
         };
         let order = if apart { order(random) } else { alike.clone() };
-        for i in &order[..errors.min(n)] {
-            pieces[*i][s] ^= random.within(1, 255) as u8;
+        for &i in &order[..errors] {
+            pieces[present[i]][s] ^= random.within(1, 255) as u8;
         }
     }
-    pieces
+    let mut slots = Vec::new();
+    for (i, piece) in pieces.iter().enumerate() {
+        if present.contains(&i) {
+            slots.extend(slot(random, piece, 0));
+            continue;
+        }
+        let any = random.bytes(k);
+        let behind = if random.one_in(2) { piece } else { &any };
+        slots.extend(slot(random, behind, 16));
+    }
+    slots
 }

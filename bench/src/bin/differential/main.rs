@@ -25,7 +25,7 @@ const SYSTEMS: u64 = 12_000;
 const DAMAGED: u64 = 200_000;
 const STARTS: u64 = starts::COMBINATIONS;
 const ENCODES: u64 = 40_000;
-const DECODES: u64 = 30_000;
+const DECODES: u64 = 50_000;
 const STARS: u64 = 5_250;
 const MESSAGES: u64 = 40_000;
 
@@ -139,8 +139,14 @@ fn main() -> ExitCode {
         coding::decode(tally, random, &mut coding)
     });
     run.line(format!(
-        "decode: {} blocks, {} beyond, {} refused",
-        coding.blocks, coding.beyonds, coding.decode_refused
+        "decode: {} blocks, of them {} with more than t false pieces and {} with more than t absent; {} beyond, of them {} with at most t \
+         present; {} refused",
+        coding.blocks,
+        coding.many_false,
+        coding.many_absent,
+        coding.beyonds,
+        coding.few_present,
+        coding.decode_refused
     ));
 
     let mut stars = stars::Counts::default();

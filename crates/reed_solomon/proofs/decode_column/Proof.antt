@@ -1,11 +1,9 @@
--- `decode_column` meets its contract: a guess that agrees with enough values is the candidate.
+-- `decode_column` meets its contract: a guess that is right is the candidate.
 use Rattle.reed_solomon.proofs.Rule.{guessed}
 use Rattle.interpolation.proofs.Laws.{into-candidate}
-use Rattle.interpolation.specs.Interpolation.{candidate, agreements}
-use lib.ListN.{length}
-use lib.Dec.{leb}
+use Rattle.interpolation.specs.Interpolation.{candidate}
+use Rattle.reed_solomon.specs.Steps.{isRight}
 use native.Mathlib.Omega.{arith}
-use Prim.Native.Nat.{_-_}
 use mathlib.Core.Bool.{true}
 use mathlib.Core.Path.{_≡_, sym, ap, _∙_}
 use borrow.Author.Needs.{needs}
@@ -18,11 +16,8 @@ gather-requires c κs = search needs
 guess-requires : tie.Need-guess-requires
 guess-requires c κs = search needs
 
-agreements-requires : tie.Need-agreements-requires
-agreements-requires c κs = search needs
-
-enough-requires : tie.Need-enough-requires
-enough-requires c κs = search needs
+is-right-requires : tie.Need-is-right-requires
+is-right-requires c κs = search needs
 
 same-length : tie.Need-same-length
 same-length c = search needs
@@ -32,29 +27,24 @@ same-length-2 c = search needs
 
 returns : tie.Need-returns
 returns c =
-    let S = c .before .before .before .before .before .before .before .before .before .before .before .before .before .before .before .before .before .before in
+    let S = c .before .before .before .before .before .before .before .before .before .before .before .before .before .before .before .before .before in
     let a = S .args in
     let xs = a .xs .now in
-    let g = c .before .before .before .before .before .before .before .before .before .before .before .before .gather in
-    let d = c .before .before .before .before .before .before .before .guess in
+    let g = c .before .before .before .before .before .before .before .before .before .before .before .gather in
+    let d = c .before .before .before .before .before .before .guess in
     let m = d .last .1 .1 .0 in
-    let is : c .before .enough .result ≡ leb (length xs - a .t) (agreements xs (g .last .1 .1 .1 .1 .0) m)
-    = c .before .enough .ensures ∙ ap (leb (length xs - a .t)) (c .before .before .agreements .ensures) in
-    let many : leb (length xs - a .t) (agreements xs (g .last .1 .1 .1 .1 .0) m) ≡ true = sym is ∙ c .if1 .taken in
+    let right : isRight (a .t) xs (g .last .1 .1 .1 .1 .0) m ≡ true = sym (c .before .is-right .ensures) ∙ c .if1 .taken in
     record {
       message =
-          guessed (a .t) xs (g .last .1 .1 .1 .1 .0) m (S .pre .1) (d .ensures) (d .kept .1 .1 .0 ∙ S .pre .2) many ∙ ap (candidate (a .t) xs) (g .ensures);
-      enough = sym many ∙ ap (λ ys. leb (length xs - a .t) (agreements xs ys m)) (g .ensures);
+          guessed (a .t) xs (g .last .1 .1 .1 .1 .0) m (S .pre .1) (d .ensures) (d .kept .1 .1 .0 ∙ S .pre .2) right ∙ ap (candidate (a .t) xs) (g .ensures);
+      right = sym right ∙ ap (λ ys. isRight (a .t) xs ys m) (g .ensures);
     }
 
 candidate-requires : tie.Need-candidate-requires
 candidate-requires c κs = search needs
 
-agreements-requires-2 : tie.Need-agreements-requires-2
-agreements-requires-2 c κs = search needs
-
-enough-requires-2 : tie.Need-enough-requires-2
-enough-requires-2 c κs = search needs
+is-right-requires-2 : tie.Need-is-right-requires-2
+is-right-requires-2 c κs = search needs
 
 same-length-3 : tie.Need-same-length-3
 same-length-3 c = search needs
@@ -64,17 +54,19 @@ same-length-4 c = search needs
 
 returns-2 : tie.Need-returns-2
 returns-2 c =
-    let S = c .before .before .before .before .before .before .before .before .before .before .before .before .before .before .before .before .before .before .before .before .before .before .before .before .before .before .before in
+    let S = c .before .before .before .before .before .before .before .before .before .before .before .before .before .before .before .before .before .before .before .before .before .before .before .before .before in
     let a = S .args in
     let xs = a .xs .now in
-    let g = c .before .before .before .before .before .before .before .before .before .before .before .before .before .before .before .before .before .before .before .before .before .gather in
-    let m = c .before .before .before .before .before .before .candidate .last .1 .1 .0 in
+    let g = c .before .before .before .before .before .before .before .before .before .before .before .before .before .before .before .before .before .before .before .gather in
+    let d = c .before .before .before .before .before .before .before .before .before .before .before .before .before .before .guess in
+    let m = c .before .before .before .before .before .candidate .last .1 .1 .0 in
     record {
       message =
-          c .before .before .before .before .before .before .candidate .ensures
-          ∙ into-candidate xs (g .last .1 .1 .1 .1 .0) (c .before .before .before .before .before .before .before .before .before .before .before .before .before .before .before .before .guess .last .1 .1 .0) (a .t) (g .kept .1 .1 .1 .1 .0 ∙ S .pre .0) (c .before .before .before .before .before .before .before .before .before .before .before .before .before .before .before .before .guess .kept .1 .1 .0 ∙ S .pre .2) (omega (arith, S .pre .1 .most, S .pre .1 .least))
+          c .before .before .before .before .before .candidate .ensures
+          ∙ into-candidate xs (g .last .1 .1 .1 .1 .0) (d .last .1 .1 .0) (a .t) (g .kept .1 .1 .1 .1 .0 ∙ S .pre .0) (d .kept .1 .1 .0 ∙ S .pre .2)
+          (omega (arith, S .pre .1 .few, S .pre .1 .few-faulty))
           ∙ ap (candidate (a .t) xs) (g .ensures);
-      enough = c .enough2 .ensures ∙ ap (leb (length xs - a .t)) (c .before .agreements2 .ensures ∙ ap (λ ys. agreements xs ys m) (g .ensures));
+      right = c .is-right2 .ensures ∙ ap (λ ys. isRight (a .t) xs ys m) (g .ensures);
     }
 
 pub decode-column-spec : {M : Type 1} → statement M
@@ -83,14 +75,12 @@ decode-column-spec =
     (tie.spec
     gather-requires
     guess-requires
-    agreements-requires
-    enough-requires
+    is-right-requires
     same-length
     same-length-2
     returns
     candidate-requires
-    agreements-requires-2
-    enough-requires-2
+    is-right-requires-2
     same-length-3
     same-length-4
     returns-2)

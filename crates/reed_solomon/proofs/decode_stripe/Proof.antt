@@ -12,12 +12,12 @@ array-borrow-prefix-ys c = search needs
 slice-aggregate-decode-column : tie.Need-slice-aggregate-decode-column
 slice-aggregate-decode-column c =
     let S = c .before .before .before .before in
-    sym (length-front 16 (length (S .args .xs .now)) (S .pre .0 .most))
+    sym (length-front 16 (length (S .args .xs .now)) (S .pre .0 .few))
 
 decode-column-requires : tie.Need-decode-column-requires
 decode-column-requires c κs =
     let S = c .before .before .before .before .before in
-    (length-front 16 (length (S .args .xs .now)) (S .pre .0 .most), S .pre .0, S .pre .1)
+    (length-front 16 (length (S .args .xs .now)) (S .pre .0 .few), S .pre .0, S .pre .1)
 
 same-length : tie.Need-same-length
 same-length c = search needs

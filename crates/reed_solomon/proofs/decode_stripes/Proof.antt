@@ -24,8 +24,8 @@ use Rattle.reed_solomon.proofs.decode_stripes.Tie as tie
 
 abbrev Inv-loop : tie.InvT-loop
 Inv-loop slots t k xs block₀ s₀ block s =
-    (s ≤ k) × (length block ≡ length block₀) × (s ≡ count s (isFound (length xs) t k slots))
-    × (block ≡ joined (stripeOf (length xs) t k slots) s ++ drop (s * (t + 1)) block₀)
+    (s ≤ k) × (length block ≡ length block₀) × (s ≡ count s (isFound t k slots xs))
+    × (block ≡ joined (stripeOf t k slots xs) s ++ drop (s * (t + 1)) block₀)
 
 abbrev μ-loop : tie.MeasureT-loop
 μ-loop slots t k xs block₀ s₀ block s = k - s
@@ -36,7 +36,7 @@ loop-holds c =
       omega arith,
       refl,
       sym (count-none-below _),
-      sym (ap₂ _++_ (joined-none (stripeOf (length (a .xs .now)) (a .t) (a .k) (a .slots .now))) (ap (λ n. drop n (a .block .now)) (zero-mul (a .t + 1)))),
+      sym (ap₂ _++_ (joined-none (stripeOf (a .t) (a .k) (a .slots .now) (a .xs .now))) (ap (λ n. drop n (a .block .now)) (zero-mul (a .t + 1)))),
     )
 
 add-a : tie.Need-add-a Inv-loop μ-loop
@@ -89,9 +89,9 @@ returns c =
     let a = c .before .before .before .before .before .before .before .before .before .before .args in
     let l = c .before .before .before .before .before .before .loop in
     let d = c .before .before .before .decode-stripe in
-    let p = isFound (length (a .xs .now)) (a .t) (a .k) (a .slots .now) in
+    let p = isFound (a .t) (a .k) (a .slots .now) (a .xs .now) in
     let f = tried-found (a .t) (a .k) (a .slots .now) (l .s) (a .xs .now) (d .result) (d .last .1 .1 .1 .1 .1 .0)
-    (c .before .before .before .before .before .before .before .before .before .before .pre .0 .is) (d .ensures) in
+    (d .ensures) in
     record {
       all =
           sym
@@ -111,19 +111,17 @@ loop-again c =
     let a = c .before .before .before .before .before .before .before .before .before .before .args in
     let l = c .before .before .before .before .before .before .loop in
     let d = c .before .before .before .decode-stripe in
-    let n = length (a .xs .now) in
     let m = d .last .1 .1 .1 .1 .1 .0 in
     let w = a .t + 1 in
     let z = l .s * w in
-    let g = stripeOf n (a .t) (a .k) (a .slots .now) in
+    let g = stripeOf (a .t) (a .k) (a .slots .now) (a .xs .now) in
     let b = a .block .now in
-    let f = tried-found (a .t) (a .k) (a .slots .now) (l .s) (a .xs .now) (d .result) m
-    (c .before .before .before .before .before .before .before .before .before .before .pre .0 .is) (d .ensures) in (
+    let f = tried-found (a .t) (a .k) (a .slots .now) (l .s) (a .xs .now) (d .result) m (d .ensures) in (
       omega arith,
       same-len-mid z (z + w - z) (l .block) m (d .kept .1 .1 .1 .1 .1 .0) ∙ l .inv .1,
-      counted-yes (l .s) (isFound n (a .t) (a .k) (a .slots .now)) (l .s) (sym (f .1) ∙ not-false (d .result) (c .if1 .left)) (l .inv .2),
+      counted-yes (l .s) (isFound (a .t) (a .k) (a .slots .now) (a .xs .now)) (l .s) (sym (f .1) ∙ not-false (d .result) (c .if1 .left)) (l .inv .2),
       ap (λ (x : List ℕ). putMid z (z + w - z) x m) (l .inv .3)
-          ∙ put-next (joined g (l .s)) m b z (z + w) (length-joined (a .t + 1) g (l .s) (λ s h. length-found n (a .t) (a .k) (a .slots .now) s)) (omega arith)
+          ∙ put-next (joined g (l .s)) m b z (z + w) (length-joined (a .t + 1) g (l .s) (λ s h. length-found (a .t) (a .k) (a .slots .now) (a .xs .now) s)) (omega arith)
           ∙ ap₂ (λ (x : List ℕ) (e : ℕ). x ++ drop e b) (ap (λ (x : List ℕ). joined g (l .s) ++ x) (f .0) ∙ sym (joined-more g (l .s)))
           (sym (next-offset (l .s) w)),
     )
@@ -135,9 +133,8 @@ returns-2 : tie.Need-returns-2 Inv-loop μ-loop
 returns-2 c =
     let a = c .before .before .before .before .before .args in
     let l = c .before .loop in
-    let n = length (a .xs .now) in
-    let p = isFound n (a .t) (a .k) (a .slots .now) in
-    let g = stripeOf n (a .t) (a .k) (a .slots .now) in
+    let p = isFound (a .t) (a .k) (a .slots .now) (a .xs .now) in
+    let g = stripeOf (a .t) (a .k) (a .slots .now) (a .xs .now) in
     let e : l .s ≡ a .k = omega arith in
     record {
       all = sym (eq-eqb (count (a .k) p) (a .k) (sym (subst (λ s. s ≡ count s p) e (l .inv .2))));

@@ -170,13 +170,18 @@ fn decoding_panel(svg: &mut Svg, played: &Played) {
     let taken = &last[other - 1];
     let senders = core.iter().filter(|&&i| tenth[i - 1] == *taken).count();
     assert!(senders > t, "{other} takes a piece that t + 1 members sent");
-    let agree = (0..n).filter(|&i| last[i] == coded[i]).count();
-    assert!(agree >= n - t, "the block is decoded");
+    let present: Vec<usize> = (1..=n)
+        .filter(|&i| played.sent.contains_key(&(11, i, other)))
+        .collect();
+    let differs = |&&i: &&usize| last[i - 1] != coded[i - 1];
+    let differing = present.iter().filter(differs).count();
+    let (present, least) = (present.len(), 2 * differing + t + 1);
+    assert!(least <= present, "the block is decoded");
 
     let (x, width) = (796.0, 156.0);
     let notes = [
-        &format!("{agree} of {n} places agree;"),
-        &format!("n - t = {} suffice.", n - t)[..],
+        &format!("{present} present, {differing} differ:"),
+        &format!("2 × {differing} + t + 1 = {least} ≤ {present}.")[..],
     ];
     panel(svg, x, width, "Rounds 10 and 11", &notes);
     let rows = [

@@ -1,0 +1,76 @@
+-- What decoding gives of all blocks: `three-silent` and `seven-false`, by the law `pieces-decode`.
+use mathlib.Core.Path.{_≡_, refl, sym, ap, _∙_}
+use mathlib.Core.Bool.{Bool, true, false, not, cond}
+use mathlib.Core.List.{List, []}
+use Prim.Native.Nat.{ℕ, _+_, _*_, _≤_, _<_}
+use native.Mathlib.Omega.{arith}
+use lib.Dec.{eqb}
+use lib.ListN.{length}
+use borrow.Author.Tests.{eq-eqb}
+use Rattle.lists.specs.Same.{same}
+use Rattle.lists.specs.Sum.{count}
+use Rattle.lists.proofs.Tests.{true≢false, fails}
+use Rattle.lists.proofs.Sums.{count-not, count-mono}
+use Rattle.lists.proofs.Sames.{same-eq}
+use Rattle.settings.specs.Valid.{Coded}
+use Rattle.wire.specs.Slot.{layoutWith, messageOf, silence, bytes, slots}
+use Rattle.wire.proofs.Laws.{Sized, sized-silence, sized-bytes, content, length-slots, read-back}
+use Rattle.reed_solomon.specs.Encode.{pieceOf}
+use Rattle.reed_solomon.specs.Decode.{hasPiece, presentCount}
+use Rattle.reed_solomon.proofs.Laws.{0-decode, length-piece, pieces-decode}
+use Rattle.examples.specs.Decoding.{sent, ThreeSilent, SevenFalse}
+
+-- ---- silent controllers
+module _ (k : ℕ) (B : List ℕ) (silent : ℕ → Bool) where
+  sized : (j : ℕ) → Sized (layoutWith k) (sent silent k 2 B j)
+  sized j = go (silent j)
+    where
+      go : (b : Bool) → Sized (layoutWith k) (cond b silence (bytes (pieceOf k 2 B j)))
+      go true = sized-silence (layoutWith k)
+      go false = sized-bytes (layoutWith k) (pieceOf k 2 B j) (length-piece k 2 B j)
+
+  abbrev all : List ℕ
+  all = slots (layoutWith k) (sent silent k 2 B) 7
+
+  read : (i : ℕ) → i < 7 → (b : Bool) → silent (i + 1) ≡ b → messageOf all (layoutWith k) (i + 1) ≡ content (cond b silence (bytes (pieceOf k 2 B (i + 1))))
+  read i l b e =
+      read-back (layoutWith k) (sent silent k 2 B) sized 7 (i + 1) (omega arith) (omega arith)
+      ∙ ap (λ b. content (cond b silence (bytes (pieceOf k 2 B (i + 1))))) e
+
+  spoke : (i : ℕ) → not (silent (i + 1)) ≡ true → silent (i + 1) ≡ false
+  spoke i e = fails (silent (i + 1)) (λ s. true≢false (sym e ∙ ap not s))
+
+  -- a silent controller's slot is absent
+  present-spoke : (i : ℕ) → i < 7 → hasPiece k all (i + 1) ≡ true → not (silent (i + 1)) ≡ true
+  unfolding hasPiece
+  present-spoke i l e =
+      ap not
+      (fails (silent (i + 1))
+      (λ s. true≢false (sym e ∙ ap not (eq-eqb (length (messageOf all (layoutWith k) (i + 1))) 0 (ap length (read i l true s))))))
+
+pub three-silent : ThreeSilent
+unfolding presentCount
+three-silent k B before silent least most size is-bytes sized-before three =
+    let coded : Coded 7 2 k = record {
+      quorum = record { n-least = omega arith; n-most = omega arith; t-least = omega arith; t-most = omega arith };
+      k-least = least;
+      k-most = most;
+    } in
+    let spoken : ℕ → Bool = λ i. not (silent (i + 1)) in (
+      0-decode 7 2 k (all k B silent) before coded (length-slots (layoutWith k) (sent silent k 2 B) (sized k B silent) 7) sized-before,
+      pieces-decode 7 2 k (all k B silent) B spoken size is-bytes (λ i l e. read k B silent i l false (spoke k B silent i e))
+          (omega (
+            arith,
+            count-not 7 (λ i. silent (i + 1)),
+            count-mono 7 (λ i. hasPiece k (all k B silent) (i + 1)) spoken (present-spoke k B silent),
+          )),
+    )
+
+-- ---- false pieces
+pub seven-false : SevenFalse
+seven-false k slots B before taken size is-bytes here few =
+    let right : ℕ → Bool = λ i. same (messageOf slots (layoutWith k) (i + 1)) (pieceOf k 1 B (i + 1)) in (
+      taken,
+      pieces-decode 16 1 k slots B right size is-bytes
+          (λ i l e. same-eq (messageOf slots (layoutWith k) (i + 1)) (pieceOf k 1 B (i + 1)) e) (omega (arith, count-not 16 right)),
+    )
