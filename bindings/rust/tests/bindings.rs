@@ -207,6 +207,40 @@ fn code() {
     assert_eq!(block, [0; 2]);
 }
 
+/// Document 02, U2: absent slots are dropped. Seven controllers, t 2: any three are silent, and what stands in their slots is not read; of
+/// five present pieces one may be false; two determine nothing.
+#[test]
+fn silent_slots() {
+    let expected = [0x0a, 0x14, 0x1e];
+    let mut all = [1; 14];
+    for i in 0..7 {
+        let piece = &mut all[2 * i + 1..2 * i + 2];
+        assert_eq!(encode(7, 2, 1, i + 1, &expected, piece), Ok(()));
+    }
+    for silent in 0..1u8 << 7 {
+        let mut slots = all;
+        for i in (0..7).filter(|i| silent >> i & 1 == 1) {
+            slots[2 * i] = 0;
+            slots[2 * i + 1] ^= 0xff;
+        }
+        let (answer, left) = if silent.count_ones() <= 4 {
+            (Decoded::Block, expected)
+        } else {
+            (Decoded::Beyond, [0; 3])
+        };
+        let mut block = [9; 3];
+        assert_eq!(decode(7, 2, 1, &slots, &mut block), Ok(answer));
+        assert_eq!(block, left);
+    }
+    let mut slots = all;
+    (slots[0], slots[6], slots[9]) = (0, 0, !slots[9]);
+    let mut block = [9; 3];
+    assert_eq!(decode(7, 2, 1, &slots, &mut block), Ok(Decoded::Block));
+    assert_eq!(block, expected);
+    slots[2] = 0;
+    assert_eq!(decode(7, 2, 1, &slots, &mut block), Ok(Decoded::Beyond));
+}
+
 /// Examples g and h of document 01: the pairs that are not neighbours, in rows and as bits. The bits of numbers past 4 are set.
 #[test]
 fn stars() {

@@ -104,7 +104,8 @@ outcomeOf S i = atEnd S i .state .outcome
 abbrev pub blockOf : System → ℕ → List ℕ
 blockOf S i = atEnd S i .block
 
--- document 01's last call: no core: none, and zeros; else agreed and the block that decoding's rule gives; if there is none, beyond and zeros
+-- document 01's last call: no core: none, and zeros; else agreed and the block that meets decoding's rule (document 02, U2); if there is none, beyond
+-- and zeros
 pub record SetByLast (S : System) (i : ℕ) : Type 0 where
   pub none : restricted (lastCore S i) (S .settings .n) ≡ 0 → (outcomeOf S i ≡ None) × (blockOf S i ≡ replicate (length (S .block i)) 0)
   pub agreed : (restricted (lastCore S i) (S .settings .n) ≡ 0 → ⊥) → (B : List ℕ)

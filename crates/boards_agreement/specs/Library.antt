@@ -54,7 +54,8 @@ LibraryRuns =
 abbrev pub keptAt : System → (ℕ → List ℕ) → ℕ → Kept
 keptAt S buffers i = keptAfter (keptFrom (S .settings) i (S .block i) (buffers i)) (S .steps i)
 
--- document 01's last call: no core: none, and zeros; else agreed and the block that decoding's rule gives; if there is none, beyond and zeros
+-- document 01's last call: no core: none, and zeros; else agreed and the block that meets decoding's rule (document 02, U2); if there is none, beyond
+-- and zeros
 pub record SetByLastCall (S : System) (buffers : ℕ → List ℕ) (i : ℕ) : Type 0 where
   pub none : restricted (lastCore S i) (S .settings .n) ≡ 0
       → (outcomeIn (keptAt S buffers i .state) ≡ outcomeNumber None) × (keptAt S buffers i .block ≡ replicate (length (S .block i)) 0)

@@ -20,10 +20,10 @@ use Rattle.settings.proofs.Laws.{encoding-0, 0-encoding, decoding-0, 0-decoding
 use Rattle.wire.specs.Length.{blockLength}
 use Rattle.wire.specs.Slot.{layoutWith, width, messageOf}
 use Rattle.wire.proofs.Laws.{block-length-is}
-use Rattle.polynomial.specs.Polynomial.{evaluate, Bytes}
+use Rattle.polynomial.specs.Polynomial.{evaluate, Bytes, Points}
 use Rattle.polynomial.proofs.Laws.{evaluate-lt, equal-of-values, past-end}
 use Rattle.interpolation.specs.Interpolation.{candidate}
-use Rattle.interpolation.proofs.Laws.{recovers}
+use Rattle.interpolation.proofs.Laws.{Units, recovers}
 use Rattle.reed_solomon.specs.Encode.{stripe, pieceOf, encodeFits, encodeRefusal, encoded, encodeOf}
 use Rattle.reed_solomon.specs.declared.Decoded.{Decoded}
 use Rattle.reed_solomon.specs.declared.Decoded.the-variants.{Block, Beyond, Refused}
@@ -43,6 +43,20 @@ pub tried-found : (t k : ℕ) (slots : List ℕ) (s : ℕ) (xs : List ℕ) (r : 
     → (m ≡ stripeOf t k slots xs s) × (r ≡ isFound t k slots xs s)
 unfolding stripeOf isFound
 tried-found t k slots s xs r m h = (h .message, h .right ∙ ap (isRight t xs (column k slots s xs)) (h .message))
+
+-- bytes that are right are the candidate, however they were found
+right-candidate : (t : ℕ) (xs ys m : List ℕ) → Units xs → Points (length xs) (λ i. getD xs i 0) → Bytes m → length m ≡ t + 1 → isRight t xs ys m ≡ true
+    → candidate t xs ys ≡ m
+right-candidate t xs ys m units points hm lm right =
+    recovers t xs ys m units points hm lm
+    (omega (arith, leb-true (2 * differences xs ys m + t + 1) (length xs) right, agreements-differences xs ys m))
+
+pub guessed : (t : ℕ) (xs ys m : List ℕ) → Pointed t xs → Bytes m → length m ≡ t + 1 → isRight t xs ys m ≡ true → m ≡ candidate t xs ys
+guessed t xs ys m p hm lm right =
+    sym
+    (right-candidate t xs ys m
+    (record { positive = p .least; small = λ i l. omega (arith, p .most i l) })
+    (record { element = λ i l. omega (arith, p .most i l); different = p .different }) hm lm right)
 
 -- with fewer than t + 1 points nothing is right
 pub few-found : (t k : ℕ) (slots xs : List ℕ) (s : ℕ) → length xs ≤ t → isFound t k slots xs s ≡ false
@@ -105,8 +119,8 @@ module _ (n t k : ℕ) (slots : List ℕ) where
     stripe-found : (s : ℕ) (m : List ℕ) → Bytes m → length m ≡ t + 1 → 2 * differing n k slots s m + t + 1 ≤ presentCount n k slots → stripeOf t k slots xs s ≡ m
     unfolding stripeOf
     stripe-found s m hm lm right =
-        recovers t xs (column k slots s xs) m (units-points n k slots few) (points-points n k slots few) hm lm
-        (omega (arith, length-points n k slots, differing-points k slots s n m, agreements-differences xs (column k slots s xs) m))
+        right-candidate t xs (column k slots s xs) m (units-points n k slots few) (points-points n k slots few) hm lm
+        (right-points s m ∙ le-leb (2 * differing n k slots s m + t + 1) (presentCount n k slots) right)
 
     module _ (block : List ℕ) (d : Decodes n t k slots block) where
       each : (s : ℕ) → s < k → stripeOf t k slots xs s ≡ stripe t block s
@@ -331,13 +345,3 @@ pieces-decode n t k slots b right l h true-piece many = record {
 pub present-count-le : (n k : ℕ) (slots : List ℕ) → presentCount n k slots ≤ n
 unfolding presentCount
 present-count-le n k slots = count-le n (λ i. hasPiece k slots (i + 1))
-
--- ---- a guess
--- bytes that are right are the candidate, however they were found
-pub guessed : (t : ℕ) (xs ys m : List ℕ) → Pointed t xs → Bytes m → length m ≡ t + 1 → isRight t xs ys m ≡ true → m ≡ candidate t xs ys
-guessed t xs ys m p hm lm right =
-    sym
-    (recovers t xs ys m
-    (record { positive = p .least; small = λ i l. omega (arith, p .most i l) })
-    (record { element = λ i l. omega (arith, p .most i l); different = p .different }) hm lm
-    (omega (arith, leb-true (2 * differences xs ys m + t + 1) (length xs) right, agreements-differences xs ys m)))

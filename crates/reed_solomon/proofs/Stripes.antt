@@ -73,10 +73,6 @@ unfolding points
 points-none k slots = selected-none (hasPiece k slots)
 
 module _ (k : ℕ) (slots : List ℕ) (s : ℕ) where
-  pub length-column : (xs : List ℕ) → length (column k slots s xs) ≡ length xs
-  unfolding column
-  length-column xs = length-tabulate (λ j. received k slots s (getD xs j 0)) (length xs)
-
   differs : List ℕ → ℕ → Bool
   differs m j = not (eqb (evaluate m j) (received k slots s j))
 

@@ -57,6 +57,14 @@ impl Case {
         }
     }
 
+    /// The same with the slots at these indices absent, all 00.
+    pub fn without(mut self, absent: impl IntoIterator<Item = usize>) -> Case {
+        for i in absent {
+            self.slots[i * (1 + self.k)..][..1 + self.k].fill(0);
+        }
+        self
+    }
+
     pub fn decode_by(&mut self, decode: Decode) {
         self.decoded.fill(BEFORE);
         let slots = black_box(&self.slots);
@@ -107,11 +115,9 @@ fn compare_answers(random: &mut Random) {
 /// One answer; whether it is a block. It is the coded one exactly where the rule allows so many false pieces, which are false in the first
 /// stripe and in some of the others.
 fn compare_answer(random: &mut Random, t: usize, present: usize, wrong: usize) -> bool {
-    let mut case = Case::new(random, t, 8, &[]);
     let slots = random.choice(N, present);
-    for i in (0..N).filter(|i| !slots.contains(i)) {
-        case.slots[i * (1 + case.k)] = 0;
-    }
+    let absent = (0..N).filter(|i| !slots.contains(i));
+    let mut case = Case::new(random, t, 8, &[]).without(absent);
     for i in random.choice(present, wrong) {
         let piece = slots[i] * (1 + case.k) + 1;
         case.slots[piece] ^= 1 + random.below(255) as u8;
@@ -138,14 +144,15 @@ pub fn against_peer() {
     compare_answers(&mut random);
     let mut rows = Vec::new();
     for t in 1..=5 {
-        for place in ["none", "1 to t", "at random"] {
+        for place in ["none", "1 to t", "at random", "1 to t silent"] {
             let mut case = |_| {
-                let wrong = match place {
-                    "none" => Vec::new(),
-                    "1 to t" => (0..t).collect(),
-                    _ => random.choice(N, t),
+                let (wrong, absent) = match place {
+                    "1 to t" => ((0..t).collect(), 0),
+                    "at random" => (random.choice(N, t), 0),
+                    "1 to t silent" => (Vec::new(), t),
+                    _ => (Vec::new(), 0),
                 };
-                Case::new(&mut random, t, k, &wrong)
+                Case::new(&mut random, t, k, &wrong).without(0..absent)
             };
             let mut cases: Vec<Case> = (0..REPETITIONS).map(&mut case).collect();
             let [library, peer] = in_turns(&mut cases, [Case::LIBRARY, Case::PEER]);

@@ -117,11 +117,13 @@ pub fn against_earlier() {
     let products = [earlier_5.minus(&earlier_1), now_5.minus(&now_1)];
     let none = in_turns(&mut [case(5, &[])], DECODE);
     let wrong = in_turns(&mut [case(5, &[0, 1, 2, 3, 4])], DECODE);
+    let silent = in_turns(&mut [case(5, &[]).without(0..5)], DECODE);
     let rows = [
         ("a product, ns", products, (4 * N * K) as f64),
         ("encode, us", [earlier_5, now_5], 1e3),
         ("decode, none false, us", none, 1e3),
         ("decode, 1 to 5 false, us", wrong, 1e3),
+        ("decode, 1 to 5 silent, us", silent, 1e3),
     ];
     let rows = rows.map(|(name, times, unit)| row(name, times, unit));
     let heading =
