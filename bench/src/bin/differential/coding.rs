@@ -90,26 +90,72 @@ pub fn decode(tally: &mut Tally, random: &mut Random, counts: &mut Counts) -> Sa
         }
     }
 
-    let lent_slots = Lent::new(random, &slots);
-    let mut lent_block = Lent::new(random, &block);
+    compare_decoding(tally, random, counts, (n, t, k), &slots, &mut block)
+}
+
+/// n, t, the number of present slots, and how many of these are false in every stripe: all that there are.
+pub fn every_count() -> Vec<(usize, usize, usize, usize)> {
+    let settings = (4..=16).flat_map(|n| (1..=(n - 1) / 3).map(move |t| (n, t)));
+    settings
+        .flat_map(|(n, t)| (0..=n).map(move |present| (n, t, present)))
+        .flat_map(|(n, t, present)| (0..=present).map(move |wrong| (n, t, present, wrong)))
+        .collect()
+}
+
+/// One of these, with one to three stripes.
+pub fn decode_count(
+    tally: &mut Tally,
+    random: &mut Random,
+    (n, t, present, wrong): (usize, usize, usize, usize),
+    counts: &mut Counts,
+) -> Same<()> {
+    let k = random.within(1, 3);
+    let coded = State {
+        n,
+        t,
+        k,
+        ..State::default()
+    };
+    let message = inputs::some_block(random, k * (t + 1));
+    let slots = inputs::received_with(random, &coded, &message, present, wrong);
+    let mut block = random.bytes(k * (t + 1));
+    compare_decoding(tally, random, counts, (n, t, k), &slots, &mut block)
+}
+
+/// What library and reference answer to the same slots.
+fn compare_decoding(
+    tally: &mut Tally,
+    random: &mut Random,
+    counts: &mut Counts,
+    (n, t, k): (usize, usize, usize),
+    slots: &[u8],
+    block: &mut [u8],
+) -> Same<()> {
+    let lent_slots = Lent::new(random, slots);
+    let mut lent_block = Lent::new(random, block);
     let answer = raw::decode(n, t, k, lent_slots.bytes(), lent_block.bytes_mut());
-    let expected = match code::decode(n as u64, t as u64, k as u64, &slots, &mut block) {
+    let expected = match code::decode(n as u64, t as u64, k as u64, slots, block) {
         Decoded::Block => 0,
         Decoded::Beyond => 255,
         Decoded::Refused(number) => number,
     };
     let mut compare = || {
         tally.same("decode's number", answer, expected)?;
-        tally.same_lent("decode's block", &lent_block, &block)?;
-        tally.same_lent("decode's slots", &lent_slots, &slots)
+        tally.same_lent("decode's block", &lent_block, block)?;
+        tally.same_lent("decode's slots", &lent_slots, slots)
     };
     let place = |text| format!("n {n}, t {t}, k {k}: {text}");
     compare().map_err(place)?;
     let present = || slots.chunks(1 + k).filter(|slot| slot[0] == 1).count();
     match answer {
         0 => {
-            let coded = State { n, t, k, ..coded };
-            let (present, differing) = (present(), most_differing(&coded, &slots, &block));
+            let coded = State {
+                n,
+                t,
+                k,
+                ..State::default()
+            };
+            let (present, differing) = (present(), most_differing(&coded, slots, block));
             let right = 2 * differing + t + 1 <= present;
             tally
                 .holds("2 * differing + t + 1 <= present", right)

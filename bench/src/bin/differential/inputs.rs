@@ -340,24 +340,42 @@ pub fn some_block(random: &mut Random, length: usize) -> Vec<u8> {
     }
 }
 
-/// The slots of the pieces of a block, any number of them present. In each stripe some of the present ones are false, mostly those of the
-/// same controllers: any number, or up to as many as decoding corrects, or one more; now and then fewer in all stripes but one.
+/// The slots of the pieces of a block, any number of them present, and any number of these false, or up to as many as decoding corrects, or one
+/// more.
 pub fn received(random: &mut Random, state: &State, block: &[u8]) -> Vec<u8> {
-    let State { n, t, k, .. } = *state;
+    let State { n, t, .. } = *state;
     let count = if random.one_in(4) {
         n
     } else {
         random.within(0, n)
     };
-    let mut present = random.order(n)[..count].to_vec();
-    present.sort_unstable();
-    let corrected = count.saturating_sub(t + 1) / 2;
+    let corrected = corrected(count, t);
     let errors = match random.below(4) {
         0 => random.within(0, count),
         1 => random.within(0, corrected),
         2 => corrected,
         _ => (corrected + 1).min(count),
     };
+    received_with(random, state, block, count, errors)
+}
+
+/// How many false ones of so many present pieces are corrected.
+fn corrected(present: usize, t: usize) -> usize {
+    present.saturating_sub(t + 1) / 2
+}
+
+/// The slots of the pieces of a block, `count` of them present. In each stripe `errors` of these are false, mostly those of the same
+/// controllers; now and then fewer in all stripes but one.
+pub fn received_with(
+    random: &mut Random,
+    state: &State,
+    block: &[u8],
+    count: usize,
+    errors: usize,
+) -> Vec<u8> {
+    let State { n, t, k, .. } = *state;
+    let mut present = random.order(n)[..count].to_vec();
+    present.sort_unstable();
     // indices of `present`; the false ones come first
     let order = |random: &mut Random| {
         let mut order = random.order(count);
@@ -372,7 +390,7 @@ pub fn received(random: &mut Random, state: &State, block: &[u8]) -> Vec<u8> {
     let mut pieces: Vec<Vec<u8>> = (1..=n).map(|j| piece(state, j, block)).collect();
     for s in 0..k {
         let errors = match only {
-            Some(other) if other != s => random.within(0, corrected.min(errors)),
+            Some(other) if other != s => random.within(0, corrected(count, t).min(errors)),
             _ => errors,
         };
         let order = if apart { order(random) } else { alike.clone() };

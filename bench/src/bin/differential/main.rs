@@ -138,6 +138,11 @@ fn main() -> ExitCode {
     run.cases("decode", DECODES, |tally, random, _| {
         coding::decode(tally, random, &mut coding)
     });
+    let every_count = coding::every_count();
+    let all = every_count.len() as u64;
+    run.cases("decode, every count", all, |tally, random, number| {
+        coding::decode_count(tally, random, every_count[number as usize - 1], &mut coding)
+    });
     run.line(format!(
         "decode: {} blocks, of them {} with more than t false pieces and {} with more than t absent; {} beyond, of them {} with at most t \
          present; {} refused",
