@@ -35,6 +35,14 @@ at-last l x i e = getD-at l x [] 0 i (sym e)
 length-snoc : (l : List ℕ) (x : ℕ) → length (l ++ (x ∷ [])) ≡ length l + 1
 length-snoc l x = length-append l (x ∷ [])
 
+each-snoc : (P : ℕ → Type 0) (l : List ℕ) (x : ℕ) → ((i : ℕ) → i < length l → P (getD l i 0)) → P x
+    → (i : ℕ) → i < length (l ++ (x ∷ [])) → P (getD (l ++ (x ∷ [])) i 0)
+each-snoc P l x each last i h =
+    ⊎-elim
+    (λ (g : i < length l). rw (List·getD-append l (x ∷ []) 0 i g) (each i g))
+    (λ (g : length l ≤ i). rw (at-last l x i (omega (arith, length-snoc l x))) last)
+    (lt-or-le i (length l))
+
 count-snoc : (q : ℕ → Bool) (l : List ℕ) (x : ℕ)
     → count (length (l ++ (x ∷ []))) (λ i. q (getD (l ++ (x ∷ [])) i 0)) ≡ count (length l) (λ i. q (getD l i 0)) + ind (q x)
 count-snoc q l x =
@@ -56,16 +64,8 @@ rising-more : (n : ℕ) (l : List ℕ) (b : Bool) → Rising n l → Rising (suc
 rising-more n l false r = rw (append-nil l) (record { least = r .least; most = λ i h. omega (arith, r .most i h); order = r .order })
 rising-more n l true r =
     record {
-      least = λ i h.
-          ⊎-elim
-          (λ (g : i < length l). rw (List·getD-append l ((n + 1) ∷ []) 0 i g) (r .least i g))
-          (λ (g : length l ≤ i). rw (at-last l (n + 1) i (omega (arith, length-snoc l (n + 1)))) (omega arith))
-          (lt-or-le i (length l));
-      most = λ i h.
-          ⊎-elim
-          (λ (g : i < length l). rw (List·getD-append l ((n + 1) ∷ []) 0 i g) (omega (arith, r .most i g)))
-          (λ (g : length l ≤ i). rw (at-last l (n + 1) i (omega (arith, length-snoc l (n + 1)))) (omega arith))
-          (lt-or-le i (length l));
+      least = each-snoc (λ y. 1 ≤ y) l (n + 1) (r .least) (omega arith);
+      most = each-snoc (λ y. y ≤ suc n) l (n + 1) (λ i h. omega (arith, r .most i h)) (omega arith);
       order = λ i j h g.
           ⊎-elim
           (λ (f : j < length l).
