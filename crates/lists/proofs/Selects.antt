@@ -10,7 +10,7 @@ use native.Mathlib.Omega.{arith}
 use lib.ListN.{length, getD, set, drop, length-append, List·getD-append}
 use lib.Seq.{getD-at, set-at, drop-cons, append-snoc}
 use Rattle.lists.specs.Sum.{ind, count}
-use Rattle.lists.specs.Select.{selected}
+use Rattle.lists.specs.Select.{selected, Rising}
 use Rattle.lists.proofs.Tests.{lt-or-le}
 use Rattle.lists.proofs.Sums.{count-none-below, count-suc, count-more, count-ext}
 
@@ -55,11 +55,6 @@ count-snoc q l x =
     )
 
 -- ---- the numbers rise
-pub record Rising (n : ℕ) (l : List ℕ) : Type 0 where
-  pub least : (i : ℕ) → i < length l → 1 ≤ getD l i 0
-  pub most : (i : ℕ) → i < length l → getD l i 0 ≤ n
-  pub order : (i j : ℕ) → i < j → j < length l → getD l i 0 < getD l j 0
-
 rising-more : (n : ℕ) (l : List ℕ) (b : Bool) → Rising n l → Rising (suc n) (l ++ cond b ((n + 1) ∷ []) [])
 rising-more n l false r = rw (append-nil l) (record { least = r .least; most = λ i h. omega (arith, r .most i h); order = r .order })
 rising-more n l true r =

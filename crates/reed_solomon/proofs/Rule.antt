@@ -11,6 +11,7 @@ use borrow.Author.Tests.{eq-eqb, ne-eqb, eqb-true, eqb-false, le-leb, leb-true}
 use lib.Dec.{eqb, leb, lit<}
 use lib.ListN.{length, getD, replicate}
 use Rattle.lists.specs.Sum.{count}
+use Rattle.lists.specs.Select.{Rising}
 use Rattle.lists.proofs.Sums.{count-le, count-all, count-none, count-full, count-mono, count-split}
 use Rattle.lists.proofs.Fills.{length-tabulate, getD-tabulate}
 use Rattle.lists.proofs.Tests.{true≢false, fails, and-both, cond-yes, cond-no, lt-or-le}
@@ -20,20 +21,20 @@ use Rattle.settings.proofs.Laws.{encoding-0, 0-encoding, decoding-0, 0-decoding
 use Rattle.wire.specs.Length.{blockLength}
 use Rattle.wire.specs.Slot.{layoutWith, width, messageOf}
 use Rattle.wire.proofs.Laws.{block-length-is}
-use Rattle.polynomial.specs.Polynomial.{evaluate, Bytes, Points}
+use Rattle.polynomial.specs.Polynomial.{evaluate, Bytes}
 use Rattle.polynomial.proofs.Laws.{evaluate-lt, equal-of-values, past-end}
 use Rattle.interpolation.specs.Interpolation.{candidate}
-use Rattle.interpolation.proofs.Laws.{Units, recovers}
+use Rattle.interpolation.proofs.Laws.{recovers}
 use Rattle.reed_solomon.specs.Encode.{stripe, pieceOf, encodeFits, encodeRefusal, encoded, encodeOf}
 use Rattle.reed_solomon.specs.declared.Decoded.{Decoded}
 use Rattle.reed_solomon.specs.declared.Decoded.the-variants.{Block, Beyond, Refused}
 use Rattle.reed_solomon.specs.Decode.{hasPiece, received, presentCount, differing, Decodes, decodeFits, decodeRefusal, Answers, DecodesUnique}
 use Rattle.reed_solomon.specs.Decode.{AnswersUnique, PiecesDecode, FewBeyond}
-use Rattle.reed_solomon.specs.First.{firstBytes, meets, DecodesMeets, MeetsDecodes, rebuilt, RebuiltDecodes, RebuiltBlock, RebuiltNone}
+use Rattle.reed_solomon.specs.First.{firstBytes, isRightStripe, meets, DecodesMeets, MeetsDecodes, rebuilt, RebuiltDecodes, RebuiltBlock, RebuiltNone}
 use Rattle.reed_solomon.specs.Steps.{points, column, differences, isRight, stripeOf, isFound, Pointed, Tried, Found}
 use Rattle.reed_solomon.proofs.Sizes.{both-true, true-both}
 use Rattle.reed_solomon.proofs.First.{Right, first-right}
-use Rattle.reed_solomon.proofs.Stripes.{length-points, differing-points, agreements-differences, units-points, points-points, different-numbers}
+use Rattle.reed_solomon.proofs.Stripes.{length-points, differing-points, agreements-differences, rising-points, units-rising, points-rising, different-numbers}
 use Rattle.reed_solomon.proofs.Stripes.{length-stripe, bytes-stripe, length-found, bytes-found, stripe-joined, block-joined}
 use Rattle.lists.specs.Join.{joined}
 use Rattle.lists.proofs.Joins.{joined-ext, length-joined, all-joined}
@@ -45,18 +46,13 @@ unfolding stripeOf isFound
 tried-found t k slots s xs r m h = (h .message, h .right ∙ ap (isRight t xs (column k slots s xs)) (h .message))
 
 -- bytes that are right are the candidate, however they were found
-right-candidate : (t : ℕ) (xs ys m : List ℕ) → Units xs → Points (length xs) (λ i. getD xs i 0) → Bytes m → length m ≡ t + 1 → isRight t xs ys m ≡ true
-    → candidate t xs ys ≡ m
-right-candidate t xs ys m units points hm lm right =
-    recovers t xs ys m units points hm lm
+right-candidate : (n t : ℕ) (xs ys m : List ℕ) → n < 256 → Rising n xs → Bytes m → length m ≡ t + 1 → isRight t xs ys m ≡ true → candidate t xs ys ≡ m
+right-candidate n t xs ys m few rising hm lm right =
+    recovers t xs ys m (units-rising n xs few rising) (points-rising n xs few rising) hm lm
     (omega (arith, leb-true (2 * differences xs ys m + t + 1) (length xs) right, agreements-differences xs ys m))
 
 pub guessed : (t : ℕ) (xs ys m : List ℕ) → Pointed t xs → Bytes m → length m ≡ t + 1 → isRight t xs ys m ≡ true → m ≡ candidate t xs ys
-guessed t xs ys m p hm lm right =
-    sym
-    (right-candidate t xs ys m
-    (record { positive = p .least; small = λ i l. omega (arith, p .most i l) })
-    (record { element = λ i l. omega (arith, p .most i l); different = p .different }) hm lm right)
+guessed t xs ys m p hm lm right = sym (right-candidate 16 t xs ys m (omega arith) (p .rising) hm lm right)
 
 -- with fewer than t + 1 points nothing is right
 pub few-found : (t k : ℕ) (slots xs : List ℕ) (s : ℕ) → length xs ≤ t → isFound t k slots xs s ≡ false
@@ -91,7 +87,7 @@ module _ (n t k : ℕ) (slots : List ℕ) where
   xs = points n k slots
 
   -- the rule at the points of the present slots
-  right-points : (s : ℕ) (m : List ℕ) → isRight t xs (column k slots s xs) m ≡ leb (2 * differing n k slots s m + t + 1) (presentCount n k slots)
+  right-points : (s : ℕ) (m : List ℕ) → isRight t xs (column k slots s xs) m ≡ isRightStripe n t k slots s m
   right-points s m = ap₂ (λ d c. leb (2 * d + t + 1) c) (differing-points k slots s n m) (length-points n k slots)
 
   -- where every stripe is found, the block meets the rule
@@ -119,7 +115,7 @@ module _ (n t k : ℕ) (slots : List ℕ) where
     stripe-found : (s : ℕ) (m : List ℕ) → Bytes m → length m ≡ t + 1 → 2 * differing n k slots s m + t + 1 ≤ presentCount n k slots → stripeOf t k slots xs s ≡ m
     unfolding stripeOf
     stripe-found s m hm lm right =
-        right-candidate t xs (column k slots s xs) m (units-points n k slots few) (points-points n k slots few) hm lm
+        right-candidate n t xs (column k slots s xs) m few (rising-points n k slots) hm lm
         (right-points s m ∙ le-leb (2 * differing n k slots s m + t + 1) (presentCount n k slots) right)
 
     module _ (block : List ℕ) (d : Decodes n t k slots block) where
@@ -176,25 +172,24 @@ answers-unique n t k slots before (Refused r) Beyond B C d e = absurd (d .1 (d .
 answers-unique n t k slots before (Refused r) (Refused q) B C d e = (ap Refused (d .0 ∙ sym (e .0)), d .2 ∙ sym (e .2))
 
 -- ---- the rule as a test
-isStripeRight : (n t k : ℕ) → List ℕ → List ℕ → ℕ → Bool
-isStripeRight n t k slots B s = leb (2 * differing n k slots s (stripe t B s) + t + 1) (presentCount n k slots)
-
 pub decodes-meets : DecodesMeets
-unfolding meets isStripeRight
+unfolding meets
 decodes-meets n t k slots B d =
-    eq-eqb (count k (isStripeRight n t k slots B)) k
-    (count-all k (isStripeRight n t k slots B)
-    (λ s l. le-leb (2 * differing n k slots s (stripe t B s) + t + 1) (presentCount n k slots) (d .right s l)))
+    let right : ℕ → Bool = λ s. isRightStripe n t k slots s (stripe t B s) in
+    eq-eqb (count k right) k
+    (count-all k right (λ s l. le-leb (2 * differing n k slots s (stripe t B s) + t + 1) (presentCount n k slots) (d .right s l)))
 
 pub meets-decodes : MeetsDecodes
-unfolding meets isStripeRight
-meets-decodes n t k slots B size bytes e = record {
-  size = size;
-  bytes = bytes;
-  right = λ s l.
-      leb-true (2 * differing n k slots s (stripe t B s) + t + 1) (presentCount n k slots)
-      (count-full k (isStripeRight n t k slots B) (omega (arith, eqb-true (count k (isStripeRight n t k slots B)) k e)) s l);
-}
+unfolding meets
+meets-decodes n t k slots B size bytes e =
+    let right : ℕ → Bool = λ s. isRightStripe n t k slots s (stripe t B s) in
+    record {
+      size = size;
+      bytes = bytes;
+      right = λ s l.
+          leb-true (2 * differing n k slots s (stripe t B s) + t + 1) (presentCount n k slots)
+          (count-full k right (omega (arith, eqb-true (count k right) k e)) s l);
+    }
 
 -- ---- the block that meets the rule as a function
 -- it meets the rule, or none does

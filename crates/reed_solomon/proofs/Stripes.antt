@@ -11,8 +11,9 @@ use lib.ListN.{length, getD, take, drop, length-drop}
 use lib.Seq.{length-take-le, getD-take, getD-drop}
 use Rattle.lists.specs.Sum.{count}
 use Rattle.lists.specs.Join.{joined, part}
+use Rattle.lists.specs.Select.{Rising}
 use Rattle.lists.proofs.Sums.{count-le, count-ext, count-not}
-use Rattle.lists.proofs.Selects.{Rising, selected-none, selected-yes, selected-no, rising-selected, rising-different, length-selected}
+use Rattle.lists.proofs.Selects.{selected-none, selected-yes, selected-no, rising-selected, rising-different, length-selected}
 use Rattle.lists.proofs.Selects.{count-selected}
 use Rattle.lists.proofs.Tests.{lt-or-le}
 use Rattle.lists.proofs.Fills.{length-tabulate, getD-tabulate}
@@ -27,8 +28,16 @@ use Rattle.reed_solomon.specs.Decode.{hasPiece, received, presentCount, 
 use Rattle.reed_solomon.specs.Steps.{points, column, differences, stripeOf, Pointed}
 
 -- ---- points and columns
+-- numbers that rise are units of the field, all different
+module _ (n : ℕ) (xs : List ℕ) (h : n < 256) (r : Rising n xs) where
+  pub units-rising : Units xs
+  units-rising = record { positive = r .least; small = λ i l. omega (arith, r .most i l) }
+
+  pub points-rising : Points (length xs) (λ i. getD xs i 0)
+  points-rising = record { element = λ i l. omega (arith, r .most i l); different = rising-different n xs r }
+
 module _ (n k : ℕ) (slots : List ℕ) where
-  rising-points : Rising n (points n k slots)
+  pub rising-points : Rising n (points n k slots)
   unfolding points
   rising-points = rising-selected (hasPiece k slots) n
 
@@ -51,21 +60,10 @@ module _ (n k : ℕ) (slots : List ℕ) where
   -- the present slots' numbers are different points, enough where more than t are present
   pub pointed-points : (t : ℕ) → n ≤ 16 → t ≤ 5 → t + 1 ≤ length (points n k slots) → Pointed t (points n k slots)
   pointed-points t few few-faulty many = record {
-    least = rising-points .least;
-    most = λ i l. omega (arith, rising-points .most i l);
-    different = rising-different n (points n k slots) rising-points;
+    rising = record { least = rising-points .least; most = λ i l. omega (arith, rising-points .most i l); order = rising-points .order };
     many = many;
     few = omega (arith, points-le);
     few-faulty = few-faulty;
-  }
-
-  pub units-points : n < 256 → Units (points n k slots)
-  units-points h = record { positive = rising-points .least; small = λ i l. omega (arith, rising-points .most i l) }
-
-  pub points-points : n < 256 → Points (length (points n k slots)) (λ i. getD (points n k slots) i 0)
-  points-points h = record {
-    element = λ i l. omega (arith, rising-points .most i l);
-    different = rising-different n (points n k slots) rising-points;
   }
 
 pub points-none : (k : ℕ) (slots : List ℕ) → points 0 k slots ≡ []

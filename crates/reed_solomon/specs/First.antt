@@ -1,14 +1,15 @@
 -- The block that meets decoding's rule as a function, for definitions that need one: the first of all blocks, in dictionary order, that meets
 -- it. Within the settings it is the only one (`DecodesUnique`), so the order says nothing. The definition is never computed.
---   firstBelow m f       the first of f 0, .., f (m - 1) that is not none
---   firstBytes len p     the first list of len bytes that passes the test p; none where none does
---   meets n t k slots B  the rule as a test: each stripe of B is right
---   DecodesMeets         what meets the rule passes the test (law `decodes-meets`)
---   MeetsDecodes         a block that passes the test meets the rule (law `meets-decodes`)
---   rebuilt n t k slots  the block that meets the rule; none where none does
---   RebuiltDecodes       it does meet the rule (law `rebuilt-decodes`)
---   RebuiltBlock         it is every block that meets the rule, where 1 .. n are different elements of the field (law `rebuilt-block`)
---   RebuiltNone          it is none where no block meets the rule (law `rebuilt-none`)
+--   firstBelow m f                 the first of f 0, .., f (m - 1) that is not none
+--   firstBytes len p               the first list of len bytes that passes the test p; none where none does
+--   isRightStripe n t k slots s m  the rule as a test: m are the right bytes of stripe s
+--   meets n t k slots B            each stripe of B is right
+--   DecodesMeets                   what meets the rule passes the test (law `decodes-meets`)
+--   MeetsDecodes                   a block that passes the test meets the rule (law `meets-decodes`)
+--   rebuilt n t k slots            the block that meets the rule; none where none does
+--   RebuiltDecodes                 it does meet the rule (law `rebuilt-decodes`)
+--   RebuiltBlock                   it is every block that meets the rule, where 1 .. n are different elements of the field (law `rebuilt-block`)
+--   RebuiltNone                    it is none where no block meets the rule (law `rebuilt-none`)
 use mathlib.Core.Path.{_≡_}
 use mathlib.Core.Bool.{Bool, true, cond}
 use mathlib.Core.List.{List, [], _∷_}
@@ -31,8 +32,11 @@ unfoldable pub firstBytes : ℕ → (List ℕ → Bool) → Option (List ℕ)
 firstBytes zero p = cond (p []) (some []) none
 firstBytes (suc len) p = firstBelow 256 (λ x. front x (firstBytes len (λ l. p (x ∷ l))))
 
+abbrev pub isRightStripe : (n t k : ℕ) → List ℕ → ℕ → List ℕ → Bool
+isRightStripe n t k slots s m = leb (2 * differing n k slots s m + t + 1) (presentCount n k slots)
+
 unfoldable pub meets : (n t k : ℕ) → List ℕ → List ℕ → Bool
-meets n t k slots B = eqb (count k (λ s. leb (2 * differing n k slots s (stripe t B s) + t + 1) (presentCount n k slots))) k
+meets n t k slots B = eqb (count k (λ s. isRightStripe n t k slots s (stripe t B s))) k
 
 abbrev pub DecodesMeets : Type 0
 DecodesMeets = (n t k : ℕ) (slots B : List ℕ) → Decodes n t k slots B → meets n t k slots B ≡ true

@@ -6,20 +6,20 @@
 --   isRight t xs ys m                 the rule, for the values ys at the points xs
 --   stripeOf t k slots xs s           the candidate for stripe s
 --   isFound t k slots xs s            whether it is right
---   Pointed t xs                      xs are different controllers' points, enough for t + 1 bytes and not too many
+--   Pointed t xs                      xs are points of controllers, rising, enough for t + 1 bytes and not too many
 --   Tried t xs ys found m             m is the candidate, and found says whether it is right
 --   Found t k slots xs found block    found says whether every stripe was found; then they are the block
 --   Listed n k slots count xs         the first count of xs are the points
 use mathlib.Core.Path.{_≡_}
 use mathlib.Core.Bool.{Bool, true, not}
 use mathlib.Core.List.{List}
-use Prim.Native.Nat.{ℕ, _+_, _*_, _≤_, _<_}
+use Prim.Native.Nat.{ℕ, _+_, _*_, _≤_}
 use lib.Dec.{eqb, leb}
 use lib.ListN.{length, getD, take}
 use Rattle.lists.specs.Sum.{count}
 use Rattle.lists.specs.Fill.{tabulate}
 use Rattle.lists.specs.Join.{joined}
-use Rattle.lists.specs.Select.{selected}
+use Rattle.lists.specs.Select.{selected, Rising}
 use Rattle.polynomial.specs.Polynomial.{evaluate}
 use Rattle.interpolation.specs.Interpolation.{candidate}
 use Rattle.reed_solomon.specs.Decode.{hasPiece, received}
@@ -43,9 +43,7 @@ unfoldable pub isFound : (t k : ℕ) (slots xs : List ℕ) → ℕ → Bool
 isFound t k slots xs s = isRight t xs (column k slots s xs) (stripeOf t k slots xs s)
 
 pub record Pointed (t : ℕ) (xs : List ℕ) : Type 0 where
-  pub least : (i : ℕ) → i < length xs → 1 ≤ getD xs i 0
-  pub most : (i : ℕ) → i < length xs → getD xs i 0 ≤ 16
-  pub different : (i j : ℕ) → i < length xs → j < length xs → getD xs i 0 ≡ getD xs j 0 → i ≡ j
+  pub rising : Rising 16 xs
   pub many : t + 1 ≤ length xs
   pub few : length xs ≤ 16
   pub few-faulty : t ≤ 5
