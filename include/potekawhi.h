@@ -21,6 +21,9 @@
  *   6  a lent length is not the one stated
  * that it tries, as said below; step has two more, 7 and 8. Refused, it changes no byte.
  *
+ * Marks. A set of controllers is a number of 16 bits: the bit worth 1 is for controller 1, the bit worth 2 for controller 2, the bit worth 4 for
+ * controller 3 and so on; 0 is the empty set.
+ *
  * Boxes. An inbox or outbox has n slots, slot j for controller j. A slot is one byte, 01 if a message is there, and then the message, whose
  * length is potekawhi_message_length of the round; a slot whose first byte is not 01 is absent, its other bytes are not read. The slot that
  * i writes for j in round c is to arrive in slot i of the inbox of j's call c + 1; where nothing arrived in time the slot's first byte is
@@ -36,7 +39,7 @@ extern "C" {
 #endif
 
 /* The length of a state in bytes. */
-#define POTEKAWHI_STATE_LENGTH 115
+#define POTEKAWHI_STATE_LENGTH 117
 
 /* The length of the rows of a matrix in bytes, of the missing pairs of a graph, and of the sets of a star. */
 #define POTEKAWHI_ROWS_LENGTH 32
@@ -93,6 +96,13 @@ uint8_t potekawhi_outcome(const uint8_t *state, size_t state_length);
 uint8_t potekawhi_final_block(const uint8_t *state, size_t state_length, const uint8_t *block, size_t block_length, uint8_t *final_block,
                               size_t final_block_length);
 
+/* Whom the controller names: the marks of those whose piece in the last round was absent or differed, in any byte, from their piece of the final
+ * block. Empty while the run is open, and where the outcome is POTEKAWHI_OUTCOME_NONE or POTEKAWHI_OUTCOME_BEYOND: start and every call set it
+ * anew, and a step that is refused leaves it as it was. With at most t faulty controllers no correct one names a correct one. The marks of
+ * correct controllers may differ, since a faulty one may send its true piece to some of them; and a faulty one that sent its true piece is
+ * not named. In a damaged state whatever stands there. 0 if `state` has another length than POTEKAWHI_STATE_LENGTH. */
+uint16_t potekawhi_named(const uint8_t *state, size_t state_length);
+
 /* The message in slot `j` of an inbox of messages of `length` bytes: answers its length and writes to `*offset` where in the inbox it
  * starts; 0 and 0 if the slot is absent, j is 0, or the inbox does not hold the slot whole. */
 size_t potekawhi_message(const uint8_t *inbox, size_t inbox_length, size_t length, size_t j, size_t *offset);
@@ -104,9 +114,11 @@ uint8_t potekawhi_encode(size_t n, size_t t, size_t k, size_t number, const uint
 /* The block from the pieces in `slots`, to `block`. `slots` is n slots of messages of k bytes; absent ones are dropped. With N slots present,
  * it is the block in each stripe of which twice the number of present values that differ from its coding is at most N - t - 1: any t + 1 true
  * pieces suffice if all other slots are absent, and with all n present up to (n - t - 1) / 2 may be false. With N at most t there is none.
- * `block` has k * (t + 1) bytes. Answers 0 and the block; POTEKAWHI_BEYOND and zeros if there is no such block; or the first of 1, 2, 3, 6, and
- * nothing changes. */
-uint8_t potekawhi_decode(size_t n, size_t t, size_t k, const uint8_t *slots, size_t slots_length, uint8_t *block, size_t block_length);
+ * `block` has k * (t + 1) bytes. `*named` is written too: the marks of those of 1 to n whose slot is absent or differs, in any byte, from their
+ * piece of that block. Answers 0, the block and its marks; POTEKAWHI_BEYOND, zeros and no marks, 0, if there is no such block; or the first of
+ * 1, 2, 3, 6, and nothing changes: neither `block` nor `*named`. */
+uint8_t potekawhi_decode(size_t n, size_t t, size_t k, const uint8_t *slots, size_t slots_length, uint8_t *block, size_t block_length,
+                         uint16_t *named);
 
 /* The star of the neighbour graph of `rows`, 16 rows of marks of two bytes each, low byte first, of which the first n rows and of them the
  * lowest n bits are read: i and j are neighbours if each marks the other. Writes the sets C, D, F and E, of which E is the core, to `sets`,

@@ -1,14 +1,16 @@
--- Demand 3: `agreement`. From the laws of the code and of the star (`concluded`), and with them. Its corollary for readers: `one-plan`.
+-- Demand 3: `agreement`. From the laws of the code and of the star (`concluded`), and with them. Its corollary for readers: `one-plan`. Beside it, whom
+-- correct controllers name (document 02, U1): `named-by-last` and `no-correct-named`.
 use mathlib.Core.Path.{sym, _∙_}
 use Prim.Native.Nat.{ℕ}
 use mathlib.Core.List.{List}
 use Rattle.settings.specs.Valid.{Quorum, Coded}
 use Rattle.agreement.specs.Agreement.{Correct, Agreement, OnePlan}
+use Rattle.agreement.specs.Named.{NamedByLast, NoCorrectNamed}
 use Rattle.agreement.proofs.System.{coded, later}
 use Rattle.agreement.proofs.Coding.{Code, code-laws}
 use Rattle.agreement.proofs.Graph.{Graph, graph-laws}
 use Rattle.agreement.proofs.Cores.{lastMatrix}
-use Rattle.agreement.proofs.Ends.{set-by-last}
+use Rattle.agreement.proofs.Ends.{set-by-last, named-at-end}
 use Rattle.agreement.proofs.Verdict.{verdict, sender-verdict}
 
 module _ (code : (n t k : ℕ) → Coded n t k → Code n t k) (graph : (n t : ℕ) → Quorum n t → (rows : List ℕ) → Graph rows n t) where
@@ -34,3 +36,14 @@ agreement = concluded code-laws graph-laws
 -- no two correct controllers hold different blocks
 pub one-plan : OnePlan
 one-plan S H i j f g A B a b = sym (a .1) ∙ agreement S H .same-block i j f g ∙ b .1
+
+-- whom a correct controller names at the end
+pub named-by-last : NamedByLast
+named-by-last = named-at-end
+
+-- no correct controller names a correct one
+pub no-correct-named : NoCorrectNamed
+no-correct-named S H i j f g =
+    let v = coded S H i f in
+    verdict S H i f (code-laws (S .settings .n) (S .settings .t) (S .settings .k) v) (graph-laws (S .settings .n) (S .settings .t) (v .quorum) (lastMatrix S i))
+    .2 .unnamed i j f g

@@ -1,8 +1,8 @@
--- Step 7. One core for all: with none all say none and zeros; else its correct members hold one block, and all end with agreed and that block
--- (`verdict`). If the sender is correct, the correct controllers are a clique of at least n - t, so that the core holds them all
+-- Step 7. One core for all: with none all say none and zeros; else its correct members hold one block, and all end with agreed and that block;
+-- either way they name no correct controller (`verdict`). If the sender is correct, the correct controllers are a clique of at least n - t, so that the core holds them all
 -- (`sender-in-core`) and the block is the sender's (`sender-verdict`).
 use mathlib.Core.Path.{_≡_, sym, ap, ap₂, subst, _∙_}
-use mathlib.Core.Bool.{true, _&&_}
+use mathlib.Core.Bool.{true, false, _&&_}
 use mathlib.Core.List.{List}
 use mathlib.Core.Logic.{⊎-elim}
 use Prim.Native.Nat.{ℕ, _+_, _-_, _^_, _≤_, _<_}
@@ -19,13 +19,14 @@ use Rattle.protocol.specs.Calls.{coreOf}
 use Rattle.reconstruction.specs.declared.Outcome.{Outcome}
 use Rattle.reconstruction.specs.declared.Outcome.the-variants.{Agreed, None}
 use Rattle.agreement.specs.Agreement.{System, Correct, Supposed, outcomeOf, blockOf}
+use Rattle.agreement.specs.Named.{namedBy}
 use Rattle.agreement.proofs.System.{coded}
 use Rattle.agreement.proofs.Coding.{IsBlock, Code}
 use Rattle.agreement.proofs.Graph.{Graph}
 use Rattle.agreement.proofs.Blocks.{heldBlock, is-block, agree-marks, sender-block}
 use Rattle.agreement.proofs.Votes.{correctAt, by-index, to-index, most-correct, row-is-marks}
 use Rattle.agreement.proofs.Cores.{lastMatrix, one-core, one-block, enough-correct}
-use Rattle.agreement.proofs.Ends.{ends-none, ends-agreed}
+use Rattle.agreement.proofs.Ends.{ends-none, none-unnamed, ends-agreed, ends-unnamed}
 
 module _ (S : System) (H : Supposed S) (w : ℕ) (f : Correct S w) (C : Code (S .settings .n) (S .settings .t) (S .settings .k))
     (G : Graph (lastMatrix S w) (S .settings .n) (S .settings .t)) where
@@ -33,29 +34,35 @@ module _ (S : System) (H : Supposed S) (w : ℕ) (f : Correct S w) (C : Code (S 
   abbrev pub coreSet : ℕ
   coreSet = coreOf (lastMatrix S w) (S .settings .n) (S .settings .t)
 
-  -- what all correct controllers end with
+  -- what all correct controllers end with; none of them names another
   pub record Verdict (o : Outcome) (b : List ℕ) : Type 0 where
     pub all : (i : ℕ) → Correct S i → (outcomeOf S i ≡ o) × (blockOf S i ≡ b)
+    pub unnamed : (i j : ℕ) → Correct S i → Correct S j → member (namedBy S i) (j - 1) ≡ false
 
   few-rows : S .settings .n ≤ 16
   few-rows = coded S H w f .quorum .n-most
 
+  empty : coreSet ≡ 0 → (i : ℕ) → Correct S i → restricted (coreOf (lastMatrix S i) (S .settings .n) (S .settings .t)) (S .settings .n) ≡ 0
+  empty z i g =
+      ap (λ (x : ℕ). restricted x (S .settings .n)) (one-core S H i w g f ∙ z)
+      ∙ restrict-below 0 (S .settings .n) (subst (λ (x : ℕ). x < 2 ^ S .settings .n) z (G .core-lt))
+
   without : coreSet ≡ 0 → Verdict None (replicate (blockLength (S .settings .k) (S .settings .t)) 0)
   without z = record {
-    all = λ i g.
-        ends-none S H i g
-        (ap (λ (x : ℕ). restricted x (S .settings .n)) (one-core S H i w g f ∙ z)
-        ∙ restrict-below 0 (S .settings .n) (subst (λ (x : ℕ). x < 2 ^ S .settings .n) z (G .core-lt)));
+    all = λ i g. ends-none S H i g (empty z i g);
+    unnamed = λ i j g h. none-unnamed S H i g (empty z i g) (j - 1);
   }
 
   -- with a core whose correct members hold B
   with : (coreSet ≡ 0 → ⊥) → (B : List ℕ) → IsBlock (S .settings .k) (S .settings .t) B
       → ((i : ℕ) → Correct S i → member coreSet (i - 1) ≡ true → heldBlock S i ≡ B) → Verdict Agreed B
-  with z B is holds = record {
-    all =
-        ends-agreed S H C coreSet B is (λ i g. one-core S H i w g f) (λ q. z (sym (restrict-below coreSet (S .settings .n) (G .core-lt)) ∙ q))
-        (enough-correct S H w f C G z) holds;
-  }
+  with z B is holds =
+      let one : (i : ℕ) → Correct S i → coreOf (lastMatrix S i) (S .settings .n) (S .settings .t) ≡ coreSet = λ i g. one-core S H i w g f in
+      let some : restricted coreSet (S .settings .n) ≡ 0 → ⊥ = λ q. z (sym (restrict-below coreSet (S .settings .n) (G .core-lt)) ∙ q) in
+      record {
+        all = ends-agreed S H C coreSet B is one some (enough-correct S H w f C G z) holds;
+        unnamed = ends-unnamed S H C coreSet B is one some (enough-correct S H w f C G z) holds;
+      }
 
   -- a correct member of the core
   heart : (coreSet ≡ 0 → ⊥) → (c : ℕ) × Correct S (c + 1) × (member coreSet c ≡ true)

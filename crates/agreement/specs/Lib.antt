@@ -1,3 +1,4 @@
--- One controller's run, and agreement of a system of them.
+-- One controller's run, agreement of a system of them, and whom they name.
 pub mod Run
 pub mod Agreement
+pub mod Named

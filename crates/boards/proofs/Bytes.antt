@@ -27,6 +27,7 @@ use Rattle.boards.specs.Boards.{
   stepReturned,
   stepBytes,
   outcomeIn,
+  namedIn,
   finalSize,
   finalFits,
   finalBytes,
@@ -68,6 +69,9 @@ module _ (s : State) (w : Words s) where
       cond-yes (eqb (length (stateBytes s)) stateLength) (outcomeNumber (stateOf (stateBytes s) .outcome)) badLength
       (eq-eqb (length (stateBytes s)) stateLength (length-state s))
       ∙ ap (λ (x : State). outcomeNumber (x .outcome)) (read-written s w)
+
+  pub named-bytes : namedIn (stateBytes s) ≡ s .named
+  named-bytes = ap (λ (x : State). x .named) (read-written s w)
 
   size-bytes : finalSize (stateBytes s) ≡ blockSize (s .settings .n) (s .settings .t) (s .settings .k)
   size-bytes = ap (λ (x : State). blockSize (x .settings .n) (x .settings .t) (x .settings .k)) (read-written s w)

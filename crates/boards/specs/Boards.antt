@@ -10,11 +10,13 @@
 --   stepReturned state a                     the same where it was carried out; refused, the state stays byte for byte
 --   stepBytes state b i o                    step on the state that the bytes stand for
 --   outcomeIn state                          the number of the outcome in a state
+--   namedIn state                            the marks of those named in a state; none where it has another length
 --   finalSize state                          the length of a block by the state's settings
 --   finalFits state block final              both lent blocks have it
 --   finalBytes state block final             the outcome, and the final block: the block as it is, once the outcome is set
 --   decodeNumber d                           the number for an answer of decoding
---   DecodeLeaves n t k slots before r after  decoding: r is the number of its answer, and `after` the block that it leaves
+--   namedAfter d m                           the marks that it leaves where m was: those of the block; none for beyond; refused, m
+--   DecodeLeaves n t k slots b m r b′ m′      decoding: r is the number of its answer, b′ the block that it leaves, and m′ the marks
 --   setRows s                                the sets C, D, F and E as the first of 16 rows of marks
 --   setBytes s                               the bytes of these four rows
 --   starReturned s sets                      an answer of the star; refused, the lent bytes stay
@@ -86,6 +88,9 @@ stepBytes state b i o = cond (eqb (length state) stateLength) (stepReturned stat
 unfoldable pub outcomeIn : List ℕ → ℕ
 outcomeIn state = cond (eqb (length state) stateLength) (outcomeNumber (stateOf state .outcome)) badLength
 
+abbrev pub namedIn : List ℕ → ℕ
+namedIn state = stateOf state .named
+
 abbrev pub finalSize : List ℕ → ℕ
 finalSize state = blockSize (stateOf state .settings .n) (stateOf state .settings .t) (stateOf state .settings .k)
 
@@ -99,12 +104,17 @@ finalBytes state block final =
     (returned badLength final)
 
 abbrev pub decodeNumber : Decoded → ℕ
-decodeNumber Block = 0
+decodeNumber (Block named) = 0
 decodeNumber Beyond = beyondNumber
 decodeNumber (Refused r) = r
 
-abbrev pub DecodeLeaves : (n t k : ℕ) (slots before : List ℕ) → ℕ → List ℕ → Type 0
-DecodeLeaves n t k slots before r after = (d : Decoded) × (r ≡ decodeNumber d) × Answers n t k slots before d after
+abbrev pub namedAfter : Decoded → ℕ → ℕ
+namedAfter (Block named) m = named
+namedAfter Beyond m = 0
+namedAfter (Refused r) m = m
+
+abbrev pub DecodeLeaves : (n t k : ℕ) (slots b : List ℕ) (m r : ℕ) (b′ : List ℕ) (m′ : ℕ) → Type 0
+DecodeLeaves n t k slots b m r b′ m′ = (d : Decoded) × (r ≡ decodeNumber d) × Answers n t k slots b d b′ × (m′ ≡ namedAfter d m)
 
 abbrev pub setRows : Sets → List ℕ
 setRows s = s .c ∷ s .d ∷ s .f ∷ s .e ∷ replicate 12 0

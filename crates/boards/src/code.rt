@@ -2,7 +2,7 @@
 ghost use mathlib.Core.Path.{_≡_};
 ghost use lib.ListN.{length};
 ghost use Rattle.reed_solomon.specs.Encode.{encoded, encodeOf};
-ghost use Rattle.boards.specs.Boards.{returned, decodeNumber, DecodeLeaves, setBytes, starReturned, starBytes, pairBytes, pairStarBytes};
+ghost use Rattle.boards.specs.Boards.{returned, decodeNumber, namedAfter, DecodeLeaves, setBytes, starReturned, starBytes, pairBytes, pairStarBytes};
 use crate::BAD_LENGTH;
 use reed_solomon::Decoded;
 use star::Sets;
@@ -31,14 +31,25 @@ fn decoded_number(r: Decoded) -> u8
     ensures { λ x. ⌜ x ≡ decodeNumber r ⌝ }
 {
     match r {
-        Decoded::Block => 0,
+        Decoded::Block(_) => 0,
         Decoded::Beyond => BEYOND,
         Decoded::Refused(number) => number,
     }
 }
 
-// Decoding: the block to the lent bytes, by the relation `Answers`.
-// Shut out: 0 for beyond; n and t the other way round; must-fail/beyond_as_a_row.
+// The marks that an answer of decoding leaves in the place of `named`.
+fn decoded_marks(r: Decoded, named: u16) -> u16
+    ensures { λ x. ⌜ x ≡ namedAfter r named ⌝ }
+{
+    match r {
+        Decoded::Block(marks) => marks,
+        Decoded::Beyond => 0,
+        Decoded::Refused(_) => named,
+    }
+}
+
+// Decoding: the block to the lent bytes and its marks to the lent number, by the relation `Answers`.
+// Shut out: 0 for beyond; n and t the other way round; the marks cleared where it is refused, kept for beyond; must-fail/beyond_as_a_row.
 #[no_mangle]
 pub extern "C" fn potekawhi_decode(
     n: usize,
@@ -46,10 +57,12 @@ pub extern "C" fn potekawhi_decode(
     k: usize,
     slots: &[u8],
     block: &mut [u8],
+    named: &mut u16,
 ) -> u8
-    ensures { λ r. ⌜ DecodeLeaves n t k (now (slots .entry)) (now (block .entry)) r (now (block .exit)) ⌝ }
+    ensures { λ r. ⌜ DecodeLeaves n t k (now (slots .entry)) (now (block .entry)) (now (named .entry)) r (now (block .exit)) (now (named .exit)) ⌝ }
 {
     let decoded = reed_solomon::decode(n, t, k, slots, block);
+    *named = decoded_marks(decoded, *named);
     decoded_number(decoded)
 }
 

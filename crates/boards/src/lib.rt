@@ -11,7 +11,7 @@ ghost use Rattle.wire.specs.Round.{callCount};
 ghost use Rattle.wire.specs.Length.{blockSize, messageLength, inboxLength, outboxLength};
 ghost use Rattle.wire.specs.Slot.{layoutWith, messageOf, offsetOf};
 ghost use Rattle.state_bytes.specs.State.{stateOf};
-ghost use Rattle.boards.specs.Boards.{returned, startBytes, returnedStep, stepBytes, outcomeIn, finalBytes};
+ghost use Rattle.boards.specs.Boards.{returned, startBytes, returnedStep, stepBytes, outcomeIn, namedIn, finalBytes};
 use settings::Settings;
 
 // The number of a lent length that is wrong.
@@ -92,6 +92,16 @@ pub extern "C" fn potekawhi_outcome(state: &[u8]) -> u8
     let s = state_bytes::read(state);
     let outcome = s.outcome;
     state_bytes::outcome_number(outcome)
+}
+
+// The marks of those whom the controller names; none where the state has another length.
+// Shut out: the core; nobody, whatever the state says.
+#[no_mangle]
+pub extern "C" fn potekawhi_named(state: &[u8]) -> u16
+    ensures { λ r. ⌜ r ≡ namedIn (now (state .entry)) ⌝ }
+{
+    let s = state_bytes::read(state);
+    s.named
 }
 
 // The number of the outcome, and the final block, once there is one.

@@ -21,9 +21,10 @@ use Rattle.star.proofs.Laws.{e-below}
 use Rattle.reconstruction.specs.declared.Outcome.{Outcome}
 use Rattle.reconstruction.specs.declared.Outcome.the-variants.{Open}
 use Rattle.reconstruction.specs.Reconstruction.{finished}
+use Rattle.reconstruction.proofs.Laws.{finished-lt}
 use Rattle.protocol.specs.declared.State.{State}
 use Rattle.protocol.specs.declared.Started.{Started}
-use Rattle.protocol.specs.State.{zeroState, freshState, advanced, withMatrix, withVotes, withCore}
+use Rattle.protocol.specs.State.{zeroState, freshState, advanced, withMatrix, withVotes, withCore, withNamed}
 use Rattle.protocol.specs.Calls.{Carried, inboxLayout, readPhase, coreOf, settledMatrix, callOf}
 use Rattle.protocol.specs.Step.{startRefusal, startOf, stepRefusal, After, stepOf}
 use Rattle.protocol.proofs.Laws.{
@@ -50,19 +51,21 @@ use Rattle.state_bytes.specs.State.{sixNumbers, Words}
 use Rattle.state_bytes.proofs.Laws.{numbers-lt}
 
 -- ---- the states that are built
--- with a matrix, a weak matrix and a core of zeros
-zeros-words : (s : State) → ((i : ℕ) → getD (sixNumbers s) i 0 < 2 ^ 64) → s .matrix ≡ replicate 16 0 → s .weak ≡ replicate 16 0 → s .core ≡ 0 → Words s
-zeros-words s h m w c = record {
+-- with a matrix, a weak matrix and a core of zeros, and nobody named
+zeros-words : (s : State) → ((i : ℕ) → getD (sixNumbers s) i 0 < 2 ^ 64) → s .matrix ≡ replicate 16 0 → s .weak ≡ replicate 16 0 → s .core ≡ 0
+    → s .named ≡ 0 → Words s
+zeros-words s h m w c r = record {
   numbers = h;
   matrix-length = ap length m;
   matrix-rows = λ i. rw m (all-zeros (λ x. x < 2 ^ 16) (lit< tt) 16 i);
   weak-length = ap length w;
   weak-rows = λ i. rw w (all-zeros (λ x. x < 2 ^ 16) (lit< tt) 16 i);
   core-row = rw c (lit< tt);
+  named-row = rw r (lit< tt);
 }
 
 zero-words : Words zeroState
-zero-words = zeros-words zeroState (numbers-lt zeroState (lit< tt) (lit< tt) (lit< tt) (lit< tt) (lit< tt) (lit< tt)) refl refl refl
+zero-words = zeros-words zeroState (numbers-lt zeroState (lit< tt) (lit< tt) (lit< tt) (lit< tt) (lit< tt) (lit< tt)) refl refl refl refl
 
 fresh-words : (s : Settings) (own : ℕ) → Valid s own → Words (freshState s own)
 fresh-words s own v =
@@ -70,6 +73,7 @@ fresh-words s own v =
     zeros-words (freshState s own)
     (numbers-lt (freshState s own) (omega (arith, q .n-most)) (omega (arith, q .n-most, q .t-most)) (omega (arith, v .coded .k-most))
     (omega (arith, q .n-most, v .number .most)) (omega (arith, q .n-most, v .sender .most)) (lit< tt))
+    refl
     refl
     refl
     refl
@@ -93,6 +97,7 @@ advanced-words s w h l = record {
   weak-length = h .weak-length;
   weak-rows = h .weak-rows;
   core-row = h .core-row;
+  named-row = lit< tt;
 }
 
 matrix-words : (s : State) (m : List ℕ) → Words s → length m ≡ 16 → ((i : ℕ) → getD m i 0 < 2 ^ 16) → Words (withMatrix s m)
@@ -103,6 +108,7 @@ matrix-words s m h l r = record {
   weak-length = h .weak-length;
   weak-rows = h .weak-rows;
   core-row = h .core-row;
+  named-row = h .named-row;
 }
 
 votes-words : (s : State) (m w : List ℕ) → Words s → length m ≡ 16 → ((i : ℕ) → getD m i 0 < 2 ^ 16) → length w ≡ 16 → ((i : ℕ) → getD w i 0 < 2 ^ 16)
@@ -114,6 +120,7 @@ votes-words s m w h l r l′ r′ = record {
   weak-length = l′;
   weak-rows = r′;
   core-row = h .core-row;
+  named-row = h .named-row;
 }
 
 core-words : (s : State) (m : List ℕ) (e : ℕ) → Words s → length m ≡ 16 → ((i : ℕ) → getD m i 0 < 2 ^ 16) → e < 2 ^ 16 → Words (withCore s m e)
@@ -124,6 +131,18 @@ core-words s m e h l r c = record {
   weak-length = h .weak-length;
   weak-rows = h .weak-rows;
   core-row = c;
+  named-row = h .named-row;
+}
+
+named-words : (s : State) (m : ℕ) → Words s → m < 2 ^ 16 → Words (withNamed s m)
+named-words s m h l = record {
+  numbers = h .numbers;
+  matrix-length = h .matrix-length;
+  matrix-rows = h .matrix-rows;
+  weak-length = h .weak-length;
+  weak-rows = h .weak-rows;
+  core-row = h .core-row;
+  named-row = l;
 }
 
 -- ---- each call
@@ -171,7 +190,10 @@ module _ (s : State) (b i o : List ℕ) (h : Words s) (few : s .settings .n ≤ 
       (coreOf settled (s .settings .n) (s .settings .t)) open-words settled-length settled-rows core-below)
   call-words Choose = by Choose _ (of-choose s b i o) open-words
   call-words Finish =
-      by Finish _ (of-finish s b i o) (advanced-words s (finished (s .settings .n) (s .settings .t) (s .settings .k) (s .core) i b .outcome) h l)
+      let f = finished (s .settings .n) (s .settings .t) (s .settings .k) (s .core) i b in
+      by Finish _ (of-finish s b i o)
+      (named-words (advanced s (f .ending .outcome)) (f .ending .named) (advanced-words s (f .ending .outcome) h l)
+      (finished-lt (s .settings .n) (s .settings .t) (s .settings .k) (s .core) i b few))
   call-words Outside = by Outside _ (of-outside s b i o) h
 
 pub step-words : (s : State) (b i o : List ℕ) → Words s → Words (stepOf s b i o .answer .state)

@@ -1,8 +1,8 @@
 -- Demand 3 for runs that are made through the exported functions. The main laws: `library-runs` (they are the runs of `agreement`, with the state
--- as bytes) and `library-agrees` (one outcome, one block and one final block).
+-- as bytes), `library-agrees` (one outcome, one block and one final block) and `library-names` (whom correct controllers name).
 use mathlib.Core.Path.{_≡_, refl, sym, ap, ap₂, subst, _∙_}
 use mathlib.Core.List.{List, [], _∷_}
-use Prim.Native.Nat.{ℕ, _+_}
+use Prim.Native.Nat.{ℕ, _+_, _-_}
 use native.Mathlib.Omega.{arith}
 use lib.ListN.{length}
 use Rattle.settings.specs.declared.Settings.{Settings}
@@ -12,13 +12,17 @@ use Rattle.protocol.specs.declared.State.{State}
 use Rattle.protocol.specs.Step.{startOf}
 use Rattle.protocol.proofs.Laws.{step-refused, step-number}
 use Rattle.agreement.specs.Run.{Lent, Local, stepped, left, leftAfter, begun}
-use Rattle.agreement.specs.Agreement.{System, Correct, Supposed, atStart, atEnd, last}
-use Rattle.agreement.proofs.Laws.{At, coded, length-block, call-at, call-last, agreement}
+use Rattle.agreement.specs.Agreement.{System, Correct, Supposed, atStart, atEnd, last, lastInbox}
+use Rattle.agreement.proofs.Laws.{At, coded, length-block, call-at, call-last, agreement, named-by-last, no-correct-named}
 use Rattle.state_bytes.specs.State.{stateLength, stateBytes, Words}
+use Rattle.bitset.specs.Set.{member}
+use Rattle.reed_solomon.specs.Decode.{namedOf}
+use Rattle.reconstruction.specs.declared.Outcome.{Outcome}
+use Rattle.reconstruction.specs.declared.Outcome.the-variants.{Open, Agreed, None, Beyond}
 use Rattle.reconstruction.specs.Outcomes.{outcomeNumber}
-use Rattle.boards.specs.Boards.{ReturnedStep, returnedStep, stepAsBytes, returned, Returned, outcomeIn, finalBytes}
-use Rattle.boards.proofs.Laws.{start-bytes, step-bytes, outcome-bytes, final-bytes, final-same}
-use Rattle.boards_agreement.specs.Library.{Kept, makes, kept, keptAfter, keptFrom, LibraryRuns, keptAt, SetByLastCall, LibraryAgrees}
+use Rattle.boards.specs.Boards.{ReturnedStep, returnedStep, stepAsBytes, returned, Returned, outcomeIn, namedIn, finalBytes}
+use Rattle.boards.proofs.Laws.{start-bytes, step-bytes, outcome-bytes, named-bytes, final-bytes, final-same}
+use Rattle.boards_agreement.specs.Library.{Kept, makes, kept, keptAfter, keptFrom, LibraryRuns, keptAt, SetByLastCall, LibraryAgrees, LibraryNames}
 use Rattle.boards_agreement.proofs.Bounds.{start-words, step-words}
 
 -- what is held, with the state as bytes
@@ -62,6 +66,13 @@ library-runs s own b buffer size ls l started =
     ap (λ (c : Kept). makes c l) (run-same s own b buffer size started ls)
     ∙ makes-same (leftAfter (begun s own b) ls) (ends-words (begun s own b) ls (begun-words s own b buffer size started)) l
 
+-- agreed is known by its number
+agreed-number : (w : Outcome) → outcomeNumber w ≡ outcomeNumber Agreed → w ≡ Agreed
+agreed-number Open e = absurd (omega (arith, e))
+agreed-number Agreed e = refl
+agreed-number None e = absurd (omega (arith, e))
+agreed-number Beyond e = absurd (omega (arith, e))
+
 -- ---- systems
 module _ (S : System) (supposed : Supposed S) (buffers : ℕ → List ℕ) (sizes : (i : ℕ) → length (buffers i) ≡ stateLength) where
   at : (i : ℕ) → Correct S i → keptAt S buffers i ≡ asKept (atEnd S i)
@@ -78,6 +89,10 @@ module _ (S : System) (supposed : Supposed S) (buffers : ℕ → List ℕ) (size
   block-at : (i : ℕ) → Correct S i → keptAt S buffers i .block ≡ atEnd S i .block
   unfolding asKept
   block-at i c = ap (λ (x : Kept). x .block) (at i c)
+
+  named-at : (i : ℕ) → Correct S i → namedIn (keptAt S buffers i .state) ≡ atEnd S i .state .named
+  unfolding asKept
+  named-at i c = ap (λ (x : Kept). namedIn (x .state)) (at i c) ∙ named-bytes (atEnd S i .state) (end-words i)
 
   set-by-last : (i : ℕ) → Correct S i → SetByLastCall S buffers i
   set-by-last i c =
@@ -146,3 +161,16 @@ library-agrees S supposed buffers sizes = record {
   same-final = one-final S supposed buffers sizes;
   sender-final = senders-final S supposed buffers sizes;
 }
+
+pub library-names : LibraryNames
+library-names S supposed buffers sizes =
+    let named : (i : ℕ) (c : Correct S i) → namedIn (keptAt S buffers i .state) ≡ atEnd S i .state .named = named-at S supposed buffers sizes in
+    let outcome : (i : ℕ) (c : Correct S i) → outcomeIn (keptAt S buffers i .state) ≡ outcomeNumber (atEnd S i .state .outcome)
+    = outcome-at S supposed buffers sizes in
+    record {
+      agreed = λ i c e.
+          named i c ∙ named-by-last S supposed i c .agreed (agreed-number (atEnd S i .state .outcome) (sym (outcome i c) ∙ e))
+          ∙ ap (namedOf (S .settings .n) (S .settings .t) (S .settings .k) (lastInbox S i)) (sym (block-at S supposed buffers sizes i c));
+      other = λ i c n. named i c ∙ named-by-last S supposed i c .other (λ e. n (outcome i c ∙ ap outcomeNumber e));
+      no-correct = λ i j c d. ap (λ (m : ℕ). member m (j - 1)) (named i c) ∙ no-correct-named S supposed i j c d;
+    }

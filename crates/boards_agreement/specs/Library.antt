@@ -1,6 +1,6 @@
 -- Runs made through the exported functions of `boards`, with the state as bytes, and what demand 3 says of them. The contracts of
--- `potekawhi_start`, `potekawhi_step`, `potekawhi_outcome` and `potekawhi_final_block` are the equations `startBytes`, `stepBytes`,
--- `outcomeIn` and `finalBytes` that are used here.
+-- `potekawhi_start`, `potekawhi_step`, `potekawhi_outcome`, `potekawhi_final_block` and `potekawhi_named` are the equations `startBytes`, `stepBytes`,
+-- `outcomeIn`, `finalBytes` and `namedIn` that are used here.
 --   Kept                     what the caller keeps from each step to the next: the state's bytes and the block
 --   makes c l                one step through the library
 --   kept c l                 what it leaves to the next
@@ -13,20 +13,24 @@
 --   OneOutcome S buffers     these; later steps answer 8 and change nothing; one outcome and one block; one final block; with a correct sender the
 --                            outcome agreed, 1, and the sender's block
 --   LibraryAgrees            that holds of every system that `agreement` supposes, run through the library
+--   NamedRight S buffers     document 02, U1: with the outcome agreed a correct controller names those whose piece in the last round was absent, or was
+--                            not, byte for byte, their piece of its block; with any other outcome nobody; and no correct controller in any case
+--   LibraryNames             that holds of every such system
 use mathlib.Core.Path.{_≡_}
+use mathlib.Core.Bool.{false}
 use mathlib.Core.List.{List, [], _∷_}
-use Prim.Native.Nat.{ℕ}
+use Prim.Native.Nat.{ℕ, _-_}
 use lib.ListN.{length, replicate}
 use Rattle.settings.specs.declared.Settings.{Settings}
-use Rattle.bitset.specs.Set.{restricted}
-use Rattle.reed_solomon.specs.Decode.{Decodes}
+use Rattle.bitset.specs.Set.{member, restricted}
+use Rattle.reed_solomon.specs.Decode.{Decodes, namedOf}
 use Rattle.reconstruction.specs.declared.Outcome.the-variants.{Agreed, None, Beyond}
 use Rattle.reconstruction.specs.Outcomes.{outcomeNumber}
 use Rattle.protocol.specs.Step.{startOf}
 use Rattle.agreement.specs.Run.{Lent, stepped, leftAfter, begun}
 use Rattle.agreement.specs.Agreement.{System, Correct, Supposed, lastCore, lastInbox}
 use Rattle.state_bytes.specs.State.{stateLength}
-use Rattle.boards.specs.Boards.{ReturnedStep, returnedStep, stepAsBytes, startBytes, stepBytes, outcomeIn, finalBytes, returned}
+use Rattle.boards.specs.Boards.{ReturnedStep, returnedStep, stepAsBytes, startBytes, stepBytes, outcomeIn, namedIn, finalBytes, returned}
 
 pub record Kept : Type 0 where
   pub state : List ℕ
@@ -81,3 +85,12 @@ pub record OneOutcome (S : System) (buffers : ℕ → List ℕ) : Type 0 where
 
 abbrev pub LibraryAgrees : Type 0
 LibraryAgrees = (S : System) → Supposed S → (buffers : ℕ → List ℕ) → ((i : ℕ) → length (buffers i) ≡ stateLength) → OneOutcome S buffers
+
+pub record NamedRight (S : System) (buffers : ℕ → List ℕ) : Type 0 where
+  pub agreed : (i : ℕ) → Correct S i → outcomeIn (keptAt S buffers i .state) ≡ outcomeNumber Agreed
+      → namedIn (keptAt S buffers i .state) ≡ namedOf (S .settings .n) (S .settings .t) (S .settings .k) (lastInbox S i) (keptAt S buffers i .block)
+  pub other : (i : ℕ) → Correct S i → (outcomeIn (keptAt S buffers i .state) ≡ outcomeNumber Agreed → ⊥) → namedIn (keptAt S buffers i .state) ≡ 0
+  pub no-correct : (i j : ℕ) → Correct S i → Correct S j → member (namedIn (keptAt S buffers i .state)) (j - 1) ≡ false
+
+abbrev pub LibraryNames : Type 0
+LibraryNames = (S : System) → Supposed S → (buffers : ℕ → List ℕ) → ((i : ℕ) → length (buffers i) ≡ stateLength) → NamedRight S buffers

@@ -10,12 +10,13 @@ use protocol::State;
 use protocol::with_call;
 use protocol::with_core;
 use protocol::with_matrix;
+use protocol::with_named;
 use protocol::with_votes;
 use reconstruction::Outcome;
 use wire::Call;
 use wire::Layout;
 
-// The state at the next call.
+// The state at the next call, with nobody named.
 fn advance(s: State, outcome: Outcome) -> State
     requires { ⌜ s .next ≤ 24 ⌝ }
     ensures { λ r. ⌜ r ≡ advanced s outcome ⌝ }
@@ -222,7 +223,7 @@ fn finish_call(s: State, block: &mut [u8], inbox: &[u8]) -> State
     requires { ⌜ Bounded s ⌝ }
     ensures { λ r. ⌜ carried r (now (block .exit)) [] ≡ finishCall s (now (block .entry)) (now (inbox .entry)) [] ⌝ }
 {
-    let outcome = reconstruction::finish(
+    let ending = reconstruction::finish(
         s.settings.n,
         s.settings.t,
         s.settings.k,
@@ -230,7 +231,9 @@ fn finish_call(s: State, block: &mut [u8], inbox: &[u8]) -> State
         inbox,
         block,
     );
-    advance(s, outcome)
+    let outcome = ending.outcome;
+    let next = advance(s, outcome);
+    with_named(next, ending.named)
 }
 
 // The call that is next.

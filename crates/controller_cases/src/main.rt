@@ -1,12 +1,15 @@
-// Drives `controller::start` and `controller::step` through every refusal of document 01 ('Turned down'), and one controller alone, with silent
-// inboxes, through whole runs.
+// Drives `controller::start` and `controller::step` through every refusal of document 01 ('Turned down'), one controller alone, with silent
+// inboxes, through whole runs, and some through their last call.
 // A line `start n t k own sender length: number state block`: the lent length, the number answered, whether the state answered is the zero
 // state or the one of a run that begins, and whether the lent block is the same.
 // A line `step n t k own sender next block inbox outbox: number state block outbox`: the settings and the next call of the state given, the lent
 // lengths, the number answered, and whether state, block and outbox are the same after it. But for the zero state, the first one given,
-// outcome, both matrices and core of the state given are set to other than zero.
-// A line `call c: number next outcome block outbox`: a step on a state whose next call is c, the number answered, the next call and outcome
-// of the state answered, and all bytes of block and outbox after it.
+// outcome, both matrices, core and row of marks of the state given are set to other than zero.
+// A line `call c: number next outcome named block outbox`: a step on a state whose next call is c, the number answered, the next call, outcome
+// and row of marks of the state answered, and all bytes of block and outbox after it. In a run it is the state that the step before answered, but
+// with marks in its row: a refused step keeps them, and no other does (document 02, U1).
+// A line `last n t k own sender core inbox`: settings and core of a state whose next call is the last, and all bytes of the inbox; that call
+// follows. The state's row has the same marks.
 // The expected output comes from the independent reference:
 //     cargo run --release --bin controller_vectors > crates/controller_cases/stdout
 use protocol::Started;
@@ -111,6 +114,9 @@ const STEPS: [[usize; 9]; 40] = [
     [4, 1, 1, 1, 1, 13, 9, 9, 9],
 ];
 
+// The row of marks of states that are given: controllers 1, 6, 11 and 16.
+const MARKS: u16 = 33825;
+
 // The library's functions, each called in one place.
 fn begin(s: State, block: &[u8]) -> Started {
     let settings = s.settings;
@@ -212,7 +218,10 @@ fn same_progress(a: State, b: State) -> bool {
     if outcome_number(x) != outcome_number(y) {
         return false;
     }
-    a.core == b.core
+    if a.core != b.core {
+        return false;
+    }
+    a.named == b.named
 }
 
 fn same_matrix(a: State, b: State) -> bool {
@@ -252,6 +261,7 @@ fn plain(n: usize, t: usize, k: usize, own: usize, sender: usize, next: usize) -
         matrix: [0u16; 16],
         weak: [0u16; 16],
         core: 0,
+        named: 0,
     }
 }
 
@@ -283,6 +293,7 @@ fn given(n: usize, t: usize, k: usize, own: usize, sender: usize, next: usize) -
         ],
         weak: [65535, 2, 3, 4, 5, 6, 7, 8, 9, 10, 11, 12, 13, 14, 15, 65534],
         core: 43981,
+        named: MARKS,
     }
 }
 
@@ -464,23 +475,32 @@ fn print_outcome(o: Outcome) {
     }
 }
 
-fn print_call(c: usize, n: u8, s: State) {
+// The number and the state that call c answered, and what it left in block and outbox.
+fn print_call(c: usize, n: u8, s: State, block: &[u8], outbox: &[u8]) {
     let outcome = s.outcome;
     cases::numbers(b"call", &[c]);
     cases::numbers(b":", &[n as usize, s.next]);
     print_outcome(outcome);
+    cases::numbers(b"", &[s.named as usize]);
+    cases::hex(block);
+    cases::hex(outbox);
+    cases::newline();
+}
+
+// The state with the row of marks of states that are given.
+fn with_marks(s: State) -> State {
+    let mut r = s;
+    r.named = MARKS;
+    r
 }
 
 // A step of a run; the outbox is lent with other bytes.
 fn call_with(s: State, block: &mut [u8], inbox: &mut [u8], outbox: &mut [u8]) -> State {
     cases::fill(inbox, 0);
     fill(outbox);
-    let r = advance(s, block, inbox, outbox);
+    let r = advance(with_marks(s), block, inbox, outbox);
     let state = r.state;
-    print_call(s.next, r.number, state);
-    cases::hex(block);
-    cases::hex(outbox);
-    cases::newline();
+    print_call(s.next, r.number, state, block, outbox);
     state
 }
 
@@ -534,6 +554,70 @@ fn run_other() {
     run(7, 2, 2, 4, 2, &mut block);
 }
 
+// The state of controller 1, the sender, before its last call.
+fn before_last(n: usize, t: usize, k: usize, core: u16) -> State {
+    let mut s = given(n, t, k, 1, 1, call_count(t));
+    s.core = core;
+    s
+}
+
+fn last_with(s: State, block: &mut [u8], inbox: &[u8], outbox: &mut [u8]) {
+    let r = advance(s, block, inbox, outbox);
+    let state = r.state;
+    print_call(s.next, r.number, state, block, outbox);
+}
+
+// The outbox of the last call has no byte.
+fn last_cut(s: State, block: &mut [u8], inbox: &[u8], outbox: &mut [u8]) {
+    let o = cases::fitting(outbox_length(s), outbox);
+    last_with(s, block, inbox, &mut outbox[..o]);
+}
+
+fn last(s: State, block: &mut [u8], inbox: &[u8]) {
+    let mut space = io::buffer();
+    let outbox: &mut [u8] = &mut space;
+    print_settings(b"last", s);
+    cases::numbers(b"", &[s.core as usize]);
+    cases::hex(inbox);
+    cases::newline();
+    last_cut(s, block, inbox, outbox);
+}
+
+// n 4, t 1 and k 1.
+fn last_small(core: u16, inbox: &[u8]) {
+    let mut block = [255u8; 2];
+    last(before_last(4, 1, 1, core), &mut block, inbox);
+}
+
+// Pieces of 0a14: all true; examples d and e of document 01, and d with slot 1 absent; all true, and no member of the core within n.
+fn last_examples() {
+    last_small(15, b"\x01\x1e\x01\x22\x01\x36\x01\x5a");
+    last_small(15, b"\x01\x00\x01\x22\x01\x36\x01\x5a");
+    last_small(15, b"\x00\x1e\x01\x22\x01\x36\x01\x5a");
+    last_small(15, b"\x01\x1e\x01\x22\x01\x37\x01\x5b");
+    last_small(65520, b"\x01\x1e\x01\x22\x01\x36\x01\x5a");
+}
+
+// Three stripes 0a14, each with another false value.
+fn last_stripes() {
+    let mut block = [255u8; 6];
+    last(
+        before_last(4, 1, 3, 7),
+        &mut block,
+        b"\x01\x1e\x00\x1e\x01\x22\x22\x00\x01\x36\x36\x36\x01\x00\x5a\x5a",
+    );
+}
+
+// Four pieces of 0a141e and three silent slots, n 7 and t 2 (document 02, U2).
+fn last_silent() {
+    let mut block = [255u8; 3];
+    last(
+        before_last(7, 2, 1, 127),
+        &mut block,
+        b"\x01\x00\x00\x00\x01\x50\x01\xa7\x00\x00\x00\x00\x01\xfd",
+    );
+}
+
 fn main() {
     starts();
     step(plain(0, 0, 0, 0, 0, 0), 0, 0, 0);
@@ -544,4 +628,7 @@ fn main() {
     run_small();
     run_sender();
     run_other();
+    last_examples();
+    last_stripes();
+    last_silent();
 }

@@ -1,7 +1,8 @@
--- What decoding gives of all blocks: `three-silent` and `seven-false`, by the law `pieces-decode`.
+-- What decoding gives of all blocks, and whom it names: `three-silent` and `seven-false`, by the law `pieces-decode`.
 use mathlib.Core.Path.{_≡_, refl, sym, ap, _∙_}
 use mathlib.Core.Bool.{Bool, true, false, not, cond}
 use mathlib.Core.List.{List, []}
+use mathlib.Core.Logic.{⊎-elim}
 use Prim.Native.Nat.{ℕ, _+_, _*_, _≤_, _<_}
 use native.Mathlib.Omega.{arith}
 use lib.Dec.{eqb}
@@ -9,15 +10,16 @@ use lib.ListN.{length}
 use borrow.Author.Tests.{eq-eqb}
 use Rattle.lists.specs.Same.{same}
 use Rattle.lists.specs.Sum.{count}
-use Rattle.lists.proofs.Tests.{true≢false, fails}
+use Rattle.lists.proofs.Tests.{true≢false, fails, either}
 use Rattle.lists.proofs.Sums.{count-not, count-mono}
 use Rattle.lists.proofs.Sames.{same-eq}
+use Rattle.bitset.proofs.Laws.{set-ext}
 use Rattle.settings.specs.Valid.{Coded}
 use Rattle.wire.specs.Slot.{layoutWith, messageOf, silence, bytes, slots}
 use Rattle.wire.proofs.Laws.{Sized, sized-silence, sized-bytes, content, length-slots, read-back}
 use Rattle.reed_solomon.specs.Encode.{pieceOf}
-use Rattle.reed_solomon.specs.Decode.{hasPiece, presentCount}
-use Rattle.reed_solomon.proofs.Laws.{0-decode, length-piece, pieces-decode}
+use Rattle.reed_solomon.specs.Decode.{hasPiece, presentCount, isNamed, namedOf}
+use Rattle.reed_solomon.proofs.Laws.{0-decode, length-piece, pieces-decode, named-absent, true-not-named}
 use Rattle.examples.specs.Decoding.{sent, ThreeSilent, SevenFalse}
 
 -- ---- silent controllers
@@ -48,8 +50,19 @@ module _ (k : ℕ) (B : List ℕ) (silent : ℕ → Bool) where
       (fails (silent (i + 1))
       (λ s. true≢false (sym e ∙ ap not (eq-eqb (length (messageOf all (layoutWith k) (i + 1))) 0 (ap length (read i l true s))))))
 
+  -- and it is the one that is named
+  silent-named : 1 ≤ k → (i : ℕ) → i < 7 → silent (i + 1) ≡ isNamed 2 k all B (i + 1)
+  silent-named least i l =
+      ⊎-elim
+      (λ (e : silent (i + 1) ≡ true).
+      e
+      ∙ sym (named-absent 2 k all B (i + 1) least
+      (fails (hasPiece k all (i + 1)) (λ p. true≢false (sym (present-spoke i l p) ∙ ap not e)))))
+      (λ (e : silent (i + 1) ≡ false). e ∙ sym (true-not-named 2 k all B (i + 1) (read i l false e)))
+      (either (silent (i + 1)))
+
 pub three-silent : ThreeSilent
-unfolding presentCount
+unfolding presentCount namedOf
 three-silent k B before silent least most size is-bytes sized-before three =
     let coded : Coded 7 2 k = record {
       quorum = record { n-least = omega arith; n-most = omega arith; t-least = omega arith; t-most = omega arith };
@@ -64,13 +77,16 @@ three-silent k B before silent least most size is-bytes sized-before three =
             count-not 7 (λ i. silent (i + 1)),
             count-mono 7 (λ i. hasPiece k (all k B silent) (i + 1)) spoken (present-spoke k B silent),
           )),
+      set-ext 7 (λ i. silent (i + 1)) (λ i. isNamed 2 k (all k B silent) B (i + 1)) (silent-named k B silent least),
     )
 
 -- ---- false pieces
 pub seven-false : SevenFalse
+unfolding isNamed
 seven-false k slots B before taken size is-bytes here few =
     let right : ℕ → Bool = λ i. same (messageOf slots (layoutWith k) (i + 1)) (pieceOf k 1 B (i + 1)) in (
       taken,
       pieces-decode 16 1 k slots B right size is-bytes
           (λ i l e. same-eq (messageOf slots (layoutWith k) (i + 1)) (pieceOf k 1 B (i + 1)) e) (omega (arith, count-not 16 right)),
+      refl,
     )

@@ -8,6 +8,7 @@ use lib.Dec.{lit<}
 use Rattle.lists.specs.Sum.{sum, count}
 use Rattle.lists.specs.Fill.{tabulate, filled}
 use Rattle.lists.specs.Join.{part}
+use Rattle.lists.specs.Same.{same}
 use Rattle.lists.specs.Select.{selected}
 use Rattle.bitset.specs.Set.{member, setOf, sizeOf}
 use Rattle.gf256.specs.Field.{gadd, gmul, ginv, gpow, polyMul, reduce}
@@ -18,7 +19,7 @@ use Rattle.polynomial.specs.Polynomial.{Bytes, gsum, evaluate, horner, plus, sc
 use Rattle.interpolation.specs.Interpolation.{wrongBy, combine, withRoot, start, advance, next, run, smaller, reduced, series, candidate}
 use Rattle.reed_solomon.specs.Encode.{stripe, pieceOf, encodeRefusal, encodeOf}
 use Rattle.reed_solomon.specs.declared.Decoded.the-variants.{Block, Beyond}
-use Rattle.reed_solomon.specs.Decode.{hasPiece, received, presentCount, differing, decodeRefusal}
+use Rattle.reed_solomon.specs.Decode.{hasPiece, received, presentCount, differing, isNamed, namedOf, decodeRefusal}
 use Rattle.reed_solomon.specs.First.{meets}
 use Rattle.reed_solomon.specs.Steps.{points, column, differences, stripeOf, isFound}
 use Rattle.reed_solomon.proofs.Laws.{meets-decodes, stripe-beyond}
@@ -37,10 +38,10 @@ bytes-d zero = lit< tt
 bytes-d (suc zero) = lit< tt
 bytes-d (suc (suc i)) = lit< tt
 
-example-d : decodes 0x00 0x22 0x36 0x5a Block (0x0a ∷ 0x14 ∷ [])
-unfolding sum count gadd gmul gpow polyMul reduce outside tooMany broken refusalOf encodingRefusal decodingRefusal starRefusal blockLength width slotOf part
-    holds isPresent messageOf gsum evaluate stripe hasPiece received presentCount differing meets decodeRefusal
-example-d = (refl, meets-decodes 4 1 1 (fourPieces 0x00 0x22 0x36 0x5a) (0x0a ∷ 0x14 ∷ []) refl bytes-d refl)
+example-d : decodes 0x00 0x22 0x36 0x5a (Block 1) (0x0a ∷ 0x14 ∷ [])
+unfolding sum count tabulate filled same setOf gadd gmul gpow polyMul reduce outside tooMany broken refusalOf encodingRefusal decodingRefusal starRefusal blockLength width slotOf part
+    holds isPresent messageOf gsum evaluate stripe pieceOf hasPiece received presentCount differing isNamed namedOf meets decodeRefusal
+example-d = (refl, meets-decodes 4 1 1 (fourPieces 0x00 0x22 0x36 0x5a) (0x0a ∷ 0x14 ∷ []) refl bytes-d refl, refl)
 
 -- example e: too many of the pieces differ from the code of the candidate for the stripe, so no block meets the rule
 example-e : decodes 0x1e 0x22 0x37 0x5b Beyond (0 ∷ 0 ∷ [])

@@ -39,8 +39,8 @@ pub record Examples : Type 0 where
   pub b : gmul 0x14 0x03 ≡ 0x3c
   -- c: n 4, t 1: 0a14 codes to 1e 22 36 5a
   pub c : (code 1 ≡ encoded 0 (0x1e ∷ [])) × (code 2 ≡ encoded 0 (0x22 ∷ [])) × (code 3 ≡ encoded 0 (0x36 ∷ [])) × (code 4 ≡ encoded 0 (0x5a ∷ []))
-  -- d: 00 22 36 5a decodes to 0a14
-  pub d : decodes 0x00 0x22 0x36 0x5a Block (0x0a ∷ 0x14 ∷ [])
+  -- d: 00 22 36 5a decodes to 0a14, and (document 02, U1) 1 is named
+  pub d : decodes 0x00 0x22 0x36 0x5a (Block 1) (0x0a ∷ 0x14 ∷ [])
   -- e: 1e 22 37 5b is beyond
   pub e : decodes 0x1e 0x22 0x37 0x5b Beyond (0 ∷ 0 ∷ [])
   -- f: n 4: three slots say 1: one is seen, zero isn't; two and two: neither

@@ -1,5 +1,5 @@
 -- The calls (document 01, 'Rounds'): what each leaves of the state, the block and the outbox. Call c reads the inbox of round c - 1 and fills
--- the outbox of round c. Every call but the last sets the outcome to open.
+-- the outbox of round c. Every call but the last sets the outcome to open, and names nobody.
 --   Carried, carried s b o     the state, the block and the outbox after a call carried out
 --   inboxLayout s              the layout of the slots in the inbox of the next call
 --   outboxLayout s             and in its outbox
@@ -25,7 +25,7 @@ use Rattle.star.specs.Star.{starOf}
 use Rattle.reconstruction.specs.declared.Outcome.the-variants.{Open}
 use Rattle.reconstruction.specs.Reconstruction.{forwarded, shared, finished}
 use Rattle.protocol.specs.declared.State.{State}
-use Rattle.protocol.specs.State.{advanced, withMatrix, withVotes, withCore}
+use Rattle.protocol.specs.State.{advanced, withMatrix, withVotes, withCore, withNamed}
 
 pub record Carried : Type 0 where
   pub state : State
@@ -108,11 +108,11 @@ coreCall s b i o =
 abbrev pub chooseCall : State → List ℕ → List ℕ → List ℕ → Carried
 chooseCall s b i o = carried (advanced s Open) b (shared (s .settings .n) (s .settings .t) (s .settings .k) (s .own) (s .core) i (inboxLayout s) b o)
 
--- the last call: decodes and writes the block; the outcome
+-- the last call: decodes and writes the block; the outcome, and whom the controller names
 abbrev pub finishCall : State → List ℕ → List ℕ → List ℕ → Carried
 finishCall s b i o =
     let f = finished (s .settings .n) (s .settings .t) (s .settings .k) (s .core) i b in
-    carried (advanced s (f .outcome)) (f .block) o
+    carried (withNamed (advanced s (f .ending .outcome)) (f .ending .named)) (f .block) o
 
 unfoldable pub callOf : Call → State → List ℕ → List ℕ → List ℕ → Carried
 callOf Send s b i o = sendCall s b o

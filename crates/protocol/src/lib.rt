@@ -1,12 +1,12 @@
-// The state of a controller, written out and changed here alone, and what start and step answer (document 01, 'The house'). The definitions of
-// every call, of start and of step are in specs/.
+// The state of a controller, written out and changed here alone, and what start and step answer (document 01, 'The house'; document 02, U1). The
+// definitions of every call, of start and of step are in specs/.
 ghost use mathlib.Core.Path.{_≡_};
-ghost use Rattle.protocol.specs.State.{initial, zeroState, withCall, withMatrix, withVotes, withCore};
+ghost use Rattle.protocol.specs.State.{initial, zeroState, withCall, withMatrix, withVotes, withCore, withNamed};
 use reconstruction::Outcome;
 use settings::Settings;
 
-// The settings, the own number, the number of the next call, the outcome, the matrix of the vote with the bits whose count was low, and the
-// core. The block is lent beside it.
+// The settings, the own number, the number of the next call, the outcome, the matrix of the vote with the bits whose count was low, the core, and
+// the marks of those whom the controller names. The block is lent beside it.
 pub struct State {
     pub settings: Settings,
     pub own: usize,
@@ -15,6 +15,7 @@ pub struct State {
     pub matrix: [u16; 16],
     pub weak: [u16; 16],
     pub core: u16,
+    pub named: u16,
 }
 
 // What start answers: the refusal number, or 0, and the state.
@@ -29,8 +30,8 @@ pub struct Stepped {
     pub state: State,
 }
 
-// A state with the outcome open, and no matrix or core.
-// Shut out: the own number for the next call; a core of controller 1.
+// A state with the outcome open, no matrix or core, and nobody named.
+// Shut out: the own number for the next call; a core of controller 1; controller 1 named.
 pub fn initial(settings: Settings, own: usize, next: usize) -> State
     ensures { λ r. ⌜ r ≡ initial settings own next ⌝ }
 {
@@ -42,6 +43,7 @@ pub fn initial(settings: Settings, own: usize, next: usize) -> State
         matrix: [0u16; 16],
         weak: [0u16; 16],
         core: 0,
+        named: 0,
     }
 }
 
@@ -59,14 +61,15 @@ pub fn zero_state() -> State
     initial(none, 0, 0)
 }
 
-// The state with another next call and outcome.
-// Shut out: the next call as it was; the weak bits for the matrix.
+// The state with another next call and outcome, and nobody named, whoever was.
+// Shut out: the next call as it was; the weak bits for the matrix; must-fail/named_kept.
 pub fn with_call(s: State, next: usize, outcome: Outcome) -> State
     ensures { λ r. ⌜ r ≡ withCall s next outcome ⌝ }
 {
     let settings = s.settings;
     let matrix = s.matrix;
     let weak = s.weak;
+    let named: u16 = 0;
     State {
         settings,
         own: s.own,
@@ -75,6 +78,7 @@ pub fn with_call(s: State, next: usize, outcome: Outcome) -> State
         matrix,
         weak,
         core: s.core,
+        named,
     }
 }
 
@@ -107,5 +111,15 @@ pub fn with_core(s: State, matrix: [u16; 16], core: u16) -> State
     let mut r = s;
     r.matrix = matrix;
     r.core = core;
+    r
+}
+
+// With the marks of those named.
+// Shut out: nobody named; the core changed in the place of the marks.
+pub fn with_named(s: State, named: u16) -> State
+    ensures { λ r. ⌜ r ≡ withNamed s named ⌝ }
+{
+    let mut r = s;
+    r.named = named;
     r
 }

@@ -13,6 +13,7 @@
 --     finished-agreed, finished-beyond   a core: by decoding's rule
 --     finished-refused                   decoding refused: open, and the block as it was
 --     finished-answers                   what decoding answers and leaves is what the last call sets
+--     finished-lt                        the marks are 16 bits
 pub use Rattle.reconstruction.proofs.Rounds.{in-core, kind-forward, kind-rebuild, forwarded-member, forwarded-other, own-member, own-other}
 pub use Rattle.reconstruction.proofs.Rounds.{length-chosen, chosen-each, chosen, shared-sends, shared-none, finished-none, finished-agreed}
-pub use Rattle.reconstruction.proofs.Rounds.{finished-beyond, finished-refused, finished-answers}
+pub use Rattle.reconstruction.proofs.Rounds.{finished-beyond, finished-refused, finished-answers, finished-lt}

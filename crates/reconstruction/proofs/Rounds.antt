@@ -1,13 +1,15 @@
 -- Laws of calls 3t + 7 to 3t + 9 within the settings. The main ones: `forwarded-member` (what a core member sends), `chosen` (the piece of at
 -- least t + 1 good members is chosen), `shared-sends` (what everyone sends), `forwarded-other` and `shared-none` (who sends nothing),
--- `finished-none`, `finished-agreed`, `finished-beyond` and `finished-refused` (what the last call sets).
+-- `finished-none`, `finished-agreed`, `finished-beyond` and `finished-refused` (what the last call sets), `finished-lt` (the marks are 16 bits).
 use mathlib.Core.Path.{_≡_, refl, sym, ap, subst, _∙_}
 use mathlib.Core.Bool.{Bool, true, false, cond, not, _&&_}
 use mathlib.Core.List.{List, []}
-use Prim.Native.Nat.{ℕ, _+_, _-_, _*_, _≤_, _<_}
+use mathlib.Core.Option.{Option}
+use mathlib.Core.Option as option
+use Prim.Native.Nat.{ℕ, _+_, _-_, _*_, _^_, _≤_, _<_}
 use native.Mathlib.Omega.{arith}
 use borrow.Author.Tests.{eq-eqb, ne-eqb, le-leb, lt-ltb, leb-true}
-use lib.Dec.{eqb, leb, ltb}
+use lib.Dec.{eqb, leb, ltb, lit<}
 use lib.ListN.{length, getD, replicate}
 use Rattle.lists.specs.Sum.{count}
 use Rattle.lists.specs.Same.{same}
@@ -27,12 +29,12 @@ use Rattle.reed_solomon.specs.declared.Decoded.{Decoded}
 use Rattle.reed_solomon.specs.declared.Decoded.the-variants.{Block, Beyond, Refused}
 use Rattle.reed_solomon.specs.Decode.{decodeRefusal, Answers}
 use Rattle.reed_solomon.specs.First.{rebuilt}
-use Rattle.reed_solomon.proofs.Laws.{yes-ready, decode-0, rebuilt-block, rebuilt-none}
+use Rattle.reed_solomon.proofs.Laws.{yes-ready, decode-0, rebuilt-block, rebuilt-none, named-lt}
 use Rattle.reconstruction.specs.declared.Outcome.the-variants.{Open, None}
 use Rattle.reconstruction.specs.declared.Outcome.the-variants as outcome
-use Rattle.reconstruction.specs.Reconstruction.{inCore, forwarded, votes, isChosen, chosenPiece, ownPiece, sentPiece, shared, finish, finishedBy}
-use Rattle.reconstruction.specs.Reconstruction.{finished, FinishedAgreed, FinishedBeyond}
-use Rattle.reconstruction.specs.Steps.{decodedOutcome}
+use Rattle.reconstruction.specs.Reconstruction.{inCore, forwarded, votes, isChosen, chosenPiece, ownPiece, sentPiece, shared, ending, finish}
+use Rattle.reconstruction.specs.Reconstruction.{finishedBy, finished, FinishedAgreed, FinishedBeyond}
+use Rattle.reconstruction.specs.Steps.{decodedEnding}
 
 -- membership by number
 pub in-core : (core j : ℕ) → 1 ≤ j → inCore core j ≡ member core (j - 1)
@@ -175,42 +177,56 @@ module _ (n t core : ℕ) (inbox : List ℕ) (layout : Layout) (good : ℕ → B
       (and-right (not (eqb (length (M (first n q))) 0)) _ (and-right (member core (first n q)) _ passes)))
 
 -- ---- the last call
-pub finished-none : (n t k core : ℕ) (inbox b : List ℕ) → restricted core n ≡ 0 → finished n t k core inbox b ≡ finish None (replicate (length b) 0)
+pub finished-none : (n t k core : ℕ) (inbox b : List ℕ) → restricted core n ≡ 0 → finished n t k core inbox b ≡ finish (ending None 0) (replicate (length b) 0)
 unfolding finished
-finished-none n t k core inbox b e = cond-yes (eqb (restricted core n) 0) (finish None (replicate (length b) 0)) _ (eq-eqb (restricted core n) 0 e)
+finished-none n t k core inbox b e = cond-yes (eqb (restricted core n) 0) (finish (ending None 0) (replicate (length b) 0)) _ (eq-eqb (restricted core n) 0 e)
 
 -- a core: what decoding gives
 with-core : (n t k core : ℕ) (inbox b : List ℕ) → (restricted core n ≡ 0 → ⊥)
     → finished n t k core inbox b
-    ≡ cond (eqb (decodeRefusal n t k inbox b) 0) (finishedBy (length b) (rebuilt n t k inbox)) (finish Open b)
+    ≡ cond (eqb (decodeRefusal n t k inbox b) 0) (finishedBy n t k inbox (length b) (rebuilt n t k inbox)) (finish (ending Open 0) b)
 unfolding finished
-with-core n t k core inbox b z = cond-no (eqb (restricted core n) 0) (finish None (replicate (length b) 0)) _ (ne-eqb (restricted core n) 0 z)
+with-core n t k core inbox b z = cond-no (eqb (restricted core n) 0) (finish (ending None 0) (replicate (length b) 0)) _ (ne-eqb (restricted core n) 0 z)
 
 -- the block that meets the rule, or none
 ruled : (n t k core : ℕ) (inbox b : List ℕ) → (restricted core n ≡ 0 → ⊥) → decodeRefusal n t k inbox b ≡ 0
-    → finished n t k core inbox b ≡ finishedBy (length b) (rebuilt n t k inbox)
+    → finished n t k core inbox b ≡ finishedBy n t k inbox (length b) (rebuilt n t k inbox)
 ruled n t k core inbox b z e =
-    with-core n t k core inbox b z ∙ cond-yes (eqb (decodeRefusal n t k inbox b) 0) _ (finish Open b) (eq-eqb (decodeRefusal n t k inbox b) 0 e)
+    with-core n t k core inbox b z ∙ cond-yes (eqb (decodeRefusal n t k inbox b) 0) _ (finish (ending Open 0) b) (eq-eqb (decodeRefusal n t k inbox b) 0 e)
 
 pub finished-agreed : FinishedAgreed
 finished-agreed n t k core inbox b z e B d =
-    ruled n t k core inbox b z e ∙ ap (finishedBy (length b)) (rebuilt-block n t k inbox (omega (arith, decode-0 n t k inbox b e .0 .quorum .n-most)) B d)
+    ruled n t k core inbox b z e ∙ ap (finishedBy n t k inbox (length b)) (rebuilt-block n t k inbox (omega (arith, decode-0 n t k inbox b e .0 .quorum .n-most)) B d)
 
 pub finished-beyond : FinishedBeyond
-finished-beyond n t k core inbox b z e d = ruled n t k core inbox b z e ∙ ap (finishedBy (length b)) (rebuilt-none n t k inbox d)
+finished-beyond n t k core inbox b z e d = ruled n t k core inbox b z e ∙ ap (finishedBy n t k inbox (length b)) (rebuilt-none n t k inbox d)
 
 -- decoding refused: open, and the block as it was
 pub finished-refused : (n t k core : ℕ) (inbox b : List ℕ) → (restricted core n ≡ 0 → ⊥) → (decodeRefusal n t k inbox b ≡ 0 → ⊥)
-    → finished n t k core inbox b ≡ finish Open b
+    → finished n t k core inbox b ≡ finish (ending Open 0) b
 finished-refused n t k core inbox b z e =
-    with-core n t k core inbox b z ∙ cond-no (eqb (decodeRefusal n t k inbox b) 0) _ (finish Open b) (ne-eqb (decodeRefusal n t k inbox b) 0 e)
+    with-core n t k core inbox b z ∙ cond-no (eqb (decodeRefusal n t k inbox b) 0) _ (finish (ending Open 0) b) (ne-eqb (decodeRefusal n t k inbox b) 0 e)
 
 -- what decoding answers and leaves is what the last call sets
 pub finished-answers : (n t k core : ℕ) (inbox b : List ℕ) → (restricted core n ≡ 0 → ⊥) → (d : Decoded) (after : List ℕ)
-    → Answers n t k inbox b d after → finish (decodedOutcome d) after ≡ finished n t k core inbox b
-finished-answers n t k core inbox b z Block after h = sym (finished-agreed n t k core inbox b z (h .0) after (h .1))
+    → Answers n t k inbox b d after → finish (decodedEnding d) after ≡ finished n t k core inbox b
+finished-answers n t k core inbox b z (Block named) after h =
+    ap (λ (m : ℕ). finish (ending outcome.Agreed m) after) (h .2) ∙ sym (finished-agreed n t k core inbox b z (h .0) after (h .1))
 finished-answers n t k core inbox b z Beyond after h =
-    ap (finish outcome.Beyond) (h .2 ∙ ap (λ (x : ℕ). replicate x 0) (sym (decode-0 n t k inbox b (h .0) .2)))
+    ap (finish (ending outcome.Beyond 0)) (h .2 ∙ ap (λ (x : ℕ). replicate x 0) (sym (decode-0 n t k inbox b (h .0) .2)))
     ∙ sym (finished-beyond n t k core inbox b z (h .0) (h .1))
 finished-answers n t k core inbox b z (Refused r) after h =
-    ap (finish Open) (h .2) ∙ sym (finished-refused n t k core inbox b z (λ e. h .1 (h .0 ∙ e)))
+    ap (finish (ending Open 0)) (h .2) ∙ sym (finished-refused n t k core inbox b z (λ e. h .1 (h .0 ∙ e)))
+
+-- whoever is named is one of 16
+pub finished-lt : (n t k core : ℕ) (inbox b : List ℕ) → n ≤ 16 → finished n t k core inbox b .ending .named < 2 ^ 16
+unfolding finished
+finished-lt n t k core inbox b few = go (eqb (restricted core n) 0) (eqb (decodeRefusal n t k inbox b) 0) (rebuilt n t k inbox)
+  where
+    go : (x y : Bool) (r : Option (List ℕ))
+        → cond x (finish (ending None 0) (replicate (length b) 0)) (cond y (finishedBy n t k inbox (length b) r) (finish (ending Open 0) b)) .ending .named
+        < 2 ^ 16
+    go true y r = lit< tt
+    go false false r = lit< tt
+    go false true option.none = lit< tt
+    go false true (option.some B) = named-lt n t k inbox B few

@@ -1,4 +1,4 @@
--- Calls 3t + 7 to 3t + 9 (document 01, 'Rounds'): core members give everyone its piece, everyone sends its piece, the block is decoded.
+-- Calls 3t + 7 to 3t + 9 (document 01, 'Rounds'; document 02, U1): core members give everyone its piece, everyone sends its piece, the block is decoded.
 -- Controllers are numbered from 1; own is the caller's own number; index i of the set core is controller i + 1. The functions are total:
 -- outside the settings, or with a block or an outbox of another length, nothing is written.
 --   inCore core j                           controller j is in the core
@@ -10,10 +10,13 @@
 --   ownPiece n t k own core inbox layout b  call 3t + 8: a member's piece is its own
 --   sentPiece layout n m o                  the piece to all; silence where there is none
 --   shared n t k own core inbox layout b o  call 3t + 8
---   Finished, finish w b                    what the last call sets: the outcome, and the block
---   finishedBy len r                        agreed and the block of r; where r is none beyond and len zeros
+--   ending w m                              the outcome w, and the marks m of those who are named
+--   Finished, finish e b                    what the last call sets: the outcome and the marks, and the block
+--   finishedBy n t k inbox len r            agreed, the block of r and the marks of the slots of the inbox that do not hold their piece of it; where r is
+--                                           none beyond, no marks and len zeros
 --   finished n t k core inbox b             the last call: no core: none and zeros; else agreed and the block that meets decoding's rule, or beyond and
---                                           zeros where none does; where decoding is refused, open and the block as it was (never in a run)
+--                                           zeros where none does; where decoding is refused, open and the block as it was (never in a run). Nobody
+--                                           is named but with agreed
 --   FinishedAgreed, FinishedBeyond          the same, by decoding's rule (laws `finished-agreed`, `finished-beyond`)
 use mathlib.Core.Path.{_≡_}
 use mathlib.Core.Bool.{Bool, cond, not, _&&_}
@@ -30,9 +33,10 @@ use Rattle.wire.specs.declared.Round.the-variants.{Forward, Rebuild}
 use Rattle.wire.specs.Length.{kindLayout}
 use Rattle.wire.specs.Slot.{width, messageOf, bytes, slots, toAll}
 use Rattle.reed_solomon.specs.Encode.{pieceOf, isReady}
-use Rattle.reed_solomon.specs.Decode.{Decodes, decodeRefusal}
+use Rattle.reed_solomon.specs.Decode.{Decodes, namedOf, decodeRefusal}
 use Rattle.reed_solomon.specs.First.{rebuilt}
 use Rattle.reconstruction.specs.declared.Outcome.{Outcome}
+use Rattle.reconstruction.specs.declared.Ending.{Ending}
 use Rattle.reconstruction.specs.declared.Outcome.the-variants.{Open, Agreed, None, Beyond}
 
 unfoldable pub inCore : ℕ → ℕ → Bool
@@ -68,29 +72,34 @@ shared n t k own core inbox layout block outbox =
     let out = kindLayout Rebuild n t k in
     cond (isReady n t k own block (eqb (length outbox) (n * width out))) (sentPiece out n (ownPiece n t k own core inbox layout block) outbox) outbox
 
+abbrev pub ending : Outcome → ℕ → Ending
+ending w m = record { outcome = w; named = m }
+
 pub record Finished : Type 0 where
-  pub outcome : Outcome
+  pub ending : Ending
   pub block : List ℕ
 
-abbrev pub finish : Outcome → List ℕ → Finished
-finish w b = record { outcome = w; block = b }
+abbrev pub finish : Ending → List ℕ → Finished
+finish e b = record { ending = e; block = b }
 
-abbrev pub finishedBy : ℕ → Option (List ℕ) → Finished
-finishedBy len (some B) = finish Agreed B
-finishedBy len none = finish Beyond (replicate len 0)
+abbrev pub finishedBy : (n t k : ℕ) → List ℕ → ℕ → Option (List ℕ) → Finished
+finishedBy n t k inbox len (some B) = finish (ending Agreed (namedOf n t k inbox B)) B
+finishedBy n t k inbox len none = finish (ending Beyond 0) (replicate len 0)
 
 unfoldable pub finished : (n t k core : ℕ) → List ℕ → List ℕ → Finished
 finished n t k core inbox block =
     cond (eqb (restricted core n) 0)
-    (finish None (replicate (length block) 0))
-    (cond (eqb (decodeRefusal n t k inbox block) 0) (finishedBy (length block) (rebuilt n t k inbox)) (finish Open block))
+    (finish (ending None 0) (replicate (length block) 0))
+    (cond (eqb (decodeRefusal n t k inbox block) 0)
+    (finishedBy n t k inbox (length block) (rebuilt n t k inbox))
+    (finish (ending Open 0) block))
 
 abbrev pub FinishedAgreed : Type 0
 FinishedAgreed =
     (n t k core : ℕ) (inbox b : List ℕ) → (restricted core n ≡ 0 → ⊥) → decodeRefusal n t k inbox b ≡ 0
-    → (B : List ℕ) → Decodes n t k inbox B → finished n t k core inbox b ≡ finish Agreed B
+    → (B : List ℕ) → Decodes n t k inbox B → finished n t k core inbox b ≡ finish (ending Agreed (namedOf n t k inbox B)) B
 
 abbrev pub FinishedBeyond : Type 0
 FinishedBeyond =
     (n t k core : ℕ) (inbox b : List ℕ) → (restricted core n ≡ 0 → ⊥) → decodeRefusal n t k inbox b ≡ 0
-    → ((B : List ℕ) → Decodes n t k inbox B → ⊥) → finished n t k core inbox b ≡ finish Beyond (replicate (length b) 0)
+    → ((B : List ℕ) → Decodes n t k inbox B → ⊥) → finished n t k core inbox b ≡ finish (ending Beyond 0) (replicate (length b) 0)

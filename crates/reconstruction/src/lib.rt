@@ -11,7 +11,7 @@ ghost use Rattle.wire.specs.Length.{blockLength};
 ghost use Rattle.wire.specs.Slot.{width, messageOf, bytes, slots, putSlot};
 ghost use Rattle.reed_solomon.specs.Encode.{pieceOf};
 ghost use Rattle.reconstruction.specs.Reconstruction.{inCore, forwarded, votes, isChosen, chosenPiece, sentPiece, shared, finish, finished};
-ghost use Rattle.reconstruction.specs.Steps.{decodedOutcome};
+ghost use Rattle.reconstruction.specs.Steps.{decodedEnding};
 use reed_solomon::Decoded;
 use wire::Layout;
 use wire::Round;
@@ -22,6 +22,12 @@ pub enum Outcome {
     Agreed,
     None,
     Beyond,
+}
+
+// What the last call sets in the state: the outcome, and whom the controller names, as marks (document 02, U1).
+pub struct Ending {
+    pub outcome: Outcome,
+    pub named: u16,
 }
 
 // Whether controller j is in the core.
@@ -232,26 +238,39 @@ pub fn share(
     share_chosen(out, n, t, core, inbox, layout, outbox);
 }
 
-// The outcome for an answer of decoding.
-fn decoded_outcome(d: Decoded) -> Outcome
-    ensures { λ r. ⌜ r ≡ decodedOutcome d ⌝ }
+// The outcome and the marks for an answer of decoding.
+fn decoded_ending(d: Decoded) -> Ending
+    ensures { λ r. ⌜ r ≡ decodedEnding d ⌝ }
 {
     match d {
-        Decoded::Block => Outcome::Agreed,
-        Decoded::Beyond => Outcome::Beyond,
-        Decoded::Refused(_) => Outcome::Open,
+        Decoded::Block(named) => Ending {
+            outcome: Outcome::Agreed,
+            named,
+        },
+        Decoded::Beyond => Ending {
+            outcome: Outcome::Beyond,
+            named: 0,
+        },
+        Decoded::Refused(_) => Ending {
+            outcome: Outcome::Open,
+            named: 0,
+        },
     }
 }
 
-// The last call: no core: none and a block of zeros; else agreed and the block that meets decoding's rule, or beyond and zeros where none does;
-// where decoding is refused, open and the block as it was.
-// Shut out: must-fail/always_none; must-fail/none_for_agreed.
-pub fn finish(n: usize, t: usize, k: usize, core: u16, inbox: &[u8], block: &mut [u8]) -> Outcome
+// The last call: no core: none and a block of zeros; else agreed, the block that meets decoding's rule and the marks of the slots that do not hold
+// their piece of it, or beyond and zeros where none does; where decoding is refused, open and the block as it was. Nobody is named but with agreed.
+// Shut out: everyone named where there is no core; nobody named with agreed; must-fail/always_none; must-fail/none_for_agreed.
+pub fn finish(n: usize, t: usize, k: usize, core: u16, inbox: &[u8], block: &mut [u8]) -> Ending
     ensures { λ r. ⌜ finish r (now (block .exit)) ≡ finished n t k core (now (inbox .entry)) (now (block .entry)) ⌝ }
 {
     if bitset::restrict(core, n) == 0 {
         wire::silence(block);
-        return Outcome::None;
+        return Ending {
+            outcome: Outcome::None,
+            named: 0,
+        };
     }
-    decoded_outcome(reed_solomon::decode(n, t, k, inbox, block))
+    let decoded = reed_solomon::decode(n, t, k, inbox, block);
+    decoded_ending(decoded)
 }

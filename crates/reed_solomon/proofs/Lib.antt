@@ -3,5 +3,6 @@ mod Sizes
 mod Stripes
 mod First
 mod Rule
+mod Named
 mod Ready
 pub mod Laws

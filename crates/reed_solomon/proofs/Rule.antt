@@ -29,7 +29,7 @@ use Rattle.reed_solomon.specs.Encode.{stripe, pieceOf, encodeFits, encod
 use Rattle.reed_solomon.specs.declared.Decoded.{Decoded}
 use Rattle.reed_solomon.specs.declared.Decoded.the-variants.{Block, Beyond, Refused}
 use Rattle.reed_solomon.specs.Decode.{hasPiece, received, presentCount, differing, Decodes, decodeFits, decodeRefusal, Answers, DecodesUnique}
-use Rattle.reed_solomon.specs.Decode.{AnswersUnique, PiecesDecode, FewBeyond}
+use Rattle.reed_solomon.specs.Decode.{namedOf, AnswersUnique, PiecesDecode, FewBeyond}
 use Rattle.reed_solomon.specs.First.{firstBytes, isRightStripe, meets, DecodesMeets, MeetsDecodes, rebuilt, RebuiltDecodes, RebuiltBlock, RebuiltNone}
 use Rattle.reed_solomon.specs.Steps.{points, column, differences, isRight, stripeOf, isFound, Pointed, Tried, Found}
 use Rattle.reed_solomon.proofs.Sizes.{both-true, true-both}
@@ -160,14 +160,15 @@ pub few-beyond : FewBeyond
 few-beyond n t k slots least few B d = omega (arith, d .right 0 least)
 
 pub answers-unique : AnswersUnique
-answers-unique n t k slots before Block Block B C d e =
-    (refl, decodes-unique n t k slots (omega (arith, decode-0 n t k slots before (d .0) .0 .quorum .n-most)) B C (d .1) (e .1))
-answers-unique n t k slots before Block Beyond B C d e = absurd (e .1 B (d .1))
-answers-unique n t k slots before Block (Refused r) B C d e = absurd (e .1 (e .0 ∙ d .0))
-answers-unique n t k slots before Beyond Block B C d e = absurd (d .1 C (e .1))
+answers-unique n t k slots before (Block a) (Block b) B C d e =
+    let same : B ≡ C = decodes-unique n t k slots (omega (arith, decode-0 n t k slots before (d .0) .0 .quorum .n-most)) B C (d .1) (e .1) in
+    (ap Block (d .2 ∙ ap (namedOf n t k slots) same ∙ sym (e .2)), same)
+answers-unique n t k slots before (Block a) Beyond B C d e = absurd (e .1 B (d .1))
+answers-unique n t k slots before (Block a) (Refused r) B C d e = absurd (e .1 (e .0 ∙ d .0))
+answers-unique n t k slots before Beyond (Block b) B C d e = absurd (d .1 C (e .1))
 answers-unique n t k slots before Beyond Beyond B C d e = (refl, d .2 ∙ sym (e .2))
 answers-unique n t k slots before Beyond (Refused r) B C d e = absurd (e .1 (e .0 ∙ d .0))
-answers-unique n t k slots before (Refused r) Block B C d e = absurd (d .1 (d .0 ∙ e .0))
+answers-unique n t k slots before (Refused r) (Block b) B C d e = absurd (d .1 (d .0 ∙ e .0))
 answers-unique n t k slots before (Refused r) Beyond B C d e = absurd (d .1 (d .0 ∙ e .0))
 answers-unique n t k slots before (Refused r) (Refused q) B C d e = (ap Refused (d .0 ∙ sym (e .0)), d .2 ∙ sym (e .2))
 

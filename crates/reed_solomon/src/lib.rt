@@ -1,6 +1,7 @@
-// The Reed-Solomon code (document 01, 'Field and code'; document 02, U2): one piece of a block's coding, and a block from the present ones of n
-// slots of pieces. It knows of the field only its contracts and laws.
+// The Reed-Solomon code (document 01, 'Field and code'; document 02, U2 and U1): one piece of a block's coding, and a block from the present ones of
+// n slots of pieces, with the marks of those that are not its own. It knows of the field only its contracts and laws.
 mod guessing;
+mod naming;
 
 ghost use mathlib.Core.Path.{_≡_};
 ghost use Prim.Native.Nat.{_+_, _*_, _≤_};
@@ -12,9 +13,9 @@ ghost use Rattle.reed_solomon.specs.Encode.{pieceOf, encodeFits, encoded
 ghost use Rattle.reed_solomon.specs.Decode.{hasPiece, received, decodeFits, decodeRefusal, Answers};
 ghost use Rattle.reed_solomon.specs.Steps.{points, column, differences, isRight, Pointed, Tried, Found, Listed};
 
-// What decoding answers; the block itself is in the lent bytes.
+// What decoding answers. The block itself is in the lent bytes; with it come the marks of the slots that were absent or did not hold their piece.
 pub enum Decoded {
-    Block,
+    Block(u16),
     Beyond,
     Refused(u8),
 }
@@ -194,14 +195,15 @@ fn encode_fits(k: usize, t: usize, block: &[u8], piece: &[u8]) -> bool
     piece.len() == k
 }
 
-// The block, or zeros.
+// The block and its marks, or zeros.
 fn rebuild(n: usize, t: usize, k: usize, slots: &[u8], block: &mut [u8]) -> Decoded
     requires { ⌜ decodeRefusal n t k (now slots) (now block) ≡ 0 ⌝ }
     ensures { λ r. ⌜ Answers n t k (now (slots .entry)) (now (block .entry)) r (now (block .exit)) ⌝ }
 {
     let mut xs = [0u8; 16];
     if decode_present(n, t, k, slots, &mut xs, block) {
-        return Decoded::Block;
+        let named = naming::name(n, t, k, slots, block);
+        return Decoded::Block(named);
     }
     let end = block.len();
     wire::silence(&mut block[..end]);
@@ -209,10 +211,10 @@ fn rebuild(n: usize, t: usize, k: usize, slots: &[u8], block: &mut [u8]) -> Deco
 }
 
 // Decoding: the block in each stripe of which twice the number of present values that differ from their code is at most N - t - 1, with N of the n
-// slots present, into the lent block; beyond and zeros where there is none. The relation determines the answer and the block that is left: at
-// most one block meets the rule (laws `decodes-unique`, `answers-unique`).
+// slots present, into the lent block, and the marks of the slots that do not hold their piece of it; beyond and zeros where there is none. The
+// relation determines the answer and the block that is left: at most one block meets the rule (laws `decodes-unique`, `answers-unique`).
 // Shut out: must-fail/bound_off_by_one; must-fail/absent_as_zeros; must-fail/absent_differ; must-fail/points_renumbered;
-// must-fail/beyond_keeps_the_block; must-fail/refusal_clears_the_block.
+// must-fail/beyond_keeps_the_block; must-fail/refusal_clears_the_block; must-fail/named_without_absent; must-fail/named_by_first_stripe.
 pub fn decode(n: usize, t: usize, k: usize, slots: &[u8], block: &mut [u8]) -> Decoded
     ensures { λ r. ⌜ Answers n t k (now (slots .entry)) (now (block .entry)) r (now (block .exit)) ⌝ }
 {

@@ -1,9 +1,10 @@
 // Codes and decodes blocks for each n from 4 to 16, each t that n allows and 1, 2, 32 and 128 stripes. A line `code` has n, t, k and a
-// digest of the n pieces. A line `decode` has n, t, k and how false pieces are made, then how many calls answered a block and how many beyond,
-// and a digest of all answers and blocks: any number of pieces are false or absent, at n 4 and n 7 every set of them, else scattered ones. Then
-// come calls that are refused or just taken, with a digest of all lent bytes after each, examples c, d and e of document 01, and at n 7 and t 2
-// the block from four true pieces (document 02, U2), and the answers with 0 to 3 of them. The expected output comes from the independent
-// reference, which decodes by trying sets of t + 1 present slots:
+// digest of the n pieces. A line `decode` has n, t, k and how false pieces are made, then how many calls answered a block, how many beyond, how
+// many a row of marks that is not empty (document 02, U1), and a digest of all answers, rows and blocks: any number of pieces are false or absent,
+// at n 4 and n 7 every set of them, else scattered ones. Then come calls that are refused or just taken, with the answer, the row of marks and a
+// digest of all lent bytes after each, examples c, d and e of document 01, a block of zeros with an absent slot, three stripes with a false value
+// each, and at n 7 and t 2 the block from four true pieces (document 02, U2), and the answers with 0 to 3 of them: answer, row and block.
+// The expected output comes from the independent reference, which decodes by trying sets of t + 1 present slots:
 //     cargo run --release --bin code_vectors > crates/reed_solomon_cases/stdout
 use reed_solomon::Decoded;
 ghost use mathlib.Core.Path.{_≡_};
@@ -19,10 +20,17 @@ struct Case {
     mask: u64,
 }
 
-// How many calls answered a block and beyond, and a digest of what they left.
+// What decoding answered: 0 a block, 9 beyond, else the number of the refusal; and the row of marks, empty where there is no block.
+struct Answer {
+    number: u8,
+    named: u16,
+}
+
+// How many calls answered a block, beyond, and a row that is not empty, and a digest of what they answered and left.
 struct Tally {
     blocks: u64,
     beyond: u64,
+    naming: u64,
     digest: u64,
 }
 
@@ -128,12 +136,17 @@ fn encode(c: Case, number: usize, block: &[u8], piece: &mut [u8]) -> u8 {
     reed_solomon::encode(c.n, c.t, c.k, number, block, piece)
 }
 
-// 0 a block, 9 beyond, else the number of the refusal.
-fn decode(c: Case, slots: &[u8], block: &mut [u8]) -> u8 {
+fn decode(c: Case, slots: &[u8], block: &mut [u8]) -> Answer {
     match reed_solomon::decode(c.n, c.t, c.k, slots, block) {
-        Decoded::Block => 0,
-        Decoded::Beyond => 9,
-        Decoded::Refused(x) => x,
+        Decoded::Block(named) => Answer { number: 0, named },
+        Decoded::Beyond => Answer {
+            number: 9,
+            named: 0,
+        },
+        Decoded::Refused(x) => Answer {
+            number: x,
+            named: 0,
+        },
     }
 }
 
@@ -310,6 +323,20 @@ fn gather(slots: &mut [u8], m: &mut [u8], block: &[u8], other: &[u8], c: Case) -
     d
 }
 
+// 1 where the row has a mark, else 0: for a count of cases.
+fn is_marked(row: u16) -> u64 {
+    if row == 0 {
+        return 0;
+    }
+    1
+}
+
+// A digest of d, an answer and what it left in the block.
+fn digest_answer(d: u64, a: Answer, block: &[u8]) -> u64 {
+    let number = cases::mix(d, a.number as u64);
+    cases::digest(cases::mix(number, a.named as u64), block)
+}
+
 // The slots of a case decoded.
 fn play(
     slots: &mut [u8],
@@ -325,9 +352,10 @@ fn play(
     gather(slots, m, block, other, c);
     let a = decode(c, slots, out);
     Tally {
-        blocks: std::num::wrapping_add_u64(so_far.blocks, cases::is_same(a, 0)),
-        beyond: std::num::wrapping_add_u64(so_far.beyond, cases::is_same(a, 9)),
-        digest: cases::digest(cases::mix(so_far.digest, a as u64), out),
+        blocks: std::num::wrapping_add_u64(so_far.blocks, cases::is_same(a.number, 0)),
+        beyond: std::num::wrapping_add_u64(so_far.beyond, cases::is_same(a.number, 9)),
+        naming: std::num::wrapping_add_u64(so_far.naming, is_marked(a.named)),
+        digest: digest_answer(so_far.digest, a, out),
     }
 }
 
@@ -431,6 +459,7 @@ fn play_sets(
     let mut r = Tally {
         blocks: 0,
         beyond: 0,
+        naming: 0,
         digest: 0,
     };
     let mut x: usize = 0;
@@ -447,9 +476,17 @@ fn print_code(c: Case, d: u64) {
     cases::end_digest(d);
 }
 
+// A text, the answer's number and its row.
+fn print_answer(name: &[u8], a: Answer) {
+    cases::numbers(name, &[a.number as usize, a.named as usize]);
+}
+
 fn print_tally(c: Case, r: Tally) {
     cases::numbers(b"decode", &[c.n, c.t, c.k, c.manner]);
-    cases::numbers(b":", &[r.blocks as usize, r.beyond as usize]);
+    cases::numbers(
+        b":",
+        &[r.blocks as usize, r.beyond as usize, r.naming as usize],
+    );
     cases::end_digest(r.digest);
 }
 
@@ -573,7 +610,7 @@ fn try_decode(r: [usize; 5], slots: &[u8], block: &mut [u8]) {
         &mut block[..size],
     );
     cases::numbers(b"decode", &r);
-    cases::numbers(b":", &[a as usize]);
+    print_answer(b":", a);
     cases::end_digest(cases::digest(cases::digest(0, slots), block));
 }
 
@@ -640,7 +677,7 @@ fn example_piece(number: usize) {
 
 fn example_decoded(name: &[u8], c: Case, slots: &[u8], block: &mut [u8]) {
     let a = decode(c, slots, block);
-    cases::numbers(name, &[a as usize]);
+    print_answer(name, a);
     cases::hex(block);
     cases::newline();
 }
@@ -650,13 +687,24 @@ fn example_slots(name: &[u8], slots: &[u8]) {
     example_decoded(name, case_of(4, 1, 1, 0), slots, &mut block);
 }
 
+// Slots of three stripes 0a14: 4 is false in the first, 1 in the second, 2 in the third.
+fn example_stripes() {
+    let mut block = [255u8; 6];
+    example_decoded(
+        b"apart",
+        case_of(4, 1, 3, 0),
+        b"\x01\x1e\x00\x1e\x01\x22\x22\x00\x01\x36\x36\x36\x01\x00\x5a\x5a",
+        &mut block,
+    );
+}
+
 // Slots of seven controllers, t 2: those that are present have their pieces of 0a141e.
 fn example_present(name: &[u8], slots: &[u8]) {
     let mut block = [255u8; 3];
     example_decoded(name, case_of(7, 2, 1, 0), slots, &mut block);
 }
 
-// Examples c, d and e of document 01; example d with slot 1 absent too.
+// Examples c, d and e of document 01, example d with slot 1 absent too; zeros, which code to zeros, with slot 1 absent.
 fn examples() {
     example_piece(1);
     example_piece(2);
@@ -665,6 +713,8 @@ fn examples() {
     example_slots(b"d", b"\x01\x00\x01\x22\x01\x36\x01\x5a");
     example_slots(b"d", b"\x00\x1e\x01\x22\x01\x36\x01\x5a");
     example_slots(b"e", b"\x01\x1e\x01\x22\x01\x37\x01\x5b");
+    example_slots(b"zeros", b"\x00\x00\x01\x00\x01\x00\x01\x00");
+    example_stripes();
 }
 
 // Three of seven silent, and at most t + 1 present.

@@ -64,15 +64,15 @@ rows-back m e h =
     tabulate-ext (rowOf 16 (rowsOf 16 m)) (λ i. getD m i 0) 16 (λ i l. row-read 16 m i (omega arith) l ∙ restrict-below (getD m i 0) 16 (h i))
     ∙ ap (tabulate (λ i. getD m i 0)) (sym e) ∙ tabulate-getD m 0
 
-row-back : (x : ℕ) → x < 2 ^ 16 → rowOf 16 (littleEndian (widthOf 9) x) 0 ≡ x
-unfolding littleEndian widthOf
+row-back : (x : ℕ) → x < 2 ^ 16 → rowOf 16 (littleEndian 2 x) 0 ≡ x
+unfolding littleEndian
 row-back x h =
     let u : x / 256 % 256 ≡ x / 256 = omega arith in
     ap (λ (y : ℕ). rowOf 16 (x % 256 ∷ y ∷ []) 0) u ∙ row-pair 16 x h
 
 -- ---- what was written is read back
 fields-back : (s : State) → Words s → s ≡ stateIn (stateBytes s)
-unfolding fieldBytes
+unfolding fieldBytes widthOf
 fields-back s w =
     let b = stateBytes s in
     let number = number-read s w in
@@ -81,6 +81,7 @@ fields-back s w =
     (sym (ap rowsIn (field-back s 7 (omega arith)) ∙ rows-back (s .matrix) (w .matrix-length) (w .matrix-rows)))
     (sym (ap rowsIn (field-back s 8 (omega arith)) ∙ rows-back (s .weak) (w .weak-length) (w .weak-rows)))
     (sym (ap (λ (x : List ℕ). rowOf 16 x 0) (field-back s 9 (omega arith)) ∙ row-back (s .core) (w .core-row)))
+    (sym (ap (λ (x : List ℕ). rowOf 16 x 0) (field-back s 10 (omega arith)) ∙ row-back (s .named) (w .named-row)))
 
 pub read-written : (s : State) → Words s → stateOf (stateBytes s) ≡ s
 unfolding stateOf
@@ -133,6 +134,7 @@ module _ (l : List ℕ) (bytes : (i : ℕ) → getD l i 0 < 256) where
     weak-length = length-tabulate (rowOf 16 (fieldIn l 8)) 16;
     weak-rows = rows-bound (fieldIn l 8);
     core-row = row-lt 16 (fieldIn l 9) 0;
+    named-row = row-lt 16 (fieldIn l 10) 0;
   }
 
   pub state-words : length l ≡ stateLength → Words (stateOf l)

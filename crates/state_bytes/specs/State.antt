@@ -1,13 +1,14 @@
--- The state of a controller as bytes, for callers that keep it in a buffer: ten fields, one behind the other, each of a width of its own, a number
+-- The state of a controller as bytes, for callers that keep it in a buffer: eleven fields, one behind the other, each of a width of its own, a number
 -- with its lowest byte first. The main law is `read-written` (proofs/Laws.antt): what was written is read back.
 --   littleEndian w x     the w low bytes of the number x, the lowest first
 --   numberOf bytes       the number that such bytes stand for
---   widths               how many bytes each field takes: n, t, k, own number, sender, next call, outcome, matrix, weak matrix, core
+--   widths               how many bytes each field takes: n, t, k, own number, sender, next call, outcome, matrix, weak matrix, core, those
+--                        named
 --   widthOf i            the width of field i, counted from 0
 --   offset i             where field i starts: the sum of the widths before it
 --   stateLength          how many bytes a state takes: the sum of all widths
 --   sixNumbers s          the first six fields, which are numbers
---   fieldsOf s           the bytes of the ten fields: numbers, and 16 rows of marks for each matrix
+--   fieldsOf s           the bytes of the eleven fields: numbers, and 16 rows of marks for each matrix
 --   fieldBytes s i       those of field i
 --   stateBytes s         the bytes of a state
 --   fieldIn bytes i      field i in the bytes of a state
@@ -42,7 +43,7 @@ numberOf [] = 0
 numberOf (b ∷ bytes) = b + 256 * numberOf bytes
 
 abbrev pub widths : List ℕ
-widths = 8 ∷ 8 ∷ 8 ∷ 8 ∷ 8 ∷ 8 ∷ 1 ∷ 32 ∷ 32 ∷ 2 ∷ []
+widths = 8 ∷ 8 ∷ 8 ∷ 8 ∷ 8 ∷ 8 ∷ 1 ∷ 32 ∷ 32 ∷ 2 ∷ 2 ∷ []
 
 unfoldable pub widthOf : ℕ → ℕ
 widthOf i = getD widths i 0
@@ -60,7 +61,8 @@ abbrev pub fieldsOf : State → List (List ℕ)
 fieldsOf s =
     littleEndian (widthOf 0) (s .settings .n) ∷ littleEndian (widthOf 1) (s .settings .t) ∷ littleEndian (widthOf 2) (s .settings .k)
     ∷ littleEndian (widthOf 3) (s .own) ∷ littleEndian (widthOf 4) (s .settings .sender) ∷ littleEndian (widthOf 5) (s .next)
-    ∷ littleEndian (widthOf 6) (outcomeNumber (s .outcome)) ∷ rowsOf 16 (s .matrix) ∷ rowsOf 16 (s .weak) ∷ littleEndian (widthOf 9) (s .core) ∷ []
+    ∷ littleEndian (widthOf 6) (outcomeNumber (s .outcome)) ∷ rowsOf 16 (s .matrix) ∷ rowsOf 16 (s .weak) ∷ littleEndian (widthOf 9) (s .core)
+    ∷ littleEndian (widthOf 10) (s .named) ∷ []
 
 unfoldable pub fieldBytes : State → ℕ → List ℕ
 fieldBytes s i = getD (fieldsOf s) i []
@@ -89,6 +91,7 @@ stateIn bytes = record {
   matrix = fieldRows bytes 7;
   weak = fieldRows bytes 8;
   core = rowOf 16 (fieldIn bytes 9) 0;
+  named = rowOf 16 (fieldIn bytes 10) 0;
 }
 
 unfoldable pub stateOf : List ℕ → State
@@ -101,3 +104,4 @@ pub record Words (s : State) : Type 0 where
   pub weak-length : length (s .weak) ≡ 16
   pub weak-rows : (i : ℕ) → getD (s .weak) i 0 < 2 ^ 16
   pub core-row : s .core < 2 ^ 16
+  pub named-row : s .named < 2 ^ 16

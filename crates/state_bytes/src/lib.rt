@@ -12,10 +12,11 @@ use reconstruction::Outcome;
 use settings::Settings;
 
 // How many fields a state has.
-const FIELDS: usize = 10;
+const FIELDS: usize = 11;
 
-// How many bytes each field takes: n, t, k, own number, sender, next call, outcome, matrix, weak matrix, core.
-const WIDTHS: [usize; FIELDS] = [8, 8, 8, 8, 8, 8, 1, 32, 32, 2];
+// How many bytes each field takes: n, t, k, own number, sender, next call, outcome, matrix, weak matrix, core,
+// those named.
+const WIDTHS: [usize; FIELDS] = [8, 8, 8, 8, 8, 8, 1, 32, 32, 2, 2];
 
 // The width of field i.
 fn width(i: usize) -> usize
@@ -113,7 +114,11 @@ fn put_field(bytes: &mut [u8], s: State, i: usize)
         bitset::write_rows(bytes, &weak, 16);
         return;
     }
-    put(bytes, s.core as usize);
+    if i == 9 {
+        put(bytes, s.core as usize);
+        return;
+    }
+    put(bytes, s.named as usize);
 }
 
 // Writes the fields one behind the other.
@@ -132,7 +137,7 @@ fn put_fields(bytes: &mut [u8], s: State)
 }
 
 // Writes a state to a buffer of its length; nothing is written to one of another length.
-// Shut out: the weak matrix for the matrix; own number and sender the other way round; the last field not written.
+// Shut out: the weak matrix for the matrix; own number and sender the other way round; the core for those named.
 pub fn write(s: State, bytes: &mut [u8])
     ensures { λ _. ⌜ now (bytes .exit) ≡ cond (eqb (length (now (bytes .entry))) stateLength) (stateBytes s) (now (bytes .entry)) ⌝ }
 {
@@ -226,11 +231,13 @@ fn state_in(bytes: &[u8]) -> State
     let matrix = get_rows(field(bytes, 7));
     let weak = get_rows(field(bytes, 8));
     let core = bitset::read_row(field(bytes, 9), 16, 0);
+    let named = bitset::read_row(field(bytes, 10), 16, 0);
     let settings = Settings { n, t, k, sender };
     let first = protocol::initial(settings, own, next);
     let told = protocol::with_call(first, next, outcome);
     let voted = protocol::with_votes(told, matrix, weak);
-    protocol::with_core(voted, matrix, core)
+    let ready = protocol::with_core(voted, matrix, core);
+    protocol::with_named(ready, named)
 }
 
 // The state that a buffer holds; the zero state where the buffer has another length.

@@ -1,9 +1,9 @@
 -- Four controllers, t 1, k 1, and the sender 1 with the block 0a14. Controller 4 is faulty: in every round it sends different bytes to
 -- different controllers. The steps of 1, 2 and 3 contain refused ones before, between and after the calls. `two-faced-supposed`: what
--- demand 3 supposes holds, computed; `two-faced-agreed`: by demand 3, agreed and 0a14.
+-- demand 3 supposes holds, computed; `two-faced-agreed`: by demand 3, agreed and 0a14; `two-faced-named`: whom 1, 2 and 3 name (document 02, U1).
 --   from4-1, from4-2, from4-3   the slots that 4 sends to 1, 2 and 3, round after round
 --   stepsOf piece from4         the steps of the controller with that piece
-use mathlib.Core.Path.{refl}
+use mathlib.Core.Path.{_≡_, refl, ap, _∙_}
 use mathlib.Core.Bool.{Bool, true, false, cond, not}
 use mathlib.Core.List.{List, [], _∷_, _++_}
 use Prim.Native.Nat.{ℕ, _-_}
@@ -22,6 +22,7 @@ use Rattle.wire.specs.Round.{roundKind, callKind, phaseOf}
 use Rattle.wire.specs.Slot.{width, slotOf, holds, isPresent, messageOf, written, slots, copied}
 use Rattle.polynomial.specs.Polynomial.{Bytes, gsum, evaluate}
 use Rattle.reed_solomon.specs.Encode.{stripe, pieceOf, isReady}
+use Rattle.reed_solomon.specs.Decode.{isNamed, namedOf}
 use Rattle.dispersal.specs.Dispersal.{sentBlock, receivedBlock, twoPieces, sentPieces, isMarked, marksOf, marksMessage, sentMarks}
 use Rattle.phase_king.specs.Bit.{zeroSeen, oneSeen, held, support, weak, settled}
 use Rattle.phase_king.specs.Matrix.{matrixOf, said, kingSays, firstMatrix, zerosOf, onesOf, heldOf, weakOf, settledOf, seenMessage, sentByKing}
@@ -32,8 +33,9 @@ use Rattle.star.specs.Star.{struck, setC, lacks, setD, atLeast, setF, setE, set
 use Rattle.reconstruction.specs.Reconstruction.{inCore, forwarded, votes, isChosen, chosenPiece, ownPiece, sentPiece, shared}
 use Rattle.protocol.specs.Calls.{callOf}
 use Rattle.protocol.specs.Step.{startRefusal, startOf, lengthsFit, stepRefusal, stepOf}
-use Rattle.agreement.specs.Agreement.{System, Correct, Supposed, Concluded, Holds, atStart}
-use Rattle.agreement.proofs.Laws.{agreement}
+use Rattle.agreement.specs.Agreement.{System, Correct, Supposed, Concluded, Holds, atStart, lastInbox}
+use Rattle.agreement.specs.Named.{namedBy}
+use Rattle.agreement.proofs.Laws.{agreement, named-by-last}
 use Rattle.witnesses.proofs.Test.{each, Meets, meets-supposed, answers, Step, small, small-bytes, smalls, lents, present, absent, rows, box}
 
 abbrev zeros : List ℕ
@@ -180,3 +182,27 @@ two-faced-agreed =
     let c2 : Correct two-faced 2 = record { least = lit≤ tt; most = lit≤ tt; is = refl } in
     let c3 : Correct two-faced 3 = record { least = lit≤ tt; most = lit≤ tt; is = refl } in
     ((C .sender-outcome 2 c1 c2, C .sender-block 2 c1 c2), (C .sender-outcome 3 c1 c3, C .sender-block 3 c1 c3))
+
+-- in the last round 4 sent its true piece to 2, and others to 1 and 3: these name it (the bit worth 8), and 2 names nobody
+module _ (i : ℕ) (f : Correct two-faced i) (marks : ℕ) (said : namedOf 4 1 1 (lastInbox two-faced i) (0x0a ∷ 0x14 ∷ []) ≡ marks) where
+  names : namedBy two-faced i ≡ marks
+  unfolding two-faced
+  names =
+      let C : Concluded two-faced = agreement two-faced two-faced-supposed in
+      let c1 : Correct two-faced 1 = record { least = lit≤ tt; most = lit≤ tt; is = refl } in
+      named-by-last two-faced two-faced-supposed i f .agreed (C .sender-outcome i c1 f)
+      ∙ ap (namedOf 4 1 1 (lastInbox two-faced i)) (C .sender-block i c1 f)
+      ∙ said
+
+pub two-faced-named : (namedBy two-faced 1 ≡ 8) × ((namedBy two-faced 2 ≡ 0) × (namedBy two-faced 3 ≡ 8))
+unfolding two-faced stepsOf from4-1 from4-2 from4-3 lents tabulate filled sum same gadd gmul gpow polyMul reduce setOf outside tooMany broken refusalOf
+    stateRefusal lengthsRefusal starRefusal encodingRefusal blockLength rowLength inSettings kindLength boxLength inboxLength outboxLength roundKind
+    callKind width slotOf part holds isPresent messageOf copied receivedBlock gsum evaluate stripe pieceOf callOf startRefusal startOf lengthsFit stepRefusal stepOf
+    isNamed namedOf
+two-faced-named = (
+  names 1 (record { least = lit≤ tt; most = lit≤ tt; is = refl }) 8 refl,
+  (
+    names 2 (record { least = lit≤ tt; most = lit≤ tt; is = refl }) 0 refl,
+    names 3 (record { least = lit≤ tt; most = lit≤ tt; is = refl }) 8 refl,
+  ),
+)

@@ -1,6 +1,6 @@
 -- `finish` meets its contract.
 use Rattle.reconstruction.proofs.Rounds.{finished-none, finished-answers}
-use Rattle.reconstruction.specs.Reconstruction.{finish}
+use Rattle.reconstruction.specs.Reconstruction.{ending, finish}
 use Rattle.reconstruction.specs.declared.Outcome.the-variants.{None}
 use mathlib.Core.Path.{sym, ap, _∙_}
 use borrow.Author.Needs.{needs}
@@ -20,14 +20,14 @@ returns : tie.Need-returns
 returns c =
     let I = c .before .before .before .before in
     let a = I .before .before .before .before .args in
-    ap (finish None) (c .before .before .silence .ensures)
+    ap (finish (ending None 0)) (c .before .before .silence .ensures)
     ∙ sym (finished-none (a .n) (a .t) (a .k) (a .core) (a .inbox .now) (a .block .now) (sym (I .before .restrict .ensures) ∙ I .if1 .taken))
 
 decode-requires : tie.Need-decode-requires
 decode-requires c κs = search needs
 
-decoded-outcome-requires : tie.Need-decoded-outcome-requires
-decoded-outcome-requires c κs = search needs
+decoded-ending-requires : tie.Need-decoded-ending-requires
+decoded-ending-requires c κs = search needs
 
 same-length-2 : tie.Need-same-length-2
 same-length-2 c = search needs
@@ -38,7 +38,7 @@ returns-2 c =
     let I = D .before .before in
     let a = I .before .before .before .before .args in
     let after = D .decode .last .1 .1 .1 .1 .0 in
-    ap (λ w. finish w after) (c .decoded-outcome .ensures)
+    ap (λ w. finish w after) (c .decoded-ending .ensures)
     ∙ finished-answers (a .n) (a .t) (a .k) (a .core) (a .inbox .now) (a .block .now) (λ z. I .if1 .left (I .before .restrict .ensures ∙ z))
     (D .decode .result) after
     (D .decode .ensures)
@@ -52,6 +52,6 @@ finish-spec =
     same-length
     returns
     decode-requires
-    decoded-outcome-requires
+    decoded-ending-requires
     same-length-2
     returns-2)

@@ -23,18 +23,28 @@ decode-present-requires c κs =
     let w = decode-0 (a .n) (a .t) (a .k) (a .slots .now) (a .block .now) (S .pre) in
     (w .0, w .0 .quorum .n-most, w .2 ∙ block-length-is (a .k) (a .t))
 
+-- the block that was found has the stated length
+name-requires : tie.Need-name-requires
+name-requires c κs =
+    let S = c .before .before .before .before .before .before .before .before .before .before in
+    let a = S .args in
+    let w = decode-0 (a .n) (a .t) (a .k) (a .slots .now) (a .block .now) (S .pre) in
+    (w .0, c .before .before .before .before .before .decode-present .kept .1 .1 .1 .1 .1 .0 ∙ w .2 ∙ block-length-is (a .k) (a .t))
+
 same-length : tie.Need-same-length
 same-length c = search needs
 
 returns : tie.Need-returns
 returns c =
-    let S = c .before .before .before .before .before .before .before .before .before in
+    let D = c .before .before .before .before .before .before in
+    let S = D .before .before .before .before .before in
     let a = S .args in
-    let d = c .before .before .before .before .decode-present in
+    let d = D .decode-present in
     let b = d .last .1 .1 .1 .1 .1 .0 in (
       S .pre,
       found-block (a .n) (a .t) (a .k) (a .slots .now) b
-          (subst (λ r. Found (a .t) (a .k) (a .slots .now) (points (a .n) (a .k) (a .slots .now)) r b) (c .if1 .taken) (d .ensures)),
+          (subst (λ r. Found (a .t) (a .k) (a .slots .now) (points (a .n) (a .k) (a .slots .now)) r b) (c .before .before .if1 .taken) (d .ensures)),
+      c .name .ensures,
     )
 
 slice-relend-prefix-silence : tie.Need-slice-relend-prefix-silence
@@ -69,6 +79,7 @@ rebuild-spec =
     (tie.spec
     slice-aggregate-decode-present
     decode-present-requires
+    name-requires
     same-length
     returns
     slice-relend-prefix-silence

@@ -1,5 +1,5 @@
 -- `state_bytes::put_field` meets its contract, field by field.
-use Rattle.state_bytes.proofs.Fields.{number-field, outcome-field, matrix-field, weak-field, core-field, number-put, rows-put}
+use Rattle.state_bytes.proofs.Fields.{number-field, outcome-field, matrix-field, weak-field, core-field, named-field, number-put, rows-put}
 use Rattle.state_bytes.specs.State.{littleEndian, widthOf}
 use lib.ListN.{length}
 use denote.Ref.{now}
@@ -87,11 +87,28 @@ same-length-5 c = search needs
 
 returns-5 : tie.Need-returns-5
 returns-5 c =
-    let S = c .before .before .before .before .before .before .before .before .before .before in
+    let S = c .before .before .before .before .before .before .before .before .before .before .before in
     let a = S .args in
-    let last : a .i ≡ 9 = omega arith in
-    number-put (a .s) (a .i) (c .before .before .put3 .last .0) (a .s .core) (length (now (a .bytes))) (core-field (a .s) (a .i) last) (S .pre .1)
+    number-put (a .s) (a .i) (c .before .before .put3 .last .0) (a .s .core) (length (now (a .bytes)))
+    (core-field (a .s) (a .i) (c .before .before .before .before .before .if5 .taken)) (S .pre .1)
     (c .before .before .put3 .ensures)
+
+cast-put-3 : tie.Need-cast-put-3
+cast-put-3 c = search needs
+
+put-requires-4 : tie.Need-put-requires-4
+put-requires-4 c κs = search needs
+
+same-length-6 : tie.Need-same-length-6
+same-length-6 c = search needs
+
+returns-6 : tie.Need-returns-6
+returns-6 c =
+    let S = c .before .before .before .before .before .before .before .before .before .before .before in
+    let a = S .args in
+    let last : a .i ≡ 10 = omega arith in
+    number-put (a .s) (a .i) (c .before .before .put4 .last .0) (a .s .named) (length (now (a .bytes))) (named-field (a .s) (a .i) last) (S .pre .1)
+    (c .before .before .put4 .ensures)
 
 pub put-field-spec : {M : Type 1} → statement M
 put-field-spec =
@@ -115,4 +132,8 @@ put-field-spec =
     cast-put-2
     put-requires-3
     same-length-5
-    returns-5)
+    returns-5
+    cast-put-3
+    put-requires-4
+    same-length-6
+    returns-6)

@@ -52,6 +52,12 @@ field-requires-3 c κs = search needs
 read-row-requires : tie.Need-read-row-requires
 read-row-requires c κs = search needs
 
+field-requires-4 : tie.Need-field-requires-4
+field-requires-4 c κs = search needs
+
+read-row-requires-2 : tie.Need-read-row-requires-2
+read-row-requires-2 c κs = search needs
+
 initial-requires : tie.Need-initial-requires
 initial-requires c κs = search needs
 
@@ -64,16 +70,21 @@ with-votes-requires c κs = search needs
 with-core-requires : tie.Need-with-core-requires
 with-core-requires c κs = search needs
 
+with-named-requires : tie.Need-with-named-requires
+with-named-requires c κs = search needs
+
 returns : tie.Need-returns
 returns c =
-    let I = c .before .before .before in
-    let C = I .before in
+    let I = c .before .before .before .before in
+    let R = I .before in
+    let C = R .before .before in
     let F = C .before in
     let W = F .before in
     let M = W .before .before in
     let O = M .before .before in
     let N = O .before .before in
-    built (I .initial .ensures) (c .before .before .with-call .ensures) (c .before .with-votes .ensures) (c .with-core .ensures)
+    built (I .initial .ensures) (c .before .before .before .with-call .ensures) (c .before .before .with-votes .ensures) (c .before .with-core .ensures)
+    (c .with-named .ensures)
     ∙ made (now (N .before .before .before .before .before .before .before .args .bytes))
     (N .before .before .before .before .before .field-number .ensures) (N .before .before .before .before .field-number2 .ensures)
     (N .before .before .before .field-number3 .ensures)
@@ -81,6 +92,7 @@ returns c =
     (O .outcome-from .ensures ∙ ap outcomeFrom (O .before .field-number7 .ensures))
     (M .get-rows .ensures ∙ ap rowsIn (M .before .field .ensures)) (W .get-rows2 .ensures ∙ ap rowsIn (W .before .field2 .ensures))
     (C .read-row .ensures ∙ ap (λ (l : List ℕ). rowOf 16 l 0) (F .field3 .ensures))
+    (R .read-row2 .ensures ∙ ap (λ (l : List ℕ). rowOf 16 l 0) (R .before .field4 .ensures))
 
 pub state-in-spec : {M : Type 1} → statement M
 state-in-spec =
@@ -100,8 +112,11 @@ state-in-spec =
     get-rows-requires-2
     field-requires-3
     read-row-requires
+    field-requires-4
+    read-row-requires-2
     initial-requires
     with-call-requires
     with-votes-requires
     with-core-requires
+    with-named-requires
     returns)

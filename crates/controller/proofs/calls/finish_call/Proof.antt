@@ -1,6 +1,6 @@
 -- `controller::finish_call` meets its contract.
 use Rattle.protocol.specs.Calls.{carried}
-use Rattle.protocol.specs.State.{advanced}
+use Rattle.protocol.specs.State.{advanced, withNamed}
 use Rattle.reconstruction.specs.Reconstruction.{Finished}
 use mathlib.Core.List.{[]}
 use mathlib.Core.Path.{ap, _∙_}
@@ -14,16 +14,21 @@ finish-requires c κs = search needs
 advance-requires : tie.Need-advance-requires
 advance-requires c κs = search needs
 
+with-named-requires : tie.Need-with-named-requires
+with-named-requires c κs = search needs
+
 same-length : tie.Need-same-length
 same-length c = search needs
 
 returns : tie.Need-returns
 returns c =
-    let F = c .before .before .before in
+    let A = c .before in
+    let F = A .before .before .before in
     let a = F .before .before .before .before .args in
     let e = F .finish .ensures in
-    let s = c .advance .ensures ∙ ap (advanced (a .s)) (ap (λ (x : Finished). x .outcome) e) in
-    λ x. carried (s x) (e x .block) []
+    let s = A .advance .ensures ∙ ap (advanced (a .s)) (ap (λ (x : Finished). x .ending .outcome) e) in
+    ap (λ y. carried y (F .finish .last .1 .1 .1 .1 .1 .0) []) (c .with-named .ensures)
+    ∙ (λ x. carried (withNamed (s x) (e x .ending .named)) (e x .block) [])
 
 pub finish-call-spec : {M : Type 1} → statement M
-finish-call-spec = tie.close (tie.spec finish-requires advance-requires same-length returns)
+finish-call-spec = tie.close (tie.spec finish-requires advance-requires with-named-requires same-length returns)

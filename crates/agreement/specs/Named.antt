@@ -1,0 +1,27 @@
+-- Whom the correct controllers name at the end (document 02, U1), under what demand 3 supposes; demand 3 itself is in Agreement. The marks of two
+-- correct controllers may differ: a faulty one may send its true piece to one of them, and another or none to the other.
+--   namedBy S i          the marks of those whom controller i names at the end: index j - 1 for controller j
+--   NamedAtEnd S i       with the outcome agreed they are of those whose piece in the last round was absent, or was not, byte for byte, their piece of the
+--                        block at the end; with any other outcome there are none
+--   NamedByLast          that holds of every correct controller
+--   NoCorrectNamed       no correct controller names a correct one
+use mathlib.Core.Path.{_≡_}
+use mathlib.Core.Bool.{false}
+use Prim.Native.Nat.{ℕ, _-_}
+use Rattle.bitset.specs.Set.{member}
+use Rattle.reed_solomon.specs.Decode.{namedOf}
+use Rattle.reconstruction.specs.declared.Outcome.the-variants.{Agreed}
+use Rattle.agreement.specs.Agreement.{System, Correct, Supposed, atEnd, lastInbox, outcomeOf, blockOf}
+
+abbrev pub namedBy : System → ℕ → ℕ
+namedBy S i = atEnd S i .state .named
+
+pub record NamedAtEnd (S : System) (i : ℕ) : Type 0 where
+  pub agreed : outcomeOf S i ≡ Agreed → namedBy S i ≡ namedOf (S .settings .n) (S .settings .t) (S .settings .k) (lastInbox S i) (blockOf S i)
+  pub other : (outcomeOf S i ≡ Agreed → ⊥) → namedBy S i ≡ 0
+
+abbrev pub NamedByLast : Type 0
+NamedByLast = (S : System) → Supposed S → (i : ℕ) → Correct S i → NamedAtEnd S i
+
+abbrev pub NoCorrectNamed : Type 0
+NoCorrectNamed = (S : System) → Supposed S → (i j : ℕ) → Correct S i → Correct S j → member (namedBy S i) (j - 1) ≡ false
