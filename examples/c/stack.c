@@ -1,7 +1,7 @@
 /* How much stack the functions of the library use. Each is called on a stack of its own that was filled with one byte value before; what
  * differs afterwards was used. What the call itself takes here, some hundred bytes, is in the figures. They are of these inputs: the largest
- * settings, n 16, t 5 and k 128; every call of a run, with random messages in all slots, and in call 3t + 7 that one of many graphs of which
- * the star uses most. No theorem bounds the stack. */
+ * settings, n 16, t 5 and k 128; every call of a run, with random messages in all slots, in call 3t + 7 that one of many graphs of which the
+ * star uses most; decoding, by itself and in the last call, of pieces of which the first t are false. No theorem bounds the stack. */
 #define _XOPEN_SOURCE 700
 #include <stdbool.h>
 #include <stddef.h>
@@ -58,6 +58,7 @@ static uint8_t piece[K];
 static uint8_t rows[POTEKAWHI_ROWS_LENGTH];
 static uint8_t pairs[POTEKAWHI_PAIRS_LENGTH];
 static uint8_t sets[POTEKAWHI_SETS_LENGTH];
+static uint16_t named;
 static size_t call;
 static uint8_t answer;
 
@@ -78,7 +79,7 @@ static void encode(void) {
 }
 
 static void decode(void) {
-    answer = potekawhi_decode(N, T, K, inbox, N * (1 + K), block, sizeof block);
+    answer = potekawhi_decode(N, T, K, inbox, N * (1 + K), block, sizeof block, &named);
 }
 
 static void star(void) {
@@ -105,6 +106,21 @@ static uint8_t random_byte(void) {
 static void fill_inbox(size_t message_length) {
     for (size_t b = 0; b < sizeof inbox; b++) {
         inbox[b] = b % (1 + message_length) == 0 ? 1 : random_byte();
+    }
+}
+
+/* The marks of the first T controllers. */
+#define FIRST ((1u << T) - 1)
+
+/* Slots of the block's pieces, of which the first T are false in every byte. */
+static void fill_pieces(void) {
+    for (size_t j = 1; j <= N; j++) {
+        uint8_t *slot = inbox + (j - 1) * (1 + K);
+        slot[0] = 1;
+        potekawhi_encode(N, T, K, j, block, sizeof block, slot + 1, K);
+        for (size_t s = 1; s <= K && j <= T; s++) {
+            slot[s] ^= 0xff;
+        }
     }
 }
 
@@ -137,7 +153,8 @@ static size_t most_for_star(void) {
     return most;
 }
 
-/* The state before a call: every buffer of its length is one. The next call stands at 40, the matrix at 49, the core at 113. */
+/* The state before a call: every buffer of its length is one. The next call stands at 40, the matrix at 49, the core at 113, whom the controller
+ * names at 115. */
 static void make_state(size_t c) {
     start();
     state[40] = (uint8_t)c;
@@ -165,6 +182,9 @@ int main(void) {
         size_t bytes;
         make_state(call);
         fill_inbox(potekawhi_message_length(N, T, K, call - 1));
+        if (call == CALLS) {
+            fill_pieces();
+        }
         bytes = used(step);
         right = right && answer == POTEKAWHI_OK;
         if (bytes > most || call == 3 * T + 7 || call == CALLS) {
@@ -173,8 +193,9 @@ int main(void) {
             right = report(name, bytes) && right;
         }
     }
+    right = right && potekawhi_named(state, sizeof state) == FIRST;
     right = report("potekawhi_encode", used(encode)) && right && answer == POTEKAWHI_OK;
-    fill_inbox(K);
-    right = report("potekawhi_decode", used(decode)) && right && answer == POTEKAWHI_BEYOND;
+    fill_pieces();
+    right = report("potekawhi_decode", used(decode)) && right && answer == POTEKAWHI_OK && named == FIRST;
     return right ? 0 : 1;
 }

@@ -4,8 +4,9 @@
  *   1. The two-faced controller is the sender and shows 2 and 3 one block and 4 another. They agree on the block that 2 and 3 received.
  *   2. It is the sender and shows each of 2, 3 and 4 another block. They agree that there is none, and end with zeros.
  *   3. The sender is 2, which is correct; 1 says to 4 that it received another block. All end with the sender's block.
- * It prints what each correct controller received in round 1 and what it ended with. The exit code is 0 if in every run all correct
- * controllers have one outcome and one block (in run 3 the sender's), and otherwise 1.
+ * It prints what each correct controller received in round 1, what it ended with, and whom it names: those whose piece in the last round was
+ * absent or false. The exit code is 0 if in every run all correct controllers have one outcome and one block (in run 3 the sender's) and none
+ * names a correct one, and otherwise 1.
  *
  * What a board needs is the first part, 'One controller': its buffers, its start, its calls. The rest takes the place of the bus and of the
  * faulty board. Nothing is allocated. */
@@ -81,11 +82,11 @@ static void copy_slot(const struct controller *from, struct controller *to, size
 #define FACES 3
 
 /* The block of each face. As sender it was started with it; otherwise it says that it received it from the sender. The sender of run 3 is
- * correct and has the block of face 0. */
+ * correct and has the block of face 0. The codings of no two of them have a piece in common. */
 static const uint8_t BLOCKS[FACES][BLOCK_LENGTH] = {
     {0xa1, 0xa2, 0xa3, 0xa4, 0xa5, 0xa6, 0xa7, 0xa8},
-    {0xb1, 0xb2, 0xb3, 0xb4, 0xb5, 0xb6, 0xb7, 0xb8},
-    {0xc1, 0xc2, 0xc3, 0xc4, 0xc5, 0xc6, 0xc7, 0xc8},
+    {0xb8, 0xb7, 0xb6, 0xb5, 0xb4, 0xb3, 0xb2, 0xb1},
+    {0xc1, 0xc3, 0xc5, 0xc7, 0xc9, 0xcb, 0xcd, 0xcf},
 };
 
 /* A run: who sends, and which face controller 1 shows to controllers 2, 3 and 4. */
@@ -189,6 +190,20 @@ static void print_bytes(const uint8_t *bytes, size_t length) {
     }
 }
 
+/* The numbers of the controllers in a set. */
+static void print_marks(uint16_t marks) {
+    const char *before = "";
+    if (marks == 0) {
+        printf("nobody");
+    }
+    for (size_t i = 1; i <= 16; i++) {
+        if (((unsigned)marks >> (i - 1)) % 2 == 1) {
+            printf("%s%zu", before, i);
+            before = ", ";
+        }
+    }
+}
+
 /* What i received from the sender: read after round 1, before call 2. Here every sender sends; elsewhere the slot may be absent. */
 static bool keep_received(size_t i, size_t sender, uint8_t received[BLOCK_LENGTH]) {
     size_t offset = 0;
@@ -202,7 +217,8 @@ static bool keep_received(size_t i, size_t sender, uint8_t received[BLOCK_LENGTH
     return true;
 }
 
-/* One run to its end; whether all correct controllers have one outcome and one block, and the sender's if the sender is correct. */
+/* One run to its end; whether all correct controllers have one outcome and one block, and the sender's if the sender is correct, and name nobody
+ * but controller 1. */
 static bool play(const struct run *run) {
     static uint8_t received[N + 1][BLOCK_LENGTH];
     static uint8_t final_block[N + 1][BLOCK_LENGTH];
@@ -231,7 +247,7 @@ static bool play(const struct run *run) {
     }
 
     printf("run %s\n", run->title);
-    bool all_agree = true;
+    bool all_right = true;
     for (size_t i = 2; i <= N; i++) {
         outcome[i] = potekawhi_final_block(correct[i].state, sizeof correct[i].state, correct[i].block, sizeof correct[i].block,
                                            final_block[i], sizeof final_block[i]);
@@ -239,21 +255,26 @@ static bool play(const struct run *run) {
         print_bytes(received[i], BLOCK_LENGTH);
         printf(" and ended with %s ", outcome_name(outcome[i]));
         print_bytes(final_block[i], BLOCK_LENGTH);
+        uint16_t named = potekawhi_named(correct[i].state, sizeof correct[i].state);
+        printf("; it names ");
+        print_marks(named);
         printf("\n");
 
         bool at_end = outcome[i] == POTEKAWHI_OUTCOME_AGREED || outcome[i] == POTEKAWHI_OUTCOME_NONE;
         bool as_first = outcome[i] == outcome[2] && memcmp(final_block[i], final_block[2], BLOCK_LENGTH) == 0;
         bool as_sent = outcome[i] == POTEKAWHI_OUTCOME_AGREED && memcmp(final_block[i], BLOCKS[0], BLOCK_LENGTH) == 0;
-        all_agree = all_agree && at_end && as_first && (run->sender == TWO_FACED || as_sent);
+        bool none_correct = named == 0 || named == 1u << (TWO_FACED - 1);
+        all_right = all_right && at_end && as_first && (run->sender == TWO_FACED || as_sent) && none_correct;
     }
-    return all_agree;
+    return all_right;
 }
 
 int main(void) {
-    bool all_agree = true;
+    bool all_right = true;
     for (size_t r = 0; r < sizeof RUNS / sizeof RUNS[0]; r++) {
-        all_agree = play(&RUNS[r]) && all_agree;
+        all_right = play(&RUNS[r]) && all_right;
     }
-    puts(all_agree ? "all correct controllers agree in every run" : "the correct controllers do not agree in every run");
-    return all_agree ? 0 : 1;
+    puts(all_right ? "all correct controllers agree in every run and name no correct one"
+                   : "in some run the correct controllers do not agree or name a correct one");
+    return all_right ? 0 : 1;
 }

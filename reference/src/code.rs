@@ -1,5 +1,5 @@
-//! The code (document 01, 'Field and code'; decoding by document 02, U2): coding by powers, decoding by trying sets of t + 1 present slots, and
-//! the refusals of both.
+//! The code (document 01, 'Field and code'; decoding by document 02, U1 and U2): coding by powers, decoding by trying sets of t + 1 present
+//! slots, the row of marks for the slots that differ from the block, and the refusals of both.
 use crate::field;
 use std::sync::OnceLock;
 
@@ -126,9 +126,24 @@ pub fn encode(n: u64, t: u64, k: u64, number: u64, block: &[u8], piece: &mut [u8
     0
 }
 
+/// Document 02, U1: the marks, the bit worth 1 for controller 1, of the slots whose piece is absent or differs, in any stripe, from the code of
+/// the block.
+fn named(slots: &[u8], t: usize, k: usize, block: &[u8]) -> u16 {
+    let is_named = |&(i, slot): &(u8, &[u8])| {
+        let mut stripes = block.chunks(t + 1).zip(&slot[1..]);
+        slot[0] != 1 || stripes.any(|(m, &received)| value(m, i) != received)
+    };
+    (1..)
+        .zip(slots.chunks(1 + k))
+        .filter(is_named)
+        .map(|(i, _)| 1 << (i - 1))
+        .sum()
+}
+
 #[derive(Debug, PartialEq, Eq, Clone, Copy)]
 pub enum Decoded {
-    Block,
+    /// The row of marks; for the others it is empty.
+    Block(u16),
     Beyond,
     Refused(u8),
 }
@@ -160,7 +175,7 @@ pub fn decode(n: u64, t: u64, k: u64, slots: &[u8], block: &mut [u8]) -> Decoded
         }
     }
     block.copy_from_slice(&all);
-    Decoded::Block
+    Decoded::Block(named(slots, t, k, block))
 }
 
 #[cfg(test)]
@@ -185,11 +200,12 @@ mod tests {
         assert_eq!(pieces, [0x1e, 0x22, 0x36, 0x5a]);
     }
 
+    /// The piece of controller 1 is 1e.
     #[test]
     fn example_d() {
         assert_eq!(
             decoded([0x00, 0x22, 0x36, 0x5a]),
-            (Decoded::Block, [0x0a, 0x14])
+            (Decoded::Block(0b0001), [0x0a, 0x14])
         );
     }
 
@@ -234,6 +250,63 @@ mod tests {
         (Decoded::Beyond, vec![0; block.len()])
     }
 
+    /// The marks of the slots at these indices.
+    fn marks(indices: impl IntoIterator<Item = usize>) -> u16 {
+        indices.into_iter().fold(0, |marks, i| marks | 1 << i)
+    }
+
+    /// Pieces 1e, 22, 36 and 5a of example c, each false or absent in turn, and none.
+    #[test]
+    fn each_slot_is_named() {
+        let pieces = [0x1e, 0x22, 0x36, 0x5a];
+        let block = [0x0a, 0x14];
+        assert_eq!(decoded(pieces), (Decoded::Block(0), block));
+        for (i, row) in [0b0001, 0b0010, 0b0100, 0b1000].into_iter().enumerate() {
+            for bit in 0..8 {
+                let mut values = pieces;
+                values[i] ^= 1 << bit;
+                assert_eq!(decoded(values), (Decoded::Block(row), block));
+            }
+            let mut slots = pieces.map(|value| vec![1, value]);
+            slots[i][0] = 0;
+            assert_eq!(answer(1, &slots), (Decoded::Block(row), block.to_vec()));
+        }
+    }
+
+    /// Three stripes 0a14: pieces of which one byte is false, each in another stripe. So three of four are named, and the block is found.
+    #[test]
+    fn false_in_one_stripe_each() {
+        let slots = [
+            vec![1, 0x1e, 0x00, 0x1e],
+            vec![1, 0x22, 0x22, 0x00],
+            vec![1, 0x36, 0x36, 0x36],
+            vec![1, 0x00, 0x5a, 0x5a],
+        ];
+        let block = [0x0a, 0x14].repeat(3);
+        assert_eq!(answer(1, &slots), (Decoded::Block(0b1011), block));
+    }
+
+    /// One false byte, in each piece in turn, in each of some stripes, the first and the last among them.
+    #[test]
+    fn each_stripe_counts() {
+        let block = some_block(5, 128);
+        let right = slots(16, 5, &block);
+        for (i, s) in (0..16).flat_map(|i| [0, 1, 64, 126, 127].map(|s| (i, s))) {
+            let mut slots = right.clone();
+            slots[i][1 + s] ^= 0x80;
+            let expected = (Decoded::Block(marks([i])), block.clone());
+            assert_eq!(answer(5, &slots), expected, "{i} {s}");
+        }
+        assert_eq!(answer(5, &right), (Decoded::Block(0), block));
+    }
+
+    /// The pieces of a block of zeros are zeros: a slot that is absent and all 00 is named, a present one is not.
+    #[test]
+    fn absent_is_no_piece_of_zeros() {
+        let slots = [vec![1, 0], vec![0, 0], vec![1, 0], vec![0xff, 0]];
+        assert_eq!(answer(1, &slots), (Decoded::Block(0b1010), vec![0, 0]));
+    }
+
     /// Document 02, U2.
     #[test]
     fn any_three_silent_of_seven() {
@@ -245,11 +318,8 @@ mod tests {
             for i in (0..7).filter(|i| set >> i & 1 == 1) {
                 slots[i].fill(0);
             }
-            assert_eq!(
-                answer(2, &slots),
-                (Decoded::Block, block.clone()),
-                "{set:b}"
-            );
+            let expected = (Decoded::Block(set.into()), block.clone());
+            assert_eq!(answer(2, &slots), expected, "{set:b}");
         }
     }
 
@@ -263,7 +333,8 @@ mod tests {
             for other in [1, 2] {
                 slots[(wrong + other) % 7][0] = 0;
             }
-            assert_eq!(answer(2, &slots), (Decoded::Block, block.clone()));
+            let row = marks([0, 1, 2].map(|other| (wrong + other) % 7));
+            assert_eq!(answer(2, &slots), (Decoded::Block(row), block.clone()));
             slots[(wrong + 3) % 7][0] = 0;
             assert_eq!(answer(2, &slots), beyond(&block));
         }
@@ -278,12 +349,12 @@ mod tests {
             slot[1] ^= i;
             slot[2] ^= 0xff - i;
         }
-        assert_eq!(answer(1, &slots), (Decoded::Block, block.clone()));
+        assert_eq!(answer(1, &slots), (Decoded::Block(0x7f), block.clone()));
         slots[12][2] ^= 0x80;
         assert_eq!(answer(1, &slots), beyond(&block));
     }
 
-    /// As many false pieces as the rule allows, the first ones, are corrected, and one more gives another answer.
+    /// As many false pieces as the rule allows, the first ones, are corrected, and one more gives another block.
     #[test]
     fn false_pieces_at_the_edge() {
         for (n, t) in settings() {
@@ -297,10 +368,11 @@ mod tests {
                 for slot in &mut slots[..most] {
                     slot[1] ^= 0x11;
                 }
-                let expected = (Decoded::Block, block.clone());
+                let row = marks((0..most).chain(present..n));
+                let expected = (Decoded::Block(row), block.clone());
                 assert_eq!(answer(t, &slots), expected, "{n} {t} {present}");
                 slots[most][1] ^= 0x11;
-                assert_ne!(answer(t, &slots), expected, "{n} {t} {present}");
+                assert_ne!(answer(t, &slots).1, block, "{n} {t} {present}");
             }
         }
     }
@@ -318,14 +390,18 @@ mod tests {
             for slot in &mut slots[..wrong] {
                 slot[1] ^= 0x35;
             }
-            let right = |m: &[u8; 2]| {
+            let differing = |m: &[u8; 2]| {
                 let differs = |&i: &usize| value(m, i as u8 + 1) != slots[i][1];
-                2 * (0..present).filter(differs).count() + t + 1 <= present
+                (0..present).filter(differs).collect::<Vec<_>>()
             };
+            let right = |m: &[u8; 2]| 2 * differing(m).len() + t + 1 <= present;
             let all = (0..=u16::MAX).map(u16::to_le_bytes);
             let expected = match all.filter(right).collect::<Vec<_>>()[..] {
                 [] => beyond(&block),
-                [m] => (Decoded::Block, m.to_vec()),
+                [m] => {
+                    let row = marks(differing(&m).into_iter().chain(present..n));
+                    (Decoded::Block(row), m.to_vec())
+                }
                 _ => panic!("more than one"),
             };
             assert_eq!(answer(t, &slots), expected, "{present} {wrong}");
@@ -340,11 +416,12 @@ mod tests {
             for present in 0..=t + 1 {
                 for first in [0, n - present] {
                     let mut slots = slots(n, t, &block);
-                    for i in (0..n).filter(|i| !(first..first + present).contains(i)) {
+                    let absent = (0..n).filter(|i| !(first..first + present).contains(i));
+                    for i in absent.clone() {
                         slots[i].fill(0);
                     }
                     let expected = if present > t {
-                        (Decoded::Block, block.clone())
+                        (Decoded::Block(marks(absent)), block.clone())
                     } else {
                         beyond(&block)
                     };
@@ -354,7 +431,7 @@ mod tests {
         }
     }
 
-    /// What stands behind another first byte than 01 is not read: false bytes do no harm there, and true ones do not help.
+    /// What stands behind another first byte than 01 is not read: false bytes do no harm there, and true ones do not help. The slot is named.
     #[test]
     fn absent_bytes_are_not_read() {
         let block = some_block(1, 2);
@@ -362,7 +439,8 @@ mod tests {
             let mut slots = slots(4, 1, &block);
             slots[0][0] = first;
             slots[2] = vec![first, 0xee, 0xee];
-            assert_eq!(answer(1, &slots), (Decoded::Block, block.clone()));
+            let expected = (Decoded::Block(0b0101), block.clone());
+            assert_eq!(answer(1, &slots), expected);
             slots[1][0] = first;
             assert_eq!(answer(1, &slots), beyond(&block));
         }

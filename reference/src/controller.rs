@@ -1,5 +1,5 @@
-//! One controller: start and step (document 01, 'The house', 'Rounds', 'Turned down'), for all inputs, refused ones too, and for states
-//! that no run reaches.
+//! One controller: start and step (document 01, 'The house', 'Rounds', 'Turned down'; document 02, U1), for all inputs, refused ones too, and
+//! for states that no run reaches.
 use crate::code::{self, Decoded};
 use crate::vote::{self, Message};
 use crate::{star, wire};
@@ -30,6 +30,8 @@ pub struct State {
     pub weak: [u16; 16],
     /// Marks of the core's members.
     pub core: u16,
+    /// Whom the controller names: marks of the slots whose piece was absent or false in the last call. Empty before it, and for none and beyond.
+    pub named: u16,
 }
 
 /// Rows 1 to 5 of 'Turned down', in order; 0 if none of them is met.
@@ -71,6 +73,7 @@ pub fn step(state: State, block: &mut [u8], inbox: &[u8], outbox: &mut [u8]) -> 
     let mut next = State {
         next: state.next + 1,
         outcome: Outcome::Open,
+        named: 0,
         ..state
     };
     let sent = next.call(state.next, block, inbox);
@@ -150,7 +153,7 @@ impl State {
                 None => self.silence(),
             },
             10 => {
-                self.outcome = self.decode(block, inbox);
+                (self.outcome, self.named) = self.decode(block, inbox);
                 self.silence()
             }
             _ => unreachable!(),
@@ -264,15 +267,15 @@ impl State {
             .map(|&piece| piece.clone())
     }
 
-    /// The last call: the block that the inbox decodes to, zeros where there is no core or no such block.
-    fn decode(&self, block: &mut [u8], inbox: &[u8]) -> Outcome {
+    /// The last call: the block that the inbox decodes to, zeros where there is no core or no such block; the outcome and who is named.
+    fn decode(&self, block: &mut [u8], inbox: &[u8]) -> (Outcome, u16) {
         if self.members().is_empty() {
             block.fill(0);
-            return Outcome::None;
+            return (Outcome::None, 0);
         }
         match code::decode(self.n as u64, self.t as u64, self.k as u64, inbox, block) {
-            Decoded::Block => Outcome::Agreed,
-            Decoded::Beyond => Outcome::Beyond,
+            Decoded::Block(named) => (Outcome::Agreed, named),
+            Decoded::Beyond => (Outcome::Beyond, 0),
             Decoded::Refused(number) => unreachable!("{number}"),
         }
     }
@@ -385,22 +388,96 @@ mod tests {
         assert_eq!(piece(0, [&[7], &[7], &[7], &[7]]), None);
     }
 
-    /// Examples d and e of document 01.
+    /// Examples d and e of document 01, with absent slots, with no false one, and with no core. Whom the state given names does not count.
     #[test]
     fn the_last_call() {
-        let decoded = |messages| {
+        let decoded = |core, messages| {
             let mut block = [1, 2];
-            let last = State { core: 1, ..at(12) };
+            let last = State {
+                core,
+                named: 0b0110,
+                ..at(12)
+            };
             let (state, _) = carried_out(last, &mut block, &slots(1, messages));
-            (state.outcome, block)
+            (state.outcome, state.named, block)
         };
+        let right: [&[u8]; 4] = [&[0x1e], &[0x22], &[0x36], &[0x5a]];
+        let block = [0x0a, 0x14];
+        assert_eq!(decoded(1, right), (Outcome::Agreed, 0, block));
         assert_eq!(
-            decoded([&[], &[0x22], &[0x36], &[0x5a]]),
-            (Outcome::Agreed, [0x0a, 0x14])
+            decoded(1, [&[0x00], &[0x22], &[0x36], &[0x5a]]),
+            (Outcome::Agreed, 0b0001, block)
         );
         assert_eq!(
-            decoded([&[0x1e], &[0x22], &[0x37], &[0x5b]]),
-            (Outcome::Beyond, [0, 0])
+            decoded(1, [&[], &[0x22], &[0x36], &[0x5a]]),
+            (Outcome::Agreed, 0b0001, block)
+        );
+        assert_eq!(
+            decoded(1, [&[0x1e], &[], &[0x36], &[]]),
+            (Outcome::Agreed, 0b1010, block)
+        );
+        assert_eq!(
+            decoded(1, [&[0x1e], &[0x22], &[0x37], &[0x5b]]),
+            (Outcome::Beyond, 0, [0, 0])
+        );
+        assert_eq!(decoded(0, right), (Outcome::None, 0, [0, 0]));
+    }
+
+    /// Start and every call but the last leave nobody named, whatever the state given says and whatever arrives.
+    #[test]
+    fn nobody_is_named_before_the_last_call() {
+        assert_eq!(at(1).named, 0);
+        for c in 1..=11 {
+            for first in [0, 1] {
+                let given = State {
+                    core: 0b1101,
+                    named: 0xffff,
+                    ..at(c)
+                };
+                let inbox = vec![first; given.box_length(c - 1)];
+                let (state, _) = carried_out(given, &mut [0x0a, 0x14], &inbox);
+                assert_eq!((state.outcome, state.named), (Outcome::Open, 0), "{c}");
+            }
+        }
+    }
+
+    /// A refused step hands the state back as given: 6 before each call, 8 after the last, 7 for settings that are refused.
+    #[test]
+    fn a_refused_step_names_whom_it_named() {
+        let refused = |state: State, number| {
+            let inbox = vec![1; 3];
+            let answer = step(state, &mut [0x0a, 0x14], &inbox, &mut [0xa5; 5]);
+            assert_eq!(answer, (number, state));
+        };
+        let given = |next| State {
+            named: 0x8421,
+            ..at(next)
+        };
+        for c in 1..=12 {
+            refused(given(c), 6);
+        }
+        refused(given(13), 8);
+        refused(given(14), 7);
+        refused(State { n: 3, ..given(12) }, 7);
+    }
+
+    /// Document 02, U2: n 7, t 2, k 1. 0a141e codes to 00 5a 50 a7 ad f7 fd; 2, 5 and 6 are silent. Document 01's own rule, an absent slot being a
+    /// piece of zeros, asks for five places that agree: here no block has more than four.
+    #[test]
+    fn three_silent_of_seven() {
+        let (number, state) = start(7, 2, 1, 2, 1, &[0; 3]);
+        assert_eq!(number, 0);
+        let last = State {
+            next: 15,
+            core: 1,
+            ..state
+        };
+        let inbox = [1, 0x00, 0, 0, 1, 0x50, 1, 0xa7, 0, 0, 0, 0, 1, 0xfd];
+        let mut block = [1, 2, 3];
+        let (state, _) = carried_out(last, &mut block, &inbox);
+        assert_eq!(
+            (state.outcome, state.named, block),
+            (Outcome::Agreed, 0b011_0010, [0x0a, 0x14, 0x1e])
         );
     }
 }

@@ -290,6 +290,22 @@ mod tests {
         assert_eq!(output(EXAMPLE), expected);
     }
 
+    /// Controller 1, the faulty one, is silent in the last round, and so all name it; if all are correct, nobody is named.
+    #[test]
+    fn whom_they_name() {
+        let names = |input: &str| -> Vec<u16> {
+            let correct = read(input.as_bytes()).unwrap().play();
+            correct.iter().map(|c| c.state.named).collect()
+        };
+        assert_eq!(names(EXAMPLE), [0b0001; 3]);
+        // its true piece is 1e
+        assert_eq!(names(&(EXAMPLE.to_string() + "11,1,0,1e\n")), [0; 3]);
+        let one = EXAMPLE.to_string() + "11,1,2,1e\n11,1,3,1f\n";
+        assert_eq!(names(&one), [0, 0b0001, 0b0001]);
+        let start: String = EXAMPLE.split_inclusive('\n').take(3).collect();
+        assert_eq!(names(&start), [0; 4]);
+    }
+
     #[test]
     fn all_correct_or_all_faulty() {
         let start: String = EXAMPLE.split_inclusive('\n').take(3).collect();

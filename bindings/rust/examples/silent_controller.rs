@@ -1,4 +1,5 @@
-//! Seven controllers in one process, of which one is silent in all rounds and at most two may be faulty: the sender's block reaches the others.
+//! Seven controllers in one process, of which one is silent in all rounds and at most two may be faulty: the sender's block reaches the others,
+//! and they name the silent one.
 //! All buffers are arrays of the longest lengths that these settings have, as on a board that has no allocator.
 //!
 //!     cargo run -p potekawhi --example silent_controller
@@ -47,12 +48,14 @@ fn main() -> Result<(), Refusal> {
     for (i, controller) in controllers.iter().enumerate() {
         let block = controller.final_block().unwrap_or_default();
         println!(
-            "controller {}: {:?}, {}",
+            "controller {}: {:?}, {}, names {:?}",
             i + 1,
             controller.outcome(),
-            String::from_utf8_lossy(block)
+            String::from_utf8_lossy(block),
+            controller.named()
         );
         assert_eq!((controller.outcome(), block), (Outcome::Agreed, &BLOCK[..]));
+        assert!(controller.named().iter().eq([SILENT]));
     }
     Ok(())
 }

@@ -1,5 +1,5 @@
-//! The message in a slot, and the code: a block into pieces, and back from pieces some of which are false.
-use crate::{raw, Refusal};
+//! The message in a slot, and the code: a block into pieces, and back from pieces some of which are false, with the marks of these.
+use crate::{raw, Marks, Refusal};
 
 /// The message in slot `j` of an inbox of messages of `length` bytes; none where the slot is absent, `j` is 0, the inbox does not hold the
 /// slot whole, or `length` is 0.
@@ -39,8 +39,8 @@ pub fn encode(
 /// What decoding found.
 #[derive(Debug, Clone, Copy, PartialEq, Eq)]
 pub enum Decoded {
-    /// The block was written.
-    Block,
+    /// The block was written; the set of those of 1 to n whose slot is absent or differs, in any byte, from their piece of it.
+    Block(Marks),
     /// There is no such block; zeros were written.
     Beyond,
 }
@@ -49,15 +49,20 @@ pub enum Decoded {
 /// block in each stripe of which twice the number of present values that differ from its coding is at most N - t - 1. With N at most t there
 /// is none. `block` has k * (t + 1) bytes.
 ///
-/// Two true pieces suffice for t 1 if the other slots are silent:
+/// Two true pieces suffice for t 1 if the other slots are silent, and with all four present one may be false:
 ///
 /// ```
-/// use potekawhi::{decode, Decoded};
+/// use potekawhi::{decode, Decoded, Marks};
 ///
 /// let mut block = [0; 2];
 /// let slots = [0, 0, 1, 0x22, 0, 0, 1, 0x5a];
-/// assert_eq!(decode(4, 1, 1, &slots, &mut block), Ok(Decoded::Block));
+/// assert_eq!(decode(4, 1, 1, &slots, &mut block), Ok(Decoded::Block(Marks(0b0101))));
 /// assert_eq!(block, [0x0a, 0x14]);
+/// let slots = [1, 0x1e, 1, 0x22, 1, 0x36, 1, 0xff];
+/// match decode(4, 1, 1, &slots, &mut block) {
+///     Ok(Decoded::Block(named)) => assert!(named.iter().eq([4])),
+///     other => panic!("{other:?}"),
+/// }
 /// let slots = [0, 0, 1, 0x22, 0, 0, 0, 0];
 /// assert_eq!(decode(4, 1, 1, &slots, &mut block), Ok(Decoded::Beyond));
 /// ```
@@ -68,8 +73,9 @@ pub fn decode(
     slots: &[u8],
     block: &mut [u8],
 ) -> Result<Decoded, Refusal> {
-    match raw::decode(n, t, k, slots, block) {
+    let mut named = 0;
+    match raw::decode(n, t, k, slots, block, &mut named) {
         raw::BEYOND => Ok(Decoded::Beyond),
-        number => Refusal::check(number).map(|()| Decoded::Block),
+        number => Refusal::check(number).map(|()| Decoded::Block(Marks(named))),
     }
 }

@@ -1,5 +1,5 @@
-//! One controller: settings with the lengths that they give, start, the calls, and how a run ended.
-use crate::{raw, Refusal};
+//! One controller: settings with the lengths that they give, start, the calls, how a run ended, and whom the controller names.
+use crate::{raw, Marks, Refusal};
 use core::ops::Range;
 
 /// How a run ended.
@@ -141,5 +141,13 @@ impl<'b> Controller<'b> {
             Outcome::Open => None,
             _ => Some(self.block),
         }
+    }
+
+    /// Whom the controller names: those whose piece in the last round was absent or differed, in any byte, from their piece of the final block.
+    /// Empty while the run is open, and where the outcome is [`None`](Outcome::None) or [`Beyond`](Outcome::Beyond). With at most t faulty
+    /// controllers no correct one names a correct one. Correct ones may name different ones, since a faulty one may send its true piece to
+    /// some of them; and a faulty one that sent its true piece is not named.
+    pub fn named(&self) -> Marks {
+        Marks(raw::named(&self.state))
     }
 }

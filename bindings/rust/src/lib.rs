@@ -1,9 +1,10 @@
 //! A Byzantine broadcast of a block of bytes among 4 to 16 controllers, at most t of n ≥ 3t + 1 of them faulty: safe bindings to the static
 //! library `boards`, whose functions are proved. They need neither `std` nor an allocator: all buffers are the caller's.
 //!
-//! [`Controller`] runs one controller. [`encode`], [`decode`], [`star`], [`star_of_pairs`] and [`message`] are usable by themselves. The library
-//! has an answer for every number and every length, so that there is nothing to test before a call; what it refuses is a [`Refusal`], and
-//! then nothing was changed. [`raw`] has its functions one by one; include/potekawhi.h says what each does.
+//! [`Controller`] runs one controller; at the end of a run it also names, as [`Marks`], those whose last piece was absent or false. [`encode`],
+//! [`decode`], [`star`], [`star_of_pairs`] and [`message`] are usable by themselves. The library has an answer for every number and every
+//! length, so that there is nothing to test before a call; what it refuses is a [`Refusal`], and then nothing was changed. [`raw`] has its
+//! functions one by one; include/potekawhi.h says what each does.
 //!
 //! A run of four controllers, all correct, in which every message arrives:
 //!
@@ -33,6 +34,7 @@
 //! for controller in &controllers {
 //!     assert_eq!(controller.outcome(), Outcome::Agreed);
 //!     assert_eq!(controller.final_block(), Some(&[0x0a, 0x14][..]));
+//!     assert!(controller.named().is_empty());
 //! }
 //! # Ok::<(), potekawhi::Refusal>(())
 //! ```
@@ -41,11 +43,13 @@
 
 mod coding;
 mod controller;
+mod marks;
 pub mod raw;
 mod refusal;
 mod stars;
 
 pub use coding::{decode, encode, message, Decoded};
 pub use controller::{Controller, Outcome, Settings};
+pub use marks::Marks;
 pub use refusal::Refusal;
 pub use stars::{missing_pairs, star, star_of_pairs, MissingPairs, Star};

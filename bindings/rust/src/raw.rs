@@ -84,6 +84,7 @@ extern "C" {
         final_block: *mut u8,
         final_block_length: usize,
     ) -> u8;
+    fn potekawhi_named(state: *const u8, state_length: usize) -> u16;
     fn potekawhi_message(
         inbox: *const u8,
         inbox_length: usize,
@@ -109,6 +110,7 @@ extern "C" {
         slots_length: usize,
         block: *mut u8,
         block_length: usize,
+        named: *mut u16,
     ) -> u8;
     fn potekawhi_star(
         n: usize,
@@ -210,6 +212,12 @@ pub fn final_block(state: &[u8], block: &[u8], final_block: &mut [u8]) -> u8 {
     }
 }
 
+/// `potekawhi_named`.
+pub fn named(state: &[u8]) -> u16 {
+    // SAFETY: the pointer and the length are those of a slice, which is only read.
+    unsafe { potekawhi_named(state.as_ptr(), state.len()) }
+}
+
 /// `potekawhi_message`: answers the length and writes the offset.
 pub fn message(inbox: &[u8], length: usize, j: usize, offset: &mut usize) -> usize {
     // SAFETY: the pointer and the length are those of a slice, which is only read; the offset is a number of its own.
@@ -233,9 +241,9 @@ pub fn encode(n: usize, t: usize, k: usize, number: usize, block: &[u8], piece: 
     }
 }
 
-/// `potekawhi_decode`.
-pub fn decode(n: usize, t: usize, k: usize, slots: &[u8], block: &mut [u8]) -> u8 {
-    // SAFETY: the pointers and lengths are those of slices, of which the written one overlaps no other.
+/// `potekawhi_decode`: writes the block and the marks.
+pub fn decode(n: usize, t: usize, k: usize, slots: &[u8], block: &mut [u8], named: &mut u16) -> u8 {
+    // SAFETY: the pointers and lengths are those of slices, of which the written one overlaps no other; the marks are a number of their own.
     unsafe {
         potekawhi_decode(
             n,
@@ -245,6 +253,7 @@ pub fn decode(n: usize, t: usize, k: usize, slots: &[u8], block: &mut [u8]) -> u
             slots.len(),
             block.as_mut_ptr(),
             block.len(),
+            named,
         )
     }
 }

@@ -1,7 +1,7 @@
-//! The bindings: the header's numbers beside the library's, refusals, lengths, runs, and the parts by themselves.
+//! The bindings: the header's numbers beside the library's, refusals, lengths, runs, marks, and the parts by themselves.
 use potekawhi::{
-    decode, encode, message, missing_pairs, raw, star, star_of_pairs, Controller, Decoded, Outcome,
-    Refusal, Settings,
+    decode, encode, message, missing_pairs, raw, star, star_of_pairs, Controller, Decoded, Marks,
+    Outcome, Refusal, Settings,
 };
 
 const SETTINGS: Settings = Settings {
@@ -11,13 +11,19 @@ const SETTINGS: Settings = Settings {
     sender: 1,
 };
 
-/// The length of a state that the header defines is the library's: a state has that length and no other.
+/// The length of a state that the header defines is the library's: a state has that length and no other. The marks are its last two bytes, the
+/// low one first.
 #[test]
 fn length_in_the_header() {
     for length in 0..2 * raw::STATE_LENGTH {
         let taken = raw::outcome(&vec![0; length]) == 0;
         assert_eq!(taken, length == raw::STATE_LENGTH);
+        let named = raw::named(&vec![0xff; length]);
+        assert_eq!(named, if taken { 0xffff } else { 0 });
     }
+    let mut state = [0xff; raw::STATE_LENGTH];
+    (state[115], state[116]) = (0x21, 0x04);
+    assert_eq!((state.len(), raw::named(&state)), (117, 0x0421));
 }
 
 /// So are the lengths of rows, missing pairs and sets, and the number for beyond.
@@ -34,7 +40,10 @@ fn numbers_in_the_header() {
         assert_eq!(taken, length == raw::SETS_LENGTH);
     }
     let slots = [1, 0x1e, 1, 0x22, 1, 0x37, 1, 0x5b];
-    assert_eq!(raw::decode(4, 1, 1, &slots, &mut [7; 2]), raw::BEYOND);
+    assert_eq!(
+        raw::decode(4, 1, 1, &slots, &mut [7; 2], &mut 7),
+        raw::BEYOND
+    );
 }
 
 /// Document 01's numbers, 1 to 8.
@@ -142,6 +151,7 @@ fn a_run_that_hears_nothing() {
             (controller.outcome(), controller.final_block()),
             (Outcome::Open, None)
         );
+        assert!(controller.named().is_empty());
         let inbox = vec![0; controller.inbox_length()];
         let mut outbox = vec![9; controller.outbox_length()];
         assert_eq!(controller.step(&inbox, &mut outbox), Ok(()));
@@ -149,8 +159,69 @@ fn a_run_that_hears_nothing() {
     assert_eq!((controller.next_call(), controller.inbox_length()), (13, 0));
     assert_eq!(controller.outcome(), Outcome::None);
     assert_eq!(controller.final_block(), Some(&[0, 0][..]));
+    assert!(controller.named().is_empty());
     assert_eq!(controller.step(&[], &mut []), Err(Refusal::Finished));
     assert_eq!(block, [0, 0]);
+}
+
+/// Controller 4 is faulty: in the last round it sends its true piece to 1, a false one to 2 and none to 3. A step that is refused after the end
+/// leaves what each names.
+#[test]
+fn a_run_that_names_one() {
+    let mut blocks = [[0x0a, 0x14], [7; 2], [7; 2], [7; 2]];
+    let mut controllers: Vec<Controller> = blocks
+        .iter_mut()
+        .zip(1..)
+        .map(|(block, own)| Controller::start(SETTINGS, own, block).unwrap())
+        .collect();
+    let mut inboxes = vec![Vec::new(); 4];
+    for call in 1..=12 {
+        let mut arriving = vec![vec![0; SETTINGS.inbox_length(call + 1)]; 4];
+        for from in 1..=4 {
+            let mut outbox = vec![9; SETTINGS.outbox_length(call)];
+            let controller = &mut controllers[from - 1];
+            assert!(controller.named().is_empty());
+            assert_eq!(controller.step(&inboxes[from - 1], &mut outbox), Ok(()));
+            for to in 1..=4 {
+                let slot = &outbox[SETTINGS.slot(call, to)];
+                arriving[to - 1][SETTINGS.slot(call, from)].copy_from_slice(slot);
+            }
+        }
+        if call == 11 {
+            let slot = SETTINGS.slot(11, 4);
+            assert_eq!(arriving[0][slot.clone()], [1, 0x5a]);
+            arriving[1][slot.clone()].copy_from_slice(&[1, 0x5b]);
+            arriving[2][slot].copy_from_slice(&[0, 0x5a]);
+        }
+        inboxes = arriving;
+    }
+    let expected = [Marks(0), Marks(0b1000), Marks(0b1000)];
+    for (controller, named) in controllers.iter_mut().zip(expected) {
+        assert_eq!(controller.outcome(), Outcome::Agreed);
+        assert_eq!(controller.final_block(), Some(&[0x0a, 0x14][..]));
+        assert_eq!(controller.named(), named);
+        assert_eq!(controller.step(&[], &mut []), Err(Refusal::Finished));
+        assert_eq!(controller.named(), named);
+    }
+}
+
+/// The numbers of marks, and numbers that no controller has.
+#[test]
+fn marks() {
+    let all = |marks: Marks| marks.iter().collect::<Vec<_>>();
+    assert_eq!(all(Marks(0)), []);
+    assert_eq!(all(Marks(0x8021)), [1, 6, 16]);
+    assert_eq!(all(Marks(0xffff)), (1..=16).collect::<Vec<_>>());
+    assert!(Marks(0).is_empty() && Marks::default().is_empty());
+    assert!(!Marks(0x8000).is_empty());
+    assert_eq!((Marks(0).len(), Marks(0x8021).len()), (0, 3));
+    for number in [0, 17, 18, 64, 65, usize::MAX] {
+        assert!(!Marks(0xffff).contains(number));
+    }
+    for number in 1..=16 {
+        assert_eq!(Marks(0x8021).contains(number), [1, 6, 16].contains(&number));
+    }
+    assert_eq!(format!("{:?}", Marks(0x8021)), "{1, 6, 16}");
 }
 
 #[test]
@@ -197,7 +268,7 @@ fn code() {
     assert_eq!(block, [9; 2]);
     assert_eq!(
         decode(4, 1, 1, &slots(right), &mut block),
-        Ok(Decoded::Block)
+        Ok(Decoded::Block(Marks(0b0001)))
     );
     assert_eq!(block, [0x0a, 0x14]);
     assert_eq!(
@@ -207,8 +278,42 @@ fn code() {
     assert_eq!(block, [0; 2]);
 }
 
+/// The marks that decoding writes: three stripes 0a14 of which each has another false value; none for beyond; refused, they stay.
+#[test]
+fn marks_of_decoding() {
+    let mut slots = [
+        [1, 0x1e, 0x00, 0x1e],
+        [1, 0x22, 0x22, 0x00],
+        [1, 0x36, 0x36, 0x36],
+        [1, 0x00, 0x5a, 0x5a],
+    ];
+    let mut block = [9; 6];
+    let mut decode = |slots: &[u8]| {
+        let mut named = 0x1234;
+        let number = raw::decode(4, 1, 3, slots, &mut block, &mut named);
+        (number, named, block)
+    };
+    let (number, named, left) = decode(&slots.concat()[1..]);
+    assert_eq!((number, named, left), (raw::BAD_LENGTH, 0x1234, [9; 6]));
+    let (number, named, left) = decode(&slots.concat());
+    assert_eq!((number, named), (raw::OK, 0b1011));
+    assert_eq!(left, [0x0a, 0x14, 0x0a, 0x14, 0x0a, 0x14]);
+    // all true, though 3 is absent
+    slots[0] = [1, 0x1e, 0x1e, 0x1e];
+    slots[1] = [1, 0x22, 0x22, 0x22];
+    slots[2] = [2, 0x36, 0x36, 0x36];
+    slots[3] = [1, 0x5a, 0x5a, 0x5a];
+    let (number, named, left) = decode(&slots.concat());
+    assert_eq!((number, named), (raw::OK, 0b0100));
+    assert_eq!(left, [0x0a, 0x14, 0x0a, 0x14, 0x0a, 0x14]);
+    // of three present none may be false
+    slots[3][3] = 0;
+    let answer = decode(&slots.concat());
+    assert_eq!(answer, (raw::BEYOND, 0, [0; 6]));
+}
+
 /// Document 02, U2: absent slots are dropped. Seven controllers, t 2: any three are silent, and what stands in their slots is not read; of
-/// five present pieces one may be false; two determine nothing.
+/// five present pieces one may be false; two determine nothing. The silent and the false are marked (U1).
 #[test]
 fn silent_slots() {
     let expected = [0x0a, 0x14, 0x1e];
@@ -224,7 +329,7 @@ fn silent_slots() {
             slots[2 * i + 1] ^= 0xff;
         }
         let (answer, left) = if silent.count_ones() <= 4 {
-            (Decoded::Block, expected)
+            (Decoded::Block(Marks(silent.into())), expected)
         } else {
             (Decoded::Beyond, [0; 3])
         };
@@ -235,7 +340,10 @@ fn silent_slots() {
     let mut slots = all;
     (slots[0], slots[6], slots[9]) = (0, 0, !slots[9]);
     let mut block = [9; 3];
-    assert_eq!(decode(7, 2, 1, &slots, &mut block), Ok(Decoded::Block));
+    assert_eq!(
+        decode(7, 2, 1, &slots, &mut block),
+        Ok(Decoded::Block(Marks(0b001_1001)))
+    );
     assert_eq!(block, expected);
     slots[2] = 0;
     assert_eq!(decode(7, 2, 1, &slots, &mut block), Ok(Decoded::Beyond));

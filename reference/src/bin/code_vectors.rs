@@ -113,12 +113,18 @@ impl Case {
             .collect()
     }
 
-    /// How many slots are present, and how many of these have a false byte. Pieces 1 to t of the other block are true.
-    fn present(&self, mask: usize, seed: u64) -> (usize, usize) {
-        let kinds = (0..self.n).map(|i| (i, self.kind(mask, seed, i)));
-        let present: Vec<_> = kinds.filter(|&(_, kind)| kind != 3).collect();
-        let differs = |&&(i, kind): &&(usize, usize)| kind != 0 && (kind != 4 || i >= self.t);
-        (present.len(), present.iter().filter(differs).count())
+    /// The slots that are absent, and those present that have a false byte, as marks. Pieces 1 to t of the other block are true.
+    fn absent_and_false(&self, mask: usize, seed: u64) -> (u16, u16) {
+        let (mut absent, mut differing) = (0, 0);
+        for i in 0..self.n {
+            match self.kind(mask, seed, i) {
+                3 => absent |= 1 << i,
+                1 | 2 => differing |= 1 << i,
+                4 if i >= self.t => differing |= 1 << i,
+                _ => {}
+            }
+        }
+        (absent, differing)
     }
 
     fn scattered(&self, size: usize, seed: u64) -> usize {
@@ -135,36 +141,43 @@ impl Case {
             let (a, b) = (self.piece(&block, i), self.piece(&other, i));
             assert!(a.iter().zip(&b).all(|(x, y)| (x == y) == (i < self.t)));
         }
-        let (mut blocks, mut beyond, mut d) = (0, 0, 0);
+        let (mut blocks, mut beyond, mut naming, mut d) = (0, 0, 0, 0);
         let mut out = vec![255; block.len()];
         for (mask, seed) in self.sets() {
             let slots = self.slots(&block, &other, mask, seed);
             let r = decode(n, t, k, &slots, &mut out);
-            let (present, differing) = self.present(mask, seed);
+            let (absent, differing) = self.absent_and_false(mask, seed);
+            let present = self.n - absent.count_ones() as usize;
             // what the code promises
             let few = mask.count_ones() as usize <= self.t;
-            if few || 2 * differing + self.t + 1 <= present {
-                assert_eq!((r, &out), (Decoded::Block, &block));
+            if few || 2 * differing.count_ones() as usize + self.t + 1 <= present {
+                assert_eq!(out, block);
+            }
+            if out == block {
+                assert_eq!(r, Decoded::Block(absent | differing));
             }
             if present <= self.t {
                 assert_eq!((r, &out), (Decoded::Beyond, &vec![0; block.len()]));
             }
-            blocks += usize::from(r == Decoded::Block);
-            beyond += usize::from(r == Decoded::Beyond);
-            d = digest(mix(d, answer(r)), &out);
+            let (number, named) = answer(r);
+            blocks += usize::from(number == 0);
+            beyond += usize::from(number == 9);
+            naming += usize::from(named != 0);
+            d = digest(mix(mix(d, number), named.into()), &out);
         }
         println!(
-            "decode {n} {t} {k} {}: {blocks} {beyond} {d:08x}",
+            "decode {n} {t} {k} {}: {blocks} {beyond} {naming} {d:08x}",
             self.manner
         );
     }
 }
 
-fn answer(r: Decoded) -> u64 {
+/// 0 a block, 9 beyond, else the number of the refusal; and the row of marks.
+fn answer(r: Decoded) -> (u64, u16) {
     match r {
-        Decoded::Block => 0,
-        Decoded::Beyond => 9,
-        Decoded::Refused(x) => u64::from(x),
+        Decoded::Block(named) => (0, named),
+        Decoded::Beyond => (9, 0),
+        Decoded::Refused(x) => (x.into(), 0),
     }
 }
 
@@ -194,9 +207,11 @@ fn try_decode(n: u64, t: u64, k: u64, end: usize, size: usize) {
     let slots = [1; 4096];
     let mut block = [170; 4096];
     let r = decode(n, t, k, &slots[..end], &mut block[..size]);
-    assert!(r == Decoded::Block || block == [170; 4096]);
+    // all pieces are true where it is taken
+    assert!(r == Decoded::Block(0) || block == [170; 4096]);
     let d = digest(digest(0, &slots), &block);
-    println!("decode {n} {t} {k} {end} {size}: {} {d:08x}", answer(r));
+    let (number, named) = answer(r);
+    println!("decode {n} {t} {k} {end} {size}: {number} {named} {d:08x}");
 }
 
 const LARGEST: u64 = u64::MAX;
@@ -288,17 +303,22 @@ const DECODES: [(u64, u64, u64, usize, usize); 35] = [
     (4, 1, 1 << 63, 4, 0),
 ];
 
-fn example_slots(name: &str, slots: &[u8]) {
-    let mut block = [255; 2];
-    let r = decode(4, 1, 1, slots, &mut block);
-    println!("{name} {} {}", answer(r), hex(&block));
+/// Slots decoded: the answer is the expected one, which is worked out by hand.
+fn example(name: &str, n: u64, t: u64, slots: &[u8], expected: Decoded, block: &[u8]) {
+    let k = slots.len() as u64 / n - 1;
+    let mut out = vec![255; block.len()];
+    let r = decode(n, t, k, slots, &mut out);
+    assert_eq!((r, &out[..]), (expected, block));
+    let (number, named) = answer(r);
+    println!("{name} {number} {named} {}", hex(&out));
 }
 
 /// The pieces of a block with n 7, t 2 and k 1 in the slots that are present; the others hold the bytes given for them.
-fn example_silent(name: &str, present: impl Fn(u64) -> bool, absent: [u8; 2]) {
+fn example_silent(name: &str, present: impl Fn(u64) -> bool, absent: [u8; 2], expected: Decoded) {
+    let block = [0x0a, 0x14, 0x1e];
     let slot = |i| {
         let mut slot = [1, 0];
-        encode(7, 2, 1, i, &[0x0a, 0x14, 0x1e], &mut slot[1..]);
+        encode(7, 2, 1, i, &block, &mut slot[1..]);
         if present(i) {
             slot
         } else {
@@ -306,9 +326,11 @@ fn example_silent(name: &str, present: impl Fn(u64) -> bool, absent: [u8; 2]) {
         }
     };
     let slots: Vec<u8> = (1..=7).flat_map(slot).collect();
-    let mut block = [255; 3];
-    let r = decode(7, 2, 1, &slots, &mut block);
-    println!("{name} {} {}", answer(r), hex(&block));
+    let left = match expected {
+        Decoded::Block(_) => block,
+        _ => [0; 3],
+    };
+    example(name, 7, 2, &slots, expected, &left);
 }
 
 fn main() {
@@ -341,11 +363,35 @@ fn main() {
         encode(4, 1, 1, number, &[0x0a, 0x14], &mut piece);
         println!("c {:02x}", piece[0]);
     }
-    example_slots("d", &[1, 0x00, 1, 0x22, 1, 0x36, 1, 0x5a]);
-    example_slots("d", &[0, 0x1e, 1, 0x22, 1, 0x36, 1, 0x5a]);
-    example_slots("e", &[1, 0x1e, 1, 0x22, 1, 0x37, 1, 0x5b]);
-    example_silent("silent", |i| ![1, 3, 6].contains(&i), [0, 0xff]);
-    for count in 0..=3 {
-        example_silent(&format!("present {count}"), |i| i <= count, [0, 0]);
+    let (first, block) = (Decoded::Block(0b0001), [0x0a, 0x14]);
+    let slots = [1, 0x00, 1, 0x22, 1, 0x36, 1, 0x5a];
+    example("d", 4, 1, &slots, first, &block);
+    let slots = [0, 0x1e, 1, 0x22, 1, 0x36, 1, 0x5a];
+    example("d", 4, 1, &slots, first, &block);
+    let slots = [1, 0x1e, 1, 0x22, 1, 0x37, 1, 0x5b];
+    example("e", 4, 1, &slots, Decoded::Beyond, &[0, 0]);
+    // zeros code to zeros, and slot 1 is absent
+    let slots = [0, 0x00, 1, 0x00, 1, 0x00, 1, 0x00];
+    example("zeros", 4, 1, &slots, first, &[0, 0]);
+    // three stripes 0a14: 4 is false in the first, 1 in the second, 2 in the third
+    let slots = [
+        [1, 0x1e, 0x00, 0x1e],
+        [1, 0x22, 0x22, 0x00],
+        [1, 0x36, 0x36, 0x36],
+        [1, 0x00, 0x5a, 0x5a],
+    ];
+    let (apart, block) = (Decoded::Block(0b1011), [0x0a, 0x14].repeat(3));
+    example("apart", 4, 1, &slots.concat(), apart, &block);
+    let silent = Decoded::Block(0b010_0101);
+    example_silent("silent", |i| ![1, 3, 6].contains(&i), [0, 0xff], silent);
+    let answers = [
+        Decoded::Beyond,
+        Decoded::Beyond,
+        Decoded::Beyond,
+        Decoded::Block(0b111_1000),
+    ];
+    for (count, expected) in (0..).zip(answers) {
+        let name = format!("present {count}");
+        example_silent(&name, |i| i <= count, [0, 0], expected);
     }
 }

@@ -1,10 +1,13 @@
 //! The expected output of the program controller_cases. The refusals are written by hand from document 01's table ('Turned down'), not
-//! computed; the runs with silent inboxes follow its rounds ('Rounds'), with what silence makes of each rule. The reference is compared
-//! with both.
+//! computed; the runs with silent inboxes follow its rounds ('Rounds'), with what silence makes of each rule; what the last calls set is written
+//! by hand from its examples. The reference is compared with all of it.
 use reference::controller::{start, step, Outcome, State};
 use reference::wire::{block_length, box_length};
 
 const MAX: usize = usize::MAX;
+
+/// The row of marks of the states that steps are given: a refused step keeps it, and no other does (document 02, U1).
+const MARKS: u16 = 0x8421;
 
 /// n, t, k, own number, sender.
 type Settings = [usize; 5];
@@ -104,6 +107,83 @@ const STEPS: [(Settings, usize, [usize; 3], u8); 41] = [
     ([4, 1, 1, 1, 1], 13, [9, 9, 9], 8),
 ];
 
+/// A last call: n, t and k, the core, the inbox, and the outcome, row of marks and block that it sets.
+struct Last {
+    settings: [usize; 3],
+    core: u16,
+    inbox: &'static [u8],
+    outcome: Outcome,
+    named: u16,
+    block: &'static [u8],
+}
+
+/// Pieces of 0a14 with n 4 and t 1, which are 1e 22 36 5a: all; example d, and with slot 1 absent; example e; all of them with a core of numbers
+/// past n only, which is none. Three stripes of it, 4 false in the first, 1 in the second, 2 in the third. Then n 7 and t 2, where 0a141e has the
+/// pieces 00 5a 50 a7 ad f7 fd: 2, 5 and 6 are silent. The four true pieces give the block (document 02, U2), but by document 01's own rule, that five
+/// places agree, an absent slot being a piece of zeros, none.
+const LASTS: [Last; 7] = [
+    Last {
+        settings: [4, 1, 1],
+        core: 15,
+        inbox: &[1, 0x1e, 1, 0x22, 1, 0x36, 1, 0x5a],
+        outcome: Outcome::Agreed,
+        named: 0,
+        block: &[0x0a, 0x14],
+    },
+    Last {
+        settings: [4, 1, 1],
+        core: 15,
+        inbox: &[1, 0x00, 1, 0x22, 1, 0x36, 1, 0x5a],
+        outcome: Outcome::Agreed,
+        named: 0b0001,
+        block: &[0x0a, 0x14],
+    },
+    Last {
+        settings: [4, 1, 1],
+        core: 15,
+        inbox: &[0, 0x1e, 1, 0x22, 1, 0x36, 1, 0x5a],
+        outcome: Outcome::Agreed,
+        named: 0b0001,
+        block: &[0x0a, 0x14],
+    },
+    Last {
+        settings: [4, 1, 1],
+        core: 15,
+        inbox: &[1, 0x1e, 1, 0x22, 1, 0x37, 1, 0x5b],
+        outcome: Outcome::Beyond,
+        named: 0,
+        block: &[0, 0],
+    },
+    Last {
+        settings: [4, 1, 1],
+        core: 0xfff0,
+        inbox: &[1, 0x1e, 1, 0x22, 1, 0x36, 1, 0x5a],
+        outcome: Outcome::None,
+        named: 0,
+        block: &[0, 0],
+    },
+    Last {
+        settings: [4, 1, 3],
+        core: 7,
+        inbox: &[
+            1, 0x1e, 0x00, 0x1e, 1, 0x22, 0x22, 0x00, 1, 0x36, 0x36, 0x36, 1, 0x00, 0x5a, 0x5a,
+        ],
+        outcome: Outcome::Agreed,
+        named: 0b1011,
+        block: &[0x0a, 0x14, 0x0a, 0x14, 0x0a, 0x14],
+    },
+    Last {
+        settings: [7, 2, 1],
+        core: 127,
+        inbox: &[
+            1, 0x00, 0, 0x00, 1, 0x50, 1, 0xa7, 0, 0x00, 0, 0x00, 1, 0xfd,
+        ],
+        outcome: Outcome::Agreed,
+        named: 0b011_0010,
+        block: &[0x0a, 0x14, 0x1e],
+    },
+];
+
 fn words(numbers: &[usize]) -> String {
     numbers.iter().map(|x| format!(" {x}")).collect()
 }
@@ -114,7 +194,7 @@ fn started([n, t, k, own, sender]: Settings, length: usize, number: u8) {
     let settings = [state.n, state.t, state.k, state.own, state.sender];
     if number == 0 {
         assert_eq!((settings, state.next), ([n, t, k, own, sender], 1));
-        assert_eq!(state.outcome, Outcome::Open);
+        assert_eq!((state.outcome, state.named), (Outcome::Open, 0));
     } else {
         assert_eq!(state, State::default());
     }
@@ -134,6 +214,7 @@ fn refused(s: Settings, next: usize, lengths: [usize; 3], number: u8) {
         matrix: [0xa5; 16],
         weak: [0x5a; 16],
         core: 3,
+        named: MARKS,
     };
     let [mut block, inbox, mut outbox] = lengths.map(|length| vec![0xa5; length]);
     let answer = step(state, &mut block, &inbox, &mut outbox);
@@ -232,12 +313,21 @@ fn sent([n, t, k, own, sender]: Settings, block: &[u8], c: usize) -> Vec<u8> {
     }
 }
 
-/// Call c of the reference with a silent inbox.
+/// The word for an outcome.
+fn word(outcome: Outcome) -> String {
+    format!("{outcome:?}").to_lowercase()
+}
+
+/// Call c of the reference with a silent inbox; the state given has marks in its row, the one that it sets has none.
 fn called(reference: &mut (State, Vec<u8>), c: usize, block: &[u8], sent: &[u8]) {
     let inbox = vec![0; reference.0.box_length(c - 1)];
     let mut outbox = vec![0xa5; sent.len()];
-    let (number, state) = step(reference.0, &mut reference.1, &inbox, &mut outbox);
-    assert_eq!((number, state.next), (0, c + 1));
+    let given = State {
+        named: MARKS,
+        ..reference.0
+    };
+    let (number, state) = step(given, &mut reference.1, &inbox, &mut outbox);
+    assert_eq!((number, state.next, state.named), (0, c + 1, 0));
     assert_eq!((&reference.1[..], &outbox[..]), (block, sent));
     reference.0 = state;
 }
@@ -261,10 +351,9 @@ fn run(s: Settings, first: &[u8]) {
         };
         assert_eq!(outbox.len(), slots(n, t, k, c));
         called(&mut reference, c, &block, &outbox);
-        let word = format!("{:?}", reference.0.outcome).to_lowercase();
-        assert_eq!(word, outcome);
+        assert_eq!(word(reference.0.outcome), outcome);
         println!(
-            "call {c}: 0 {} {outcome} {} {}",
+            "call {c}: 0 {} {outcome} 0 {} {}",
             c + 1,
             hex(&block),
             hex(&outbox)
@@ -272,10 +361,43 @@ fn run(s: Settings, first: &[u8]) {
     }
     for _ in 0..2 {
         let c = last + 1;
-        let state = reference.0;
+        let state = State {
+            named: MARKS,
+            ..reference.0
+        };
         assert_eq!(step(state, &mut reference.1, &[], &mut []), (8, state));
-        println!("call {c}: 8 {c} none {} -", hex(&vec![0; first.len()]));
+        let zeros = hex(&vec![0; first.len()]);
+        println!("call {c}: 8 {c} none {MARKS} {zeros} -");
     }
+}
+
+/// A last call of controller 1, the sender.
+fn last(last: &Last) {
+    let [n, t, k] = last.settings;
+    let c = 3 * t + 9;
+    let given = State {
+        n,
+        t,
+        k,
+        own: 1,
+        sender: 1,
+        next: c,
+        outcome: Outcome::Beyond,
+        matrix: [0xa5; 16],
+        weak: [0x5a; 16],
+        core: last.core,
+        named: MARKS,
+    };
+    let mut block = vec![0xff; last.block.len()];
+    let (number, state) = step(given, &mut block, last.inbox, &mut []);
+    assert_eq!((number, state.next), (0, c + 1));
+    assert_eq!((state.outcome, state.named), (last.outcome, last.named));
+    assert_eq!(block, last.block);
+    let settings = words(&[n, t, k, 1, 1, last.core.into()]);
+    println!("last{settings} {}", hex(last.inbox));
+    let (outcome, named) = (word(last.outcome), last.named);
+    let end = hex(last.block);
+    println!("call {c}: 0 {} {outcome} {named} {end} -", c + 1);
 }
 
 fn main() {
@@ -293,4 +415,5 @@ fn main() {
     run([4, 1, 1, 1, 1], &[10, 20]);
     run([7, 2, 2, 2, 2], &[10, 20, 30, 40, 50, 60]);
     run([7, 2, 2, 4, 2], &[10, 20, 30, 40, 50, 60]);
+    LASTS.iter().for_each(last);
 }

@@ -8,23 +8,28 @@ use std::hint::black_box;
 
 pub const N: usize = 16;
 
+/// What the marks that a call writes are set to before it.
+const NAMED_BEFORE: u16 = u16::from_le_bytes([BEFORE; 2]);
+
 /// The library's functions as `raw` has them, or those of another version.
 type Encode = fn(usize, usize, usize, usize, &[u8], &mut [u8]) -> u8;
-type Decode = fn(usize, usize, usize, &[u8], &mut [u8]) -> u8;
+type Decode = fn(usize, usize, usize, &[u8], &mut [u8], &mut u16) -> u8;
 
-/// A block, its pieces, and slots of them of which some are false; and what a call writes.
+/// A block, its pieces, slots of them of which some are false, and the marks of these; and what a call writes.
 pub struct Case {
     t: usize,
     k: usize,
     block: Vec<u8>,
     pieces: Vec<u8>,
     slots: Vec<u8>,
+    marks: u16,
     decoded: Vec<u8>,
+    named: u16,
     coded: Vec<u8>,
 }
 
 impl Case {
-    pub const LIBRARY: Side<Case> = (|case| case.decode_by(raw::decode), Case::test_decoded);
+    pub const LIBRARY: Side<Case> = (|case| case.decode_by(raw::decode), Case::test_named);
     const PEER: Side<Case> = (Case::decode_by_peer, Case::test_decoded);
     const ENCODE: Side<Case> = (|case| case.encode_by(raw::encode), Case::test_coded);
 
@@ -49,7 +54,9 @@ impl Case {
         Case {
             t,
             k,
+            marks: wrong.iter().fold(0, |marks, &i| marks | 1 << i),
             decoded: vec![BEFORE; block.len()],
+            named: NAMED_BEFORE,
             coded: vec![BEFORE; pieces.len()],
             block,
             pieces,
@@ -61,14 +68,17 @@ impl Case {
     pub fn without(mut self, absent: impl IntoIterator<Item = usize>) -> Case {
         for i in absent {
             self.slots[i * (1 + self.k)..][..1 + self.k].fill(0);
+            self.marks |= 1 << i;
         }
         self
     }
 
     pub fn decode_by(&mut self, decode: Decode) {
         self.decoded.fill(BEFORE);
+        self.named = NAMED_BEFORE;
         let slots = black_box(&self.slots);
-        let number = decode(N, self.t, self.k, slots, black_box(&mut self.decoded));
+        let (decoded, named) = black_box((&mut self.decoded, &mut self.named));
+        let number = decode(N, self.t, self.k, slots, decoded, named);
         assert_eq!(number, 0);
     }
 
@@ -81,6 +91,12 @@ impl Case {
 
     pub fn test_decoded(&self) {
         assert_eq!(self.decoded, self.block);
+    }
+
+    /// The marks too.
+    fn test_named(&self) {
+        self.test_decoded();
+        assert_eq!(self.named, self.marks);
     }
 
     pub fn encode_by(&mut self, encode: Encode) {
@@ -113,25 +129,28 @@ fn compare_answers(random: &mut Random) {
 }
 
 /// One answer; whether it is a block. It is the coded one exactly where the rule allows so many false pieces, which are false in the first
-/// stripe and in some of the others.
+/// stripe and in some of the others; then the library marks these and the absent ones.
 fn compare_answer(random: &mut Random, t: usize, present: usize, wrong: usize) -> bool {
     let slots = random.choice(N, present);
     let absent = (0..N).filter(|i| !slots.contains(i));
     let mut case = Case::new(random, t, 8, &[]).without(absent);
     for i in random.choice(present, wrong) {
         let piece = slots[i] * (1 + case.k) + 1;
+        case.marks |= 1 << slots[i];
         case.slots[piece] ^= 1 + random.below(255) as u8;
         for s in 1..case.k {
             case.slots[piece + s] ^= random.below(3) as u8;
         }
     }
     let mut by_peer = vec![!BEFORE; case.block.len()];
-    let number = raw::decode(N, t, case.k, &case.slots, &mut case.decoded);
+    let (decoded, named) = (&mut case.decoded, &mut case.named);
+    let number = raw::decode(N, t, case.k, &case.slots, decoded, named);
     let found = peer::decode(t, case.k, &case.slots, &mut by_peer);
     assert_eq!(number, if found { 0 } else { raw::BEYOND });
     assert_eq!(case.decoded, by_peer);
     let right = 2 * wrong + t + 1 <= present;
     assert_eq!(by_peer == case.block, right);
+    assert!(!right || case.named == case.marks);
     assert!(found || by_peer.iter().all(|&byte| byte == 0));
     assert!(!found || present > t);
     found
@@ -166,6 +185,7 @@ pub fn against_peer() {
     let heading =
         "1. Decoding a block, n 16, k 128, beside a peer that tries sets of t + 1 present slots in dictionary order. Microseconds.
 The false pieces are false in every byte. Each repetition has another block and, at random, other false pieces.
+The library writes the marks of the false and the silent too, the peer does not.
 The block is filled with a5 before each call, on both sides, within the time.";
     let names = "t | false pieces | library | min | max | peer | min | max | peer / library";
     print_table(heading, names, &rows);

@@ -1,5 +1,5 @@
-//! Coding and the star beside an earlier version of the library, in one run. Only with the feature `earlier`; build.rs gives the functions of
-//! that version their other names.
+//! Coding and the star beside an earlier version of the library, in one run: one before request U1 of document 02, whose decoding writes no
+//! marks. Only with the feature `earlier`; build.rs gives the functions of that version their other names.
 use crate::coding::{Case, N};
 use crate::random::Random;
 use crate::stars;
@@ -54,7 +54,8 @@ fn encode(n: usize, t: usize, k: usize, number: usize, block: &[u8], piece: &mut
     }
 }
 
-fn decode(n: usize, t: usize, k: usize, slots: &[u8], block: &mut [u8]) -> u8 {
+/// It leaves the marks as they are.
+fn decode(n: usize, t: usize, k: usize, slots: &[u8], block: &mut [u8], _: &mut u16) -> u8 {
     // SAFETY: the pointers and lengths are those of slices, of which the written one overlaps no other.
     unsafe {
         earlier_decode(
@@ -129,6 +130,7 @@ pub fn against_earlier() {
     let heading =
         "7. Coding beside an earlier version of the library, n 16, k 128. Encoding, of all 16 pieces, and decoding with t 5.
 A product is one in Horner's chain: a fourth of what a value takes longer with t 5 than with t 1.
+This version's decoding writes the marks of the false and the silent too, the earlier one's does not.
 Pieces and block are filled with a5 before each call, on both sides, within the time.";
     print_table(heading, NAMES, &rows);
 }

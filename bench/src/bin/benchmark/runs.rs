@@ -19,8 +19,8 @@ const AGREED: u8 = 1;
 trait Controller {
     fn start(own: usize, block: Vec<u8>) -> Self;
     fn step(&mut self, inbox: &[u8], outbox: &mut [u8]) -> u8;
-    /// The outcome as a number of the header, and the block.
-    fn end(&self) -> (u8, Vec<u8>);
+    /// The outcome as a number of the header, whom it names, and the block.
+    fn end(&self) -> (u8, u16, Vec<u8>);
 }
 
 struct OfLibrary {
@@ -39,10 +39,10 @@ impl Controller for OfLibrary {
         raw::step(&mut self.state, &mut self.block, inbox, outbox)
     }
 
-    fn end(&self) -> (u8, Vec<u8>) {
+    fn end(&self) -> (u8, u16, Vec<u8>) {
         let mut block = vec![0; self.block.len()];
         let outcome = raw::final_block(&self.state, &self.block, &mut block);
-        (outcome, block)
+        (outcome, raw::named(&self.state), block)
     }
 }
 
@@ -64,14 +64,14 @@ impl Controller for OfReference {
         number
     }
 
-    fn end(&self) -> (u8, Vec<u8>) {
+    fn end(&self) -> (u8, u16, Vec<u8>) {
         let outcome = match self.state.outcome {
             Outcome::Open => 0,
             Outcome::Agreed => AGREED,
             Outcome::None => 2,
             Outcome::Beyond => 3,
         };
-        (outcome, self.block.clone())
+        (outcome, self.state.named, self.block.clone())
     }
 }
 
@@ -103,8 +103,8 @@ impl System {
         (1..=N).filter(|i| !self.faulty.contains(i)).collect()
     }
 
-    /// Plays the system with controllers of one kind, of which each must end with the sender's block. Answers the nanoseconds of each
-    /// step, call by call.
+    /// Plays the system with controllers of one kind, of which each must end with the sender's block and name the faulty ones. Answers the
+    /// nanoseconds of each step, call by call.
     fn play<C: Controller>(&self) -> Vec<Vec<f64>> {
         let correct = self.correct();
         let own_block = |i: usize| match i {
@@ -131,8 +131,9 @@ impl System {
                     .collect();
             }
         }
+        let faulty = self.faulty.iter().fold(0, |marks, &i| marks | 1 << (i - 1));
         for controller in &controllers {
-            assert!(controller.end() == (AGREED, self.block.clone()));
+            assert!(controller.end() == (AGREED, faulty, self.block.clone()));
         }
         times
     }

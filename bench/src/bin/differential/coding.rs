@@ -1,4 +1,5 @@
-//! encode and decode: right and wrong settings and lengths, any numbers of absent slots and of false pieces, random slots.
+//! encode and decode, with the marks that it writes: right and wrong settings and lengths, any numbers of absent slots and of false pieces,
+//! random slots.
 use crate::compare::{wrong_length, Lent, Same, Tally};
 use crate::inputs::{self, EDGES};
 use crate::random::Random;
@@ -14,6 +15,10 @@ pub struct Counts {
     /// Blocks although in some stripe more than t values are false, and although more than t slots are absent.
     pub many_false: u64,
     pub many_absent: u64,
+    /// Blocks with marks; with more than t; and with the mark of a present slot whose first byte is true.
+    pub marked: u64,
+    pub many_marked: u64,
+    pub marked_later: u64,
     pub beyonds: u64,
     /// Beyond with at most t slots present.
     pub few_present: u64,
@@ -133,14 +138,25 @@ fn compare_decoding(
 ) -> Same<()> {
     let lent_slots = Lent::new(random, slots);
     let mut lent_block = Lent::new(random, block);
-    let answer = raw::decode(n, t, k, lent_slots.bytes(), lent_block.bytes_mut());
-    let expected = match code::decode(n as u64, t as u64, k as u64, slots, block) {
-        Decoded::Block => 0,
-        Decoded::Beyond => 255,
-        Decoded::Refused(number) => number,
+    // the marks lie between margins too
+    let before = random.word();
+    let mut marks = [before; 3];
+    let answer = raw::decode(
+        n,
+        t,
+        k,
+        lent_slots.bytes(),
+        lent_block.bytes_mut(),
+        &mut marks[1],
+    );
+    let (expected, named) = match code::decode(n as u64, t as u64, k as u64, slots, block) {
+        Decoded::Block(named) => (0, named),
+        Decoded::Beyond => (255, 0),
+        Decoded::Refused(number) => (number, before),
     };
     let mut compare = || {
         tally.same("decode's number", answer, expected)?;
+        tally.same("decode's marks", marks, [before, named, before])?;
         tally.same_lent("decode's block", &lent_block, block)?;
         tally.same_lent("decode's slots", &lent_slots, slots)
     };
@@ -160,9 +176,16 @@ fn compare_decoding(
             tally
                 .holds("2 * differing + t + 1 <= present", right)
                 .map_err(place)?;
+            let (unlike, later) = unlike_slots(&coded, slots, block);
+            tally
+                .holds("marks of the slots unlike the block's", named == unlike)
+                .map_err(place)?;
             counts.blocks += 1;
             counts.many_false += u64::from(differing > t);
             counts.many_absent += u64::from(n - present > t);
+            counts.marked += u64::from(named != 0);
+            counts.many_marked += u64::from(named.count_ones() as usize > t);
+            counts.marked_later += u64::from(later != 0);
         }
         255 => {
             counts.beyonds += 1;
@@ -183,6 +206,17 @@ fn most_differing(state: &State, slots: &[u8], block: &[u8]) -> usize {
         }
     }
     differing.into_iter().fold(0, usize::max)
+}
+
+/// The marks of the slots that are unlike those of a block's pieces, and of those among them whose first two bytes are alike.
+fn unlike_slots(state: &State, slots: &[u8], block: &[u8]) -> (u16, u16) {
+    let (mut unlike, mut later) = (0, 0);
+    for (i, slot) in slots.chunks(1 + state.k).enumerate() {
+        let right = [vec![1], inputs::piece(state, i + 1, block)].concat();
+        unlike |= u16::from(slot != right) << i;
+        later |= u16::from(slot != right && slot[..2] == right[..2]) << i;
+    }
+    (unlike, later)
 }
 
 /// The slots of pieces, all present or some absent.

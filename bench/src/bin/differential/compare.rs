@@ -208,7 +208,7 @@ pub fn step(
     })
 }
 
-/// The functions that only read a state: next_call, outcome, final_block; with the given bytes and now and then with wrong lengths.
+/// The functions that only read a state: next_call, outcome, named, final_block; with the given bytes and now and then with wrong lengths.
 pub fn queries(
     tally: &mut Tally,
     random: &mut Random,
@@ -218,9 +218,9 @@ pub fn queries(
 ) -> Same<()> {
     ask(tally, random, state, bytes, block, block.len())?;
     if random.one_in(16) {
-        let length = random.pick(&[0, 1, 114, 116, 230]);
+        let length = random.pick(&[0, 1, 115, 116, 118, 234]);
         let mut other = bytes.to_vec();
-        other.resize(length, 0);
+        other.resize(length, 0xff);
         ask(tally, random, state, &other, block, block.len())?;
     }
     if random.one_in(16) {
@@ -251,6 +251,8 @@ fn ask(
     };
     tally.same("next_call", raw::next_call(lent_state.bytes()), next)?;
     tally.same("outcome", raw::outcome(lent_state.bytes()), outcome)?;
+    let named = if right { state.named } else { 0 };
+    tally.same("named", raw::named(lent_state.bytes()), named)?;
 
     let dirty = random.bytes(final_length);
     let lent_block = Lent::new(random, block);

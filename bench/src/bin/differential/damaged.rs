@@ -15,6 +15,8 @@ pub struct Counts {
     pub numbers: [u64; 9],
     /// Steps carried out by the kind of call: calls 1 to 4, after 3p + 1, after 3p + 2, after 3p + 3, 3t + 7, 3t + 8, 3t + 9.
     pub calls: [u64; 10],
+    /// Steps on states that name somebody: calls but the last, last calls, refused ones.
+    pub naming: [u64; 3],
 }
 
 /// A state that makes a call, if the lengths are right.
@@ -42,8 +44,8 @@ fn changed(random: &mut Random, mut bytes: Vec<u8>) -> Vec<u8> {
             1 => state::NEXT,
             2 => random.below(48),
             3 => state::OUTCOME,
-            4 => random.within(113, 114),
-            _ => random.within(49, 114),
+            4 => random.within(state::CORE, state::LENGTH - 1),
+            _ => random.within(state::MATRIX, state::LENGTH - 1),
         };
         bytes[at] = match random.below(4) {
             0 => random.byte(),
@@ -79,6 +81,7 @@ fn built(random: &mut Random) -> Vec<u8> {
     let members = random.subset(n, size);
     let past = random.word() & !random.subset(n, n);
     let core = random.pick(&[members, members, members | past, past, 0, 0xffff]);
+    let named = random.pick(&[0, members, past, 0xffff]);
     let mut bytes = state::to_bytes(&State {
         n,
         t,
@@ -89,6 +92,7 @@ fn built(random: &mut Random) -> Vec<u8> {
         matrix,
         weak,
         core,
+        named,
         ..State::default()
     });
     let any = random.byte();
@@ -159,9 +163,12 @@ pub fn case(
             .map_err(|text| format!("{state:x?}, outcome {:02x}: {text}", bytes[state::OUTCOME]))?;
         counts.numbers[usize::from(after.number)] += 1;
         if after.number != 0 {
+            counts.naming[2] += u64::from(state.named != 0);
             break;
         }
-        counts.calls[wire::call_row(state.t as u128, state.next as u128) - 1] += 1;
+        let row = wire::call_row(state.t as u128, state.next as u128);
+        counts.calls[row - 1] += 1;
+        counts.naming[usize::from(row == 10)] += u64::from(state.named != 0);
         bytes = after.bytes;
         block = Some(after.block);
     }

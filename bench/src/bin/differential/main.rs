@@ -90,7 +90,8 @@ fn main() -> ExitCode {
     });
     run.line(format!(
         "systems: {}, of them {} with at most t faulty controllers and {} of these with a correct sender; runs of correct controllers: {}, \
-         agreed {}, none {}, beyond {}; calls {}, outside a core {}; refused steps {}",
+         agreed {}, none {}, beyond {}; calls {}, outside a core {}; refused steps {}; with at most t faulty, runs that name somebody {}, systems \
+         in which not all name the same {}; with more than t, runs that name a correct controller {}",
         systems.systems,
         systems.within_t,
         systems.correct_sender,
@@ -100,7 +101,10 @@ fn main() -> ExitCode {
         systems.beyond,
         systems.calls,
         systems.outside,
-        systems.refused
+        systems.refused,
+        systems.naming,
+        systems.naming_apart,
+        systems.naming_correct
     ));
 
     let mut damaged = damaged::Counts::default();
@@ -108,13 +112,17 @@ fn main() -> ExitCode {
         damaged::case(tally, random, &systems.snapshots, &mut damaged)
     });
     run.line(format!(
-        "damaged states: {}; steps carried out {}, by kind of call {:?}; refused 6: {}, 7: {}, 8: {}",
+        "damaged states: {}; steps carried out {}, by kind of call {:?}; refused 6: {}, 7: {}, 8: {}; on states that name somebody: calls but \
+         the last {}, last calls {}, refused {}",
         damaged.states,
         damaged.numbers[0],
         damaged.calls,
         damaged.numbers[6],
         damaged.numbers[7],
-        damaged.numbers[8]
+        damaged.numbers[8],
+        damaged.naming[0],
+        damaged.naming[1],
+        damaged.naming[2]
     ));
 
     let mut starts = starts::Counts::default();
@@ -144,11 +152,14 @@ fn main() -> ExitCode {
         coding::decode_count(tally, random, every_count[number as usize - 1], &mut coding)
     });
     run.line(format!(
-        "decode: {} blocks, of them {} with more than t false pieces and {} with more than t absent; {} beyond, of them {} with at most t \
-         present; {} refused",
+        "decode: {} blocks, of them {} with more than t false pieces and {} with more than t absent, {} with marks, {} with more than t, {} with \
+         that of a slot whose first byte is true; {} beyond, of them {} with at most t present; {} refused",
         coding.blocks,
         coding.many_false,
         coding.many_absent,
+        coding.marked,
+        coding.many_marked,
+        coding.marked_later,
         coding.beyonds,
         coding.few_present,
         coding.decode_refused

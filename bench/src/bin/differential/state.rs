@@ -1,9 +1,9 @@
 //! The bytes of a state, written and read here from and to the reference's state: n, t, k, own, sender and next as numbers, the outcome,
-//! matrix and weak of 16 rows each, and the core; all little endian.
+//! matrix and weak of 16 rows each, the core, and who is named; all little endian.
 use reference::controller::{Outcome, State};
 
 /// How many bytes each field takes.
-const WIDTHS: [usize; 10] = [8, 8, 8, 8, 8, 8, 1, 32, 32, 2];
+const WIDTHS: [usize; 11] = [8, 8, 8, 8, 8, 8, 1, 32, 32, 2, 2];
 
 /// Where field `i` starts.
 const fn offset(i: usize) -> usize {
@@ -17,6 +17,9 @@ const fn offset(i: usize) -> usize {
 pub const LENGTH: usize = offset(WIDTHS.len());
 pub const NEXT: usize = offset(5);
 pub const OUTCOME: usize = offset(6);
+pub const MATRIX: usize = offset(7);
+pub const CORE: usize = offset(9);
+pub const NAMED: usize = offset(10);
 
 pub fn outcome_number(outcome: Outcome) -> u8 {
     match outcome {
@@ -45,6 +48,7 @@ pub fn to_bytes(state: &State) -> Vec<u8> {
         bytes.extend(row.to_le_bytes());
     }
     bytes.extend(state.core.to_le_bytes());
+    bytes.extend(state.named.to_le_bytes());
     assert_eq!(bytes.len(), LENGTH);
     bytes
 }
@@ -69,8 +73,9 @@ pub fn from_bytes(bytes: &[u8]) -> State {
             3 => Outcome::Beyond,
             _ => Outcome::Open,
         },
-        matrix: std::array::from_fn(|i| row(offset(7) + 2 * i)),
+        matrix: std::array::from_fn(|i| row(MATRIX + 2 * i)),
         weak: std::array::from_fn(|i| row(offset(8) + 2 * i)),
-        core: row(offset(9)),
+        core: row(CORE),
+        named: row(NAMED),
     }
 }

@@ -4,6 +4,7 @@ use crate::faulty::{self, Behaviour};
 use crate::random::Random;
 use crate::state;
 use crate::system::{Controller, System};
+use potekawhi::raw;
 use reference::controller::Outcome;
 
 /// A state before a call, with what it is lent.
@@ -28,6 +29,11 @@ pub struct Counts {
     pub beyond: u64,
     /// Calls 3t + 8 of controllers outside a core.
     pub outside: u64,
+    /// Within t: runs of correct controllers that name somebody, and systems in which they do not all name the same.
+    pub naming: u64,
+    pub naming_apart: u64,
+    /// Beyond t: runs of correct controllers that name a correct one.
+    pub naming_correct: u64,
     pub snapshots: Vec<Snapshot>,
 }
 
@@ -230,7 +236,8 @@ impl Run {
         Ok(())
     }
 
-    /// With at most t faulty controllers all correct ones end with one outcome and one block, with a correct sender the sender's.
+    /// With at most t faulty controllers all correct ones end with one outcome and one block, with a correct sender the sender's; and the marks in
+    /// the library's states are of faulty ones only.
     fn agreement(&self, tally: &mut Tally, counts: &mut Counts) -> Same<()> {
         let correct: Vec<&Controller> = (1..=self.system.n)
             .filter(|&i| !self.system.is_faulty(i))
@@ -245,10 +252,17 @@ impl Run {
                 Outcome::Open => return Err("a run that ended has outcome open".into()),
             }
         }
+        let named: Vec<u16> = correct.iter().map(|c| raw::named(&c.bytes)).collect();
+        let names_correct = |&&row: &&u16| row & !self.system.faulty != 0;
+        let naming_correct = named.iter().filter(names_correct).count();
         if self.system.faulty.count_ones() as usize > self.system.t {
+            counts.naming_correct += naming_correct as u64;
             return Ok(());
         }
         counts.within_t += 1;
+        tally.holds("no correct controller is named", naming_correct == 0)?;
+        counts.naming += named.iter().filter(|&&row| row != 0).count() as u64;
+        counts.naming_apart += u64::from(named.iter().any(|&row| row != named[0]));
         let first = correct[0];
         for other in &correct[1..] {
             let same = (first.state.outcome, &first.block) == (other.state.outcome, &other.block);

@@ -158,21 +158,16 @@ pub const BENT: &[(&str, &str, &[Turn])] = &[
     ("system_file", "bitset", &[X(4, 20.0), Below(2, 15.0), X(2, SECOND)]),
     ("reed_solomon", "wire", &[X(0, SECOND), Below(4, 15.0), X(1, STRAIGHT)]),
     (
+        "reed_solomon",
+        "bitset",
+        &[X(0, 112.0), Below(4, 20.0), X(1, GAP_RIGHT), Below(2, 20.0), X(2, 60.0)],
+    ),
+    (
         "star",
         "settings",
         &[X(3, 20.0), Below(4, 15.0), X(1, GAP_LEFT), Below(2, 15.0), X(1, SECOND)],
     ),
     ("reconstruction", "reed_solomon", &[X(1, 20.0), Below(5, 10.0), X(0, SECOND)]),
-    (
-        "dispersal",
-        "bitset",
-        &[X(0, 112.0), Below(5, 17.0), X(1, GAP_RIGHT), Below(2, 20.0), X(2, 60.0)],
-    ),
-    (
-        "reconstruction",
-        "bitset",
-        &[X(1, STRAIGHT), Below(5, 17.0), X(1, GAP_RIGHT), Below(2, 20.0), X(2, 60.0)],
-    ),
     ("boards", "controller", &[X(1, SECOND), Below(8, 15.0), X(2, 100.0)]),
     ("simulator", "controller", &[X(3, 20.0), Below(8, 15.0), X(2, SECOND)]),
     (
