@@ -4,8 +4,8 @@
  * x86-64, and calls nothing but memcpy, memmove and memset.
  *
  * Bytes. A `const uint8_t *` is lent for reading and a `uint8_t *` for reading and writing, for the time of the call, with its length in
- * the argument behind it. The caller owns all memory; the library allocates none, keeps no pointer and has no state of its own, so
- * calls on different buffers may run at the same time. The caller sees to it that
+ * the argument behind it; a `size_t *` or `uint16_t *` is lent for one number. The caller owns all memory; the library allocates none, keeps
+ * no pointer and has no state of its own, so calls on different buffers may run at the same time. The caller sees to it that
  *   - each pointer is valid for its length and not NULL (also where the length is 0: any valid pointer will do there), and
  *   - a buffer that is written overlaps no other buffer of the same call.
  *
@@ -98,9 +98,10 @@ uint8_t potekawhi_final_block(const uint8_t *state, size_t state_length, const u
 
 /* Whom the controller names: the marks of those whose piece in the last round was absent or differed, in any byte, from their piece of the final
  * block. Empty while the run is open, and where the outcome is POTEKAWHI_OUTCOME_NONE or POTEKAWHI_OUTCOME_BEYOND: start and every call set it
- * anew, and a step that is refused leaves it as it was. With at most t faulty controllers no correct one names a correct one. The marks of
- * correct controllers may differ, since a faulty one may send its true piece to some of them; and a faulty one that sent its true piece is
- * not named. In a damaged state whatever stands there. 0 if `state` has another length than POTEKAWHI_STATE_LENGTH. */
+ * anew, and a step that is refused leaves it as it was. With at most t faulty controllers no correct one names a correct one, so that whoever
+ * is named by t + 1 is faulty. The marks of correct controllers may differ, since a faulty one may send its true piece to some of them; and a
+ * faulty one that sent its true piece is not named. In a damaged state whatever stands there. 0 if `state` has another length than
+ * POTEKAWHI_STATE_LENGTH. */
 uint16_t potekawhi_named(const uint8_t *state, size_t state_length);
 
 /* The message in slot `j` of an inbox of messages of `length` bytes: answers its length and writes to `*offset` where in the inbox it

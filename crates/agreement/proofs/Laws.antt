@@ -19,7 +19,7 @@
 --   Demand 3
 --     agreement, one-plan       the theorem, and its corollary
 --   Beside demand 3
---     named-by-last             whom a correct controller names; no-correct-named: no correct one
+--     named-by-last             whom a correct controller names; no-correct-named: no correct one; named-by-many: whoever t + 1 name is not correct
 pub use Rattle.agreement.proofs.Run.{stepNumber, carried-out-yes, carried-out-no, chain, refused-away, At, step-at, valid-at, finished-step}
 pub use Rattle.agreement.proofs.System.{valid, coded, numbered, length-block, call-at, call-first, call-next, call-last, delivered}
 pub use Rattle.agreement.proofs.Blocks.{heldBlock, is-block, sender-block}
@@ -27,4 +27,4 @@ pub use Rattle.agreement.proofs.Votes.{one-matrix, row-is-marks}
 pub use Rattle.agreement.proofs.Cores.{one-core, enough-correct, one-block}
 pub use Rattle.agreement.proofs.Pieces.{piece-sent}
 pub use Rattle.agreement.proofs.Verdict.{sender-in-core}
-pub use Rattle.agreement.proofs.Agreement.{agreement, one-plan, named-by-last, no-correct-named}
+pub use Rattle.agreement.proofs.Agreement.{agreement, one-plan, named-by-last, no-correct-named, named-by-many}

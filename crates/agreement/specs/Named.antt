@@ -5,9 +5,11 @@
 --                        block at the end; with any other outcome there are none
 --   NamedByLast          that holds of every correct controller
 --   NoCorrectNamed       no correct controller names a correct one
+--   NamedByMany          so whoever is named by t + 1 is not correct, whatever marks those show who are not correct themselves
 use mathlib.Core.Path.{_≡_}
 use mathlib.Core.Bool.{false}
-use Prim.Native.Nat.{ℕ, _-_}
+use Prim.Native.Nat.{ℕ, _+_, _-_, _≤_}
+use Rattle.lists.specs.Sum.{count}
 use Rattle.bitset.specs.Set.{member}
 use Rattle.reed_solomon.specs.Decode.{namedOf}
 use Rattle.reconstruction.specs.declared.Outcome.the-variants.{Agreed}
@@ -25,3 +27,8 @@ NamedByLast = (S : System) → Supposed S → (i : ℕ) → Correct S i → Name
 
 abbrev pub NoCorrectNamed : Type 0
 NoCorrectNamed = (S : System) → Supposed S → (i j : ℕ) → Correct S i → Correct S j → member (namedBy S i) (j - 1) ≡ false
+
+abbrev pub NamedByMany : Type 0
+NamedByMany =
+    (S : System) → Supposed S → (shown : ℕ → ℕ) → ((i : ℕ) → Correct S i → shown i ≡ namedBy S i)
+    → (j : ℕ) → S .settings .t + 1 ≤ count (S .settings .n) (λ x. member (shown (x + 1)) (j - 1)) → Correct S j → ⊥

@@ -13,7 +13,7 @@ use Rattle.protocol.specs.Step.{startOf}
 use Rattle.protocol.proofs.Laws.{step-refused, step-number}
 use Rattle.agreement.specs.Run.{Lent, Local, stepped, left, leftAfter, begun}
 use Rattle.agreement.specs.Agreement.{System, Correct, Supposed, atStart, atEnd, last, lastInbox}
-use Rattle.agreement.proofs.Laws.{At, coded, length-block, call-at, call-last, agreement, named-by-last, no-correct-named}
+use Rattle.agreement.proofs.Laws.{At, coded, length-block, call-at, call-last, agreement, named-by-last, no-correct-named, named-by-many}
 use Rattle.state_bytes.specs.State.{stateLength, stateBytes, Words}
 use Rattle.bitset.specs.Set.{member}
 use Rattle.reed_solomon.specs.Decode.{namedOf}
@@ -173,4 +173,5 @@ library-names S supposed buffers sizes =
           ∙ ap (namedOf (S .settings .n) (S .settings .t) (S .settings .k) (lastInbox S i)) (sym (block-at S supposed buffers sizes i c));
       other = λ i c n. named i c ∙ named-by-last S supposed i c .other (λ e. n (outcome i c ∙ ap outcomeNumber e));
       no-correct = λ i j c d. ap (λ (m : ℕ). member m (j - 1)) (named i c) ∙ no-correct-named S supposed i j c d;
+      by-many = λ shown marks. named-by-many S supposed shown (λ i c. marks i c ∙ named i c);
     }

@@ -14,13 +14,15 @@
 --                            outcome agreed, 1, and the sender's block
 --   LibraryAgrees            that holds of every system that `agreement` supposes, run through the library
 --   NamedRight S buffers     document 02, U1: with the outcome agreed a correct controller names those whose piece in the last round was absent, or was
---                            not, byte for byte, their piece of its block; with any other outcome nobody; and no correct controller in any case
+--                            not, byte for byte, their piece of its block; with any other outcome nobody; and no correct controller in any case. So
+--                            whoever is named by t + 1 is not correct, whatever marks those show who are not correct themselves
 --   LibraryNames             that holds of every such system
 use mathlib.Core.Path.{_≡_}
 use mathlib.Core.Bool.{false}
 use mathlib.Core.List.{List, [], _∷_}
-use Prim.Native.Nat.{ℕ, _-_}
+use Prim.Native.Nat.{ℕ, _+_, _-_, _≤_}
 use lib.ListN.{length, replicate}
+use Rattle.lists.specs.Sum.{count}
 use Rattle.settings.specs.declared.Settings.{Settings}
 use Rattle.bitset.specs.Set.{member, restricted}
 use Rattle.reed_solomon.specs.Decode.{Decodes, namedOf}
@@ -91,6 +93,8 @@ pub record NamedRight (S : System) (buffers : ℕ → List ℕ) : Type 0 where
       → namedIn (keptAt S buffers i .state) ≡ namedOf (S .settings .n) (S .settings .t) (S .settings .k) (lastInbox S i) (keptAt S buffers i .block)
   pub other : (i : ℕ) → Correct S i → (outcomeIn (keptAt S buffers i .state) ≡ outcomeNumber Agreed → ⊥) → namedIn (keptAt S buffers i .state) ≡ 0
   pub no-correct : (i j : ℕ) → Correct S i → Correct S j → member (namedIn (keptAt S buffers i .state)) (j - 1) ≡ false
+  pub by-many : (shown : ℕ → ℕ) → ((i : ℕ) → Correct S i → shown i ≡ namedIn (keptAt S buffers i .state))
+      → (j : ℕ) → S .settings .t + 1 ≤ count (S .settings .n) (λ x. member (shown (x + 1)) (j - 1)) → Correct S j → ⊥
 
 abbrev pub LibraryNames : Type 0
 LibraryNames = (S : System) → Supposed S → (buffers : ℕ → List ℕ) → ((i : ℕ) → length (buffers i) ≡ stateLength) → NamedRight S buffers

@@ -9,7 +9,8 @@ ghost use lib.Dec.{eqb};
 ghost use lib.ListN.{length};
 ghost use Rattle.settings.specs.Valid.{Coded};
 ghost use Rattle.wire.specs.Length.{blockLength};
-ghost use Rattle.reed_solomon.specs.Encode.{pieceOf, encodeFits, encoded, encodeOf, isReady};
+ghost use Rattle.polynomial.specs.Polynomial.{evaluate};
+ghost use Rattle.reed_solomon.specs.Encode.{stripe, pieceOf, encodeFits, encoded, encodeOf, isReady};
 ghost use Rattle.reed_solomon.specs.Decode.{hasPiece, received, decodeFits, decodeRefusal, Answers};
 ghost use Rattle.reed_solomon.specs.Steps.{points, column, differences, isRight, Pointed, Tried, Found, Listed};
 
@@ -225,6 +226,16 @@ pub fn decode(n: usize, t: usize, k: usize, slots: &[u8], block: &mut [u8]) -> D
     rebuild(n, t, k, slots, block)
 }
 
+// The value at x of stripe s of a block.
+pub(crate) fn stripe_value(t: usize, block: &[u8], s: usize, x: u8) -> u8
+    requires { ⌜ (t ≤ 5) × (s * (t + 1) + (t + 1) ≤ length (now block)) ⌝ }
+    ensures { λ r. ⌜ r ≡ evaluate (stripe t (now (block .entry)) s) x ⌝ }
+{
+    let a = s * (t + 1);
+    let e = a + (t + 1);
+    interpolation::evaluate(&block[a..e], x)
+}
+
 // The values at x of the stripes of a block, into `piece`.
 fn encode_piece(t: usize, block: &[u8], x: u8, piece: &mut [u8])
     requires { ⌜ (t ≤ 5) × (length (now piece) ≤ 128) × (length (now block) ≡ length (now piece) * (t + 1)) ⌝ }
@@ -232,9 +243,7 @@ fn encode_piece(t: usize, block: &[u8], x: u8, piece: &mut [u8])
 {
     let mut s: usize = 0;
     while s < piece.len() {
-        let a = s * (t + 1);
-        let e = a + (t + 1);
-        piece[s] = interpolation::evaluate(&block[a..e], x);
+        piece[s] = stripe_value(t, block, s, x);
         s += 1;
     }
 }

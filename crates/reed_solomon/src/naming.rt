@@ -6,6 +6,7 @@ ghost use Rattle.lists.specs.Same.{same};
 ghost use Rattle.settings.specs.Valid.{Coded};
 ghost use Rattle.reed_solomon.specs.Encode.{pieceOf};
 ghost use Rattle.reed_solomon.specs.Decode.{isNamed, namedOf};
+use crate::stripe_value;
 
 // Whether m is, byte for byte, the piece at x of a block of as many stripes as m has bytes.
 fn is_piece(t: usize, block: &[u8], x: u8, m: &[u8]) -> bool
@@ -14,9 +15,7 @@ fn is_piece(t: usize, block: &[u8], x: u8, m: &[u8]) -> bool
 {
     let mut s: usize = 0;
     while s < m.len() {
-        let a = s * (t + 1);
-        let e = a + (t + 1);
-        if m[s] != interpolation::evaluate(&block[a..e], x) {
+        if m[s] != stripe_value(t, block, s, x) {
             return false;
         }
         s += 1;

@@ -4,10 +4,10 @@ use Rattle.polynomial.specs.Polynomial.{evaluate}
 use Rattle.lists.proofs.Parts.{slot-within}
 use Rattle.lists.proofs.Fills.{filled-none, fill-more, fill-end}
 use Rattle.lists.specs.Fill.{filled}
-use lib.ListN.{length, take, drop, length-set}
+use lib.ListN.{length, length-set}
 use native.Mathlib.Omega.{arith}
-use Prim.Native.Nat.{_+_, _-_, _*_, _≤_}
-use mathlib.Core.Path.{_≡_, refl, sym, ap, _∙_}
+use Prim.Native.Nat.{_+_, _-_, _≤_}
+use mathlib.Core.Path.{_≡_, refl, sym, _∙_}
 use borrow.Author.Needs.{needs}
 use Rattle.reed_solomon.proofs.encode_piece.Statement.{statement}
 use Rattle.reed_solomon.proofs.encode_piece.Tie as tie
@@ -21,47 +21,12 @@ abbrev μ-loop : tie.MeasureT-loop
 loop-holds : tie.Need-loop-holds Inv-loop μ-loop
 loop-holds c = (omega arith, refl, sym (filled-none _ _))
 
-add-a : tie.Need-add-a Inv-loop μ-loop
-add-a c = search needs
-
-mul-a : tie.Need-mul-a Inv-loop μ-loop
-mul-a c =
-    omega (
-      arith,
-      slot-within (length (c .before .before .before .before .args .piece .now)) (c .before .before .before .before .args .t + 1)
-          (c .before .loop .s) (omega arith),
-      c .before .before .before .before .pre .2,
-    )
-
-add-e : tie.Need-add-e Inv-loop μ-loop
-add-e c = search needs
-
-add-e-2 : tie.Need-add-e-2 Inv-loop μ-loop
-add-e-2 c =
-    omega (
-      arith,
-      slot-within (length (c .before .before .before .before .args .piece .now)) (c .before .before .before .before .args .t + 1)
-          (c .before .loop .s) (omega arith),
-      c .before .before .before .before .pre .2,
-    )
-
-sub-evaluate : tie.Need-sub-evaluate Inv-loop μ-loop
-sub-evaluate c = search needs
-
-part-evaluate-start : tie.Need-part-evaluate-start Inv-loop μ-loop
-part-evaluate-start c = search needs
-
-part-evaluate-end : tie.Need-part-evaluate-end Inv-loop μ-loop
-part-evaluate-end c =
-    omega (
-      arith,
-      slot-within (length (c .before .before .before .before .args .piece .now)) (c .before .before .before .before .args .t + 1)
-          (c .before .loop .s) (omega arith),
-      c .before .before .before .before .pre .2,
-    )
-
-evaluate-requires : tie.Need-evaluate-requires Inv-loop μ-loop
-evaluate-requires c κs = search needs
+stripe-value-requires : tie.Need-stripe-value-requires Inv-loop μ-loop
+stripe-value-requires c κs =
+    let L = c .before in
+    let S = L .before .before .before in
+    let a = S .args in
+    (S .pre .0, omega (arith, slot-within (length (a .piece .now)) (a .t + 1) (L .loop .s) (omega arith), S .pre .2))
 
 slice-write-piece : tie.Need-slice-write-piece Inv-loop μ-loop
 slice-write-piece c = search needs
@@ -73,16 +38,14 @@ loop-less : tie.Need-loop-less Inv-loop μ-loop
 loop-less c = omega arith
 
 loop-again : tie.Need-loop-again Inv-loop μ-loop
-unfolding stripe
 loop-again c =
-    let a = c .before .before .before .before .before .before .args in
-    let l = c .before .before .before .loop in
-    let from = l .s * (a .t + 1) in
-    let e : from + (a .t + 1) - from ≡ a .t + 1 = omega arith in (
+    let L = c .before .before in
+    let a = L .before .before .before .args in
+    let l = L .loop in (
       omega arith,
-      length-set (l .piece) (l .s) (c .evaluate .result) ∙ l .inv .1,
-      fill-more (λ j. evaluate (stripe (a .t) (a .block .now) j) (a .x)) (l .s) (a .piece .now) (l .piece) (c .evaluate .result) (omega arith) (l .inv .2)
-          (c .evaluate .ensures ∙ ap (λ n. evaluate (take n (drop from (a .block .now))) (a .x)) e),
+      length-set (l .piece) (l .s) (c .stripe-value .result) ∙ l .inv .1,
+      fill-more (λ j. evaluate (stripe (a .t) (a .block .now) j) (a .x)) (l .s) (a .piece .now) (l .piece) (c .stripe-value .result) (omega arith) (l .inv .2)
+          (c .stripe-value .ensures),
     )
 
 same-length : tie.Need-same-length Inv-loop μ-loop
@@ -102,14 +65,7 @@ encode-piece-spec =
     Inv-loop
     μ-loop
     loop-holds
-    add-a
-    mul-a
-    add-e
-    add-e-2
-    sub-evaluate
-    part-evaluate-start
-    part-evaluate-end
-    evaluate-requires
+    stripe-value-requires
     slice-write-piece
     add-s
     loop-less
