@@ -97,7 +97,8 @@ module _ (S : System) (H : Supposed S) where
         ∙ (λ x. finished (a .settings-is x .n) (a .settings-is x .t) (a .settings-is x .k) (m .before .state .core) (m .lent .inbox) (m .before .block) .block)
 
     -- no core
-    none : restricted (lastCore S i) (S .settings .n) ≡ 0 → (ended ≡ ending None 0) × (blockOf S i ≡ replicate (blockLength (S .settings .k) (S .settings .t)) 0)
+    none : restricted (lastCore S i) (S .settings .n) ≡ 0
+        → (ended ≡ ending None 0) × (blockOf S i ≡ replicate (blockLength (S .settings .k) (S .settings .t)) 0)
     unfolding final
     none z =
         let e = finished-none (S .settings .n) (S .settings .t) (S .settings .k) (lastCore S i) (lastInbox S i) (call S i (last S) .before .block) z in (

@@ -1,6 +1,6 @@
 -- Step 7. One core for all: with none all say none and zeros; else its correct members hold one block, and all end with agreed and that block;
--- either way they name no correct controller (`verdict`). If the sender is correct, the correct controllers are a clique of at least n - t, so that the core holds them all
--- (`sender-in-core`) and the block is the sender's (`sender-verdict`).
+-- either way they name no correct controller (`verdict`). If the sender is correct, the correct controllers are a clique of at least n - t, so that the
+-- core holds them all (`sender-in-core`) and the block is the sender's (`sender-verdict`).
 use mathlib.Core.Path.{_≡_, sym, ap, ap₂, subst, _∙_}
 use mathlib.Core.Bool.{true, false, _&&_}
 use mathlib.Core.List.{List}

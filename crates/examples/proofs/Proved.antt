@@ -39,8 +39,9 @@ bytes-d (suc zero) = lit< tt
 bytes-d (suc (suc i)) = lit< tt
 
 example-d : decodes 0x00 0x22 0x36 0x5a (Block 1) (0x0a ∷ 0x14 ∷ [])
-unfolding sum count tabulate filled same setOf gadd gmul gpow polyMul reduce outside tooMany broken refusalOf encodingRefusal decodingRefusal starRefusal blockLength width slotOf part
-    holds isPresent messageOf gsum evaluate stripe pieceOf hasPiece received presentCount differing isNamed namedOf meets decodeRefusal
+unfolding sum count tabulate filled same setOf gadd gmul gpow polyMul reduce outside tooMany broken refusalOf encodingRefusal decodingRefusal starRefusal
+    blockLength width slotOf part holds isPresent messageOf gsum evaluate stripe pieceOf hasPiece received presentCount differing isNamed namedOf meets
+    decodeRefusal
 example-d = (refl, meets-decodes 4 1 1 (fourPieces 0x00 0x22 0x36 0x5a) (0x0a ∷ 0x14 ∷ []) refl bytes-d refl, refl)
 
 -- example e: too many of the pieces differ from the code of the candidate for the stripe, so no block meets the rule

@@ -1,5 +1,5 @@
--- The state of a controller (document 01, 'The house'; document 02, U1). It is written out in two places: `initial`, from which the zero and the fresh state are
--- made, and `changed`, by which each group of fields is changed.
+-- The state of a controller (document 01, 'The house'; document 02, U1). It is written out in two places: `initial`, from which the zero and the
+-- fresh state are made, and `changed`, by which each group of fields is changed.
 --   initial s own next  the outcome open, and no matrix, weak bits or core, and nobody named
 --   zeroState           all zero, and the outcome open
 --   freshState s own    what start returns when carried out

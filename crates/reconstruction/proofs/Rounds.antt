@@ -196,7 +196,8 @@ ruled n t k core inbox b z e =
 
 pub finished-agreed : FinishedAgreed
 finished-agreed n t k core inbox b z e B d =
-    ruled n t k core inbox b z e ∙ ap (finishedBy n t k inbox (length b)) (rebuilt-block n t k inbox (omega (arith, decode-0 n t k inbox b e .0 .quorum .n-most)) B d)
+    ruled n t k core inbox b z e
+    ∙ ap (finishedBy n t k inbox (length b)) (rebuilt-block n t k inbox (omega (arith, decode-0 n t k inbox b e .0 .quorum .n-most)) B d)
 
 pub finished-beyond : FinishedBeyond
 finished-beyond n t k core inbox b z e d = ruled n t k core inbox b z e ∙ ap (finishedBy n t k inbox (length b)) (rebuilt-none n t k inbox d)

@@ -197,8 +197,8 @@ module _ (i : ℕ) (f : Correct two-faced i) (marks : ℕ) (said : namedOf 4 1 1
 pub two-faced-named : (namedBy two-faced 1 ≡ 8) × ((namedBy two-faced 2 ≡ 0) × (namedBy two-faced 3 ≡ 8))
 unfolding two-faced stepsOf from4-1 from4-2 from4-3 lents tabulate filled sum same gadd gmul gpow polyMul reduce setOf outside tooMany broken refusalOf
     stateRefusal lengthsRefusal starRefusal encodingRefusal blockLength rowLength inSettings kindLength boxLength inboxLength outboxLength roundKind
-    callKind width slotOf part holds isPresent messageOf copied receivedBlock gsum evaluate stripe pieceOf callOf startRefusal startOf lengthsFit stepRefusal stepOf
-    isNamed namedOf
+    callKind width slotOf part holds isPresent messageOf copied receivedBlock gsum evaluate stripe pieceOf isNamed namedOf callOf startRefusal startOf
+    lengthsFit stepRefusal stepOf
 two-faced-named = (
   names 1 (record { least = lit≤ tt; most = lit≤ tt; is = refl }) 8 refl,
   (

@@ -37,7 +37,8 @@ returns c =
     let a = L .before .before .before .args in
     let k = length (a .m .now) in
     let byte = getD-piece k (a .t) (a .block .now) (a .x) (L .loop .s) (omega arith) in
-    sym (same-differ (a .m .now) (pieceOf k (a .t) (a .block .now) (a .x)) (L .loop .s) (λ e. c .if1 .taken (e ∙ byte ∙ sym (c .before .stripe-value .ensures))))
+    sym (same-differ (a .m .now) (pieceOf k (a .t) (a .block .now) (a .x)) (L .loop .s)
+    (λ e. c .if1 .taken (e ∙ byte ∙ sym (c .before .stripe-value .ensures))))
 
 add-s : tie.Need-add-s Inv-loop μ-loop
 add-s c = search needs
