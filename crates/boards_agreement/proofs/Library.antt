@@ -8,7 +8,6 @@ use lib.ListN.{length}
 use Rattle.settings.specs.declared.Settings.{Settings}
 use Rattle.wire.specs.Length.{blockSize}
 use Rattle.wire.proofs.Laws.{block-size-is}
-use Rattle.protocol.specs.declared.State.{State}
 use Rattle.protocol.specs.Step.{startOf}
 use Rattle.protocol.proofs.Laws.{step-refused, step-number}
 use Rattle.agreement.specs.Run.{Lent, Local, stepped, left, leftAfter, begun}

@@ -1,15 +1,13 @@
 -- What decoding gives of all blocks, and whom it names: `three-silent` and `seven-false`, by the law `pieces-decode`.
 use mathlib.Core.Path.{_≡_, refl, sym, ap, _∙_}
 use mathlib.Core.Bool.{Bool, true, false, not, cond}
-use mathlib.Core.List.{List, []}
+use mathlib.Core.List.{List}
 use mathlib.Core.Logic.{⊎-elim}
-use Prim.Native.Nat.{ℕ, _+_, _*_, _≤_, _<_}
+use Prim.Native.Nat.{ℕ, _+_, _≤_, _<_}
 use native.Mathlib.Omega.{arith}
-use lib.Dec.{eqb}
 use lib.ListN.{length}
 use borrow.Author.Tests.{eq-eqb}
 use Rattle.lists.specs.Same.{same}
-use Rattle.lists.specs.Sum.{count}
 use Rattle.lists.proofs.Tests.{true≢false, fails, either}
 use Rattle.lists.proofs.Sums.{count-not, count-mono}
 use Rattle.lists.proofs.Sames.{same-eq}

@@ -6,16 +6,14 @@ use Prim.Native.Nat.{ℕ, _+_, _^_, _≤_, _<_}
 use native.Mathlib.Omega.{arith}
 use borrow.Author.Tests.{eqb-true, eqb-false}
 use lib.Dec.{eqb}
-use lib.ListN.{length, getD}
-use Rattle.lists.specs.Same.{same}
+use lib.ListN.{length}
 use Rattle.lists.proofs.Sames.{eq-same, no-same, same-all, same-differ}
 use Rattle.lists.proofs.Tests.{not-not}
 use Rattle.bitset.specs.Set.{member}
 use Rattle.bitset.proofs.Laws.{member-set, set-lt-16}
 use Rattle.wire.specs.Slot.{layoutWith, messageOf}
 use Rattle.wire.proofs.Laws.{length-message}
-use Rattle.polynomial.specs.Polynomial.{evaluate}
-use Rattle.reed_solomon.specs.Encode.{stripe, pieceOf}
+use Rattle.reed_solomon.specs.Encode.{pieceOf}
 use Rattle.reed_solomon.specs.Decode.{hasPiece, received, isNamed, namedOf, NamedAbsent, NamedDiffers, NotNamed}
 use Rattle.reed_solomon.proofs.Rule.{length-piece, getD-piece}
 

@@ -9,7 +9,7 @@ use Prim.Native.Nat.{ℕ, _+_, _*_, _≤_, _<_}
 use native.Mathlib.Omega.{arith}
 use borrow.Author.Tests.{eq-eqb, ne-eqb, eqb-true, eqb-false, le-leb, leb-true}
 use lib.Dec.{eqb, leb, lit<}
-use lib.ListN.{length, getD, replicate}
+use lib.ListN.{length, getD}
 use Rattle.lists.specs.Sum.{count}
 use Rattle.lists.specs.Select.{Rising}
 use Rattle.lists.proofs.Sums.{count-le, count-all, count-none, count-full, count-mono, count-split}
@@ -26,9 +26,8 @@ use Rattle.polynomial.proofs.Laws.{evaluate-lt, equal-of-values, past-end}
 use Rattle.interpolation.specs.Interpolation.{candidate}
 use Rattle.interpolation.proofs.Laws.{recovers}
 use Rattle.reed_solomon.specs.Encode.{stripe, pieceOf, encodeFits, encodeRefusal, encoded, encodeOf}
-use Rattle.reed_solomon.specs.declared.Decoded.{Decoded}
 use Rattle.reed_solomon.specs.declared.Decoded.the-variants.{Block, Beyond, Refused}
-use Rattle.reed_solomon.specs.Decode.{hasPiece, received, presentCount, differing, Decodes, decodeFits, decodeRefusal, Answers, DecodesUnique}
+use Rattle.reed_solomon.specs.Decode.{hasPiece, received, presentCount, differing, Decodes, decodeFits, decodeRefusal, DecodesUnique}
 use Rattle.reed_solomon.specs.Decode.{namedOf, AnswersUnique, PiecesDecode, FewBeyond}
 use Rattle.reed_solomon.specs.First.{firstBytes, isRightStripe, meets, DecodesMeets, MeetsDecodes, rebuilt, RebuiltDecodes, RebuiltBlock, RebuiltNone}
 use Rattle.reed_solomon.specs.Steps.{points, column, differences, isRight, stripeOf, isFound, Pointed, Tried, Found}

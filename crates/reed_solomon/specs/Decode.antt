@@ -30,7 +30,6 @@ use Rattle.lists.specs.Sum.{count}
 use Rattle.lists.specs.Same.{same}
 use Rattle.bitset.specs.Set.{setOf}
 use Rattle.settings.specs.Refusal.{decodingRefusal}
-use Rattle.settings.specs.Valid.{Coded}
 use Rattle.wire.specs.Length.{blockLength}
 use Rattle.wire.specs.Slot.{layoutWith, width, messageOf}
 use Rattle.polynomial.specs.Polynomial.{evaluate, Bytes}

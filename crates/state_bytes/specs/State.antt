@@ -25,7 +25,6 @@ use Prim.Native.Nat.{ℕ, zero, suc, _+_, _*_, _/_, _%_, _^_, _<_}
 use lib.Dec.{eqb}
 use lib.ListN.{length, getD, take, drop}
 use Rattle.lists.specs.Sum.{sum}
-use Rattle.lists.specs.Fill.{tabulate}
 use Rattle.lists.specs.Join.{joined}
 use Rattle.bitset.specs.Row.{rowOf, rowsIn, rowsOf}
 use Rattle.reconstruction.specs.declared.Outcome.{Outcome}

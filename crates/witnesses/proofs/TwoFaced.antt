@@ -16,7 +16,7 @@ use Rattle.lists.specs.Same.{same}
 use Rattle.gf256.specs.Field.{gadd, gmul, gpow, polyMul, reduce}
 use Rattle.bitset.specs.Set.{member, setOf, sizeOf, restricted, first}
 use Rattle.bitset.specs.Row.{wordAt, rowOf, rowByte, rowsOf}
-use Rattle.settings.specs.Refusal.{outside, tooMany, broken, refusalOf, stateRefusal, encodingRefusal, decodingRefusal, lengthsRefusal, starRefusal}
+use Rattle.settings.specs.Refusal.{outside, tooMany, broken, refusalOf, stateRefusal, encodingRefusal, lengthsRefusal, starRefusal}
 use Rattle.wire.specs.Length.{blockLength, rowLength, inSettings, kindLength, boxLength, inboxLength, outboxLength}
 use Rattle.wire.specs.Round.{roundKind, callKind, phaseOf}
 use Rattle.wire.specs.Slot.{width, slotOf, holds, isPresent, messageOf, written, slots, copied}
