@@ -16,9 +16,8 @@ use Rattle.agreement.proofs.Laws.{At, coded, length-block, call-at, call-last, 
 use Rattle.state_bytes.specs.State.{stateLength, stateBytes, Words}
 use Rattle.bitset.specs.Set.{member}
 use Rattle.reed_solomon.specs.Decode.{namedOf}
-use Rattle.reconstruction.specs.declared.Outcome.{Outcome}
-use Rattle.reconstruction.specs.declared.Outcome.the-variants.{Open, Agreed, None, Beyond}
 use Rattle.reconstruction.specs.Outcomes.{outcomeNumber}
+use Rattle.reconstruction.proofs.Laws.{agreed-number}
 use Rattle.boards.specs.Boards.{ReturnedStep, returnedStep, stepAsBytes, returned, Returned, outcomeIn, namedIn, finalBytes}
 use Rattle.boards.proofs.Laws.{start-bytes, step-bytes, outcome-bytes, named-bytes, final-bytes, final-same}
 use Rattle.boards_agreement.specs.Library.{Kept, makes, kept, keptAfter, keptFrom, LibraryRuns, keptAt, SetByLastCall, LibraryAgrees, LibraryNames}
@@ -64,13 +63,6 @@ pub library-runs : LibraryRuns
 library-runs s own b buffer size ls l started =
     ap (λ (c : Kept). makes c l) (run-same s own b buffer size started ls)
     ∙ makes-same (leftAfter (begun s own b) ls) (ends-words (begun s own b) ls (begun-words s own b buffer size started)) l
-
--- agreed is known by its number
-agreed-number : (w : Outcome) → outcomeNumber w ≡ outcomeNumber Agreed → w ≡ Agreed
-agreed-number Open e = absurd (omega (arith, e))
-agreed-number Agreed e = refl
-agreed-number None e = absurd (omega (arith, e))
-agreed-number Beyond e = absurd (omega (arith, e))
 
 -- ---- systems
 module _ (S : System) (supposed : Supposed S) (buffers : ℕ → List ℕ) (sizes : (i : ℕ) → length (buffers i) ≡ stateLength) where

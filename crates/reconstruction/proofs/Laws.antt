@@ -14,6 +14,7 @@
 --     finished-refused                   decoding refused: open, and the block as it was
 --     finished-answers                   what decoding answers and leaves is what the last call sets
 --     finished-lt                        the marks are 16 bits
+--     agreed-number                      agreed is known by its number
 pub use Rattle.reconstruction.proofs.Rounds.{in-core, kind-forward, kind-rebuild, forwarded-member, forwarded-other, own-member, own-other}
 pub use Rattle.reconstruction.proofs.Rounds.{length-chosen, chosen-each, chosen, shared-sends, shared-none, finished-none, finished-agreed}
-pub use Rattle.reconstruction.proofs.Rounds.{finished-beyond, finished-refused, finished-answers, finished-lt}
+pub use Rattle.reconstruction.proofs.Rounds.{finished-beyond, finished-refused, finished-answers, finished-lt, agreed-number}

@@ -30,10 +30,12 @@ use Rattle.reed_solomon.specs.declared.Decoded.the-variants.{Block, Beyond, Ref
 use Rattle.reed_solomon.specs.Decode.{decodeRefusal, Answers}
 use Rattle.reed_solomon.specs.First.{rebuilt}
 use Rattle.reed_solomon.proofs.Laws.{yes-ready, decode-0, rebuilt-block, rebuilt-none, named-lt}
+use Rattle.reconstruction.specs.declared.Outcome.{Outcome}
 use Rattle.reconstruction.specs.declared.Outcome.the-variants.{Open, None}
 use Rattle.reconstruction.specs.declared.Outcome.the-variants as outcome
 use Rattle.reconstruction.specs.Reconstruction.{inCore, forwarded, votes, isChosen, chosenPiece, ownPiece, sentPiece, shared, ending, finish}
 use Rattle.reconstruction.specs.Reconstruction.{finishedBy, finished, FinishedAgreed, FinishedBeyond}
+use Rattle.reconstruction.specs.Outcomes.{outcomeNumber}
 use Rattle.reconstruction.specs.Steps.{decodedEnding}
 
 -- membership by number
@@ -231,3 +233,10 @@ finished-lt n t k core inbox b few = go (eqb (restricted core n) 0) (eqb (decode
     go false false r = lit< tt
     go false true option.none = lit< tt
     go false true (option.some B) = named-lt n t k inbox B few
+
+-- agreed is known by its number
+pub agreed-number : (w : Outcome) → outcomeNumber w ≡ outcomeNumber outcome.Agreed → w ≡ outcome.Agreed
+agreed-number Open e = absurd (omega (arith, e))
+agreed-number outcome.Agreed e = refl
+agreed-number None e = absurd (omega (arith, e))
+agreed-number outcome.Beyond e = absurd (omega (arith, e))

@@ -117,50 +117,42 @@ struct Last {
     block: &'static [u8],
 }
 
-/// Pieces of 0a14 with n 4 and t 1, which are 1e 22 36 5a: all; example d, and with slot 1 absent; example e; all of them with a core of numbers
-/// past n only, which is none. Three stripes of it, 4 false in the first, 1 in the second, 2 in the third. Then n 7 and t 2, where 0a141e has the
-/// pieces 00 5a 50 a7 ad f7 fd: 2, 5 and 6 are silent. The four true pieces give the block (document 02, U2), but by document 01's own rule, that five
-/// places agree, an absent slot being a piece of zeros, none.
+/// Pieces of 0a14 with n 4 and t 1, which are 1e 22 36 5a: all of them, and everyone in the core.
+const TRUE: Last = Last {
+    settings: [4, 1, 1],
+    core: 15,
+    inbox: &[1, 0x1e, 1, 0x22, 1, 0x36, 1, 0x5a],
+    outcome: Outcome::Agreed,
+    named: 0,
+    block: &[0x0a, 0x14],
+};
+
+/// All; example d, and with slot 1 absent; example e; all of them with a core of numbers past n only, which is none. Three stripes of it, 4 false in
+/// the first, 1 in the second, 2 in the third. Then n 7 and t 2, where 0a141e has the pieces 00 5a 50 a7 ad f7 fd: 2, 5 and 6 are silent. The four true
+/// pieces give the block (document 02, U2), but by document 01's own rule, that five places agree, an absent slot being a piece of zeros, none.
 const LASTS: [Last; 7] = [
+    TRUE,
     Last {
-        settings: [4, 1, 1],
-        core: 15,
-        inbox: &[1, 0x1e, 1, 0x22, 1, 0x36, 1, 0x5a],
-        outcome: Outcome::Agreed,
-        named: 0,
-        block: &[0x0a, 0x14],
-    },
-    Last {
-        settings: [4, 1, 1],
-        core: 15,
         inbox: &[1, 0x00, 1, 0x22, 1, 0x36, 1, 0x5a],
-        outcome: Outcome::Agreed,
         named: 0b0001,
-        block: &[0x0a, 0x14],
+        ..TRUE
     },
     Last {
-        settings: [4, 1, 1],
-        core: 15,
         inbox: &[0, 0x1e, 1, 0x22, 1, 0x36, 1, 0x5a],
-        outcome: Outcome::Agreed,
         named: 0b0001,
-        block: &[0x0a, 0x14],
+        ..TRUE
     },
     Last {
-        settings: [4, 1, 1],
-        core: 15,
         inbox: &[1, 0x1e, 1, 0x22, 1, 0x37, 1, 0x5b],
         outcome: Outcome::Beyond,
-        named: 0,
         block: &[0, 0],
+        ..TRUE
     },
     Last {
-        settings: [4, 1, 1],
         core: 0xfff0,
-        inbox: &[1, 0x1e, 1, 0x22, 1, 0x36, 1, 0x5a],
         outcome: Outcome::None,
-        named: 0,
         block: &[0, 0],
+        ..TRUE
     },
     Last {
         settings: [4, 1, 3],
@@ -168,9 +160,9 @@ const LASTS: [Last; 7] = [
         inbox: &[
             1, 0x1e, 0x00, 0x1e, 1, 0x22, 0x22, 0x00, 1, 0x36, 0x36, 0x36, 1, 0x00, 0x5a, 0x5a,
         ],
-        outcome: Outcome::Agreed,
         named: 0b1011,
         block: &[0x0a, 0x14, 0x0a, 0x14, 0x0a, 0x14],
+        ..TRUE
     },
     Last {
         settings: [7, 2, 1],
@@ -178,9 +170,9 @@ const LASTS: [Last; 7] = [
         inbox: &[
             1, 0x00, 0, 0x00, 1, 0x50, 1, 0xa7, 0, 0x00, 0, 0x00, 1, 0xfd,
         ],
-        outcome: Outcome::Agreed,
         named: 0b011_0010,
         block: &[0x0a, 0x14, 0x1e],
+        ..TRUE
     },
 ];
 
