@@ -3,4 +3,5 @@ mod Sum
 mod Linear
 mod Product
 mod Powers
+mod Bitwise
 pub mod Laws

@@ -2,6 +2,9 @@
 // (document 01, 'Field and code'). Every function has an answer for every byte. Crates above know the contracts and the laws of
 // proofs/Laws.antt; each table is read by one function here and seen by nobody else.
 ghost use mathlib.Core.Path.{_≡_};
+ghost use Prim.Native.Nat.{_/_, min};
+ghost use lib.ListN.{length, getD};
+ghost use Rattle.lists.specs.Fill.{tabulate, filled};
 ghost use Rattle.gf256.specs.Field.{gadd, gmul, gpow, ginv, glog};
 
 // The 255 powers of 02: entry e is 02 to the power e.
@@ -96,4 +99,81 @@ pub fn inv(a: u8) -> u8
         return 0;
     }
     power(255 - log(a))
+}
+
+// 02 times a: the bits move up by one, and 1d is added for the one that falls out.
+fn double(a: u8) -> u8
+    ensures { λ r. ⌜ r ≡ gmul 2 a ⌝ }
+{
+    a % 128 * 2 ^ a / 128 * 0x1d
+}
+
+// a times b, from `half`, which is a / 2 times b.
+fn bitwise_step(half: u8, a: u8, b: u8) -> u8
+    requires { ⌜ half ≡ gmul (a / 2) b ⌝ }
+    ensures { λ r. ⌜ r ≡ gmul a b ⌝ }
+{
+    double(half) ^ a % 2 * b
+}
+
+// The product, a bit of a after the other: with no table and no test, so that loops over it work on sixteen bytes at a time.
+fn bitwise_product(a: u8, b: u8) -> u8
+    ensures { λ r. ⌜ r ≡ gmul a b ⌝ }
+{
+    let p = bitwise_step(0, a / 128, b);
+    let p = bitwise_step(p, a / 64, b);
+    let p = bitwise_step(p, a / 32, b);
+    let p = bitwise_step(p, a / 16, b);
+    let p = bitwise_step(p, a / 8, b);
+    let p = bitwise_step(p, a / 4, b);
+    let p = bitwise_step(p, a / 2, b);
+    bitwise_step(p, a, b)
+}
+
+// The lesser of two lengths.
+fn least(a: usize, b: usize) -> usize
+    ensures { λ r. ⌜ r ≡ min a b ⌝ }
+{
+    if a < b {
+        return a;
+    }
+    b
+}
+
+// Multiplies every element of p by a.
+// Shut out: every element added to a; the last one left.
+pub fn scale(p: &mut [u8], a: u8)
+    ensures { λ _. ⌜ now (p .exit) ≡ tabulate (λ i. gmul a (getD (now (p .entry)) i 0)) (length (now (p .entry))) ⌝ }
+{
+    let mut i: usize = 0;
+    while i < p.len() {
+        p[i] = bitwise_product(a, p[i]);
+        i += 1;
+    }
+}
+
+// Adds q to p, element by element, as far as both reach.
+// Shut out: q written over p; the first one left.
+pub fn add_all(p: &mut [u8], q: &[u8])
+    ensures { λ _. ⌜ now (p .exit) ≡ filled (λ i. gadd (getD (now (p .entry)) i 0) (getD (now (q .entry)) i 0)) (length (now (q .entry))) (now (p .entry)) ⌝ }
+{
+    let end = least(p.len(), q.len());
+    let mut i: usize = 0;
+    while i < end {
+        p[i] = add(p[i], q[i]);
+        i += 1;
+    }
+}
+
+// A step of Horner's rule at many points: each element of p times its point of xs, and c added, as far as both reach.
+// Shut out: the points added; c times the element.
+pub fn horner_step(p: &mut [u8], xs: &[u8], c: u8)
+    ensures { λ _. ⌜ now (p .exit) ≡ filled (λ i. gadd c (gmul (getD (now (xs .entry)) i 0) (getD (now (p .entry)) i 0))) (length (now (xs .entry))) (now (p .entry)) ⌝ }
+{
+    let end = least(p.len(), xs.len());
+    let mut i: usize = 0;
+    while i < end {
+        p[i] = add(c, bitwise_product(xs[i], p[i]));
+        i += 1;
+    }
 }

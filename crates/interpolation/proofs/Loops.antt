@@ -5,7 +5,7 @@ use mathlib.Core.List.{List, [], _∷_, _++_, append-assoc, append-nil}
 use Prim.Native.Nat.{ℕ, _+_, _≤_, _<_}
 use native.Mathlib.Numerals.{add-one}
 use lib.ListN.{length, take, drop, getD, set}
-use lib.Seq.{take-suc-set, drop-cons, take-all}
+use lib.Seq.{take-suc-set, take-all}
 use Rattle.lists.specs.Fill.{filled}
 use Rattle.lists.proofs.Fills.{length-filled, getD-filled-past}
 
@@ -16,10 +16,6 @@ module _ (f : ℕ → ℕ) (n : ℕ) (d xs : List ℕ) (e : xs ≡ filled f n d)
   -- the places from n on are as they were
   pub unread : (j : ℕ) → n ≤ j → getD xs j 0 ≡ getD d j 0
   unread j h = ap (λ l. getD l j 0) e ∙ getD-filled-past f n d j 0 h
-
--- a place more of a list that is used up from the front
-pub left-cons : (p : List ℕ) (i : ℕ) → i < length p → drop i p ≡ getD p i 0 ∷ drop (i + 1) p
-left-cons p i h = drop-cons p i 0 h ∙ ap (λ n. getD p i 0 ∷ drop n p) (sym (add-one i))
 
 -- what is written, with what is still to be written, is `out`: a turn that writes v at i, and the end
 pub write-next : (p out old later : List ℕ) (i v : ℕ) → i < length p → old ≡ v ∷ later → take i p ++ old ≡ out → take (i + 1) (set p i v) ++ later ≡ out

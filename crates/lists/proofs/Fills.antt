@@ -1,13 +1,15 @@
 -- Laws of `tabulate` and `filled`. The main ones: `fill-more`, a turn of a loop that fills a list from the front, and `tabulate-front`, the first
 -- element and the others.
-use mathlib.Core.Path.{_≡_, refl, ap, ap₂, _∙_}
+use mathlib.Core.Path.{_≡_, refl, sym, ap, ap₂, _∙_}
 use mathlib.Core.List.{List, [], _∷_, _++_}
-use Prim.Native.Nat.{ℕ, zero, suc, _+_, _≤_, _<_}
+use mathlib.Core.Logic.{⊎-elim}
+use Prim.Native.Nat.{ℕ, zero, suc, _+_, _≤_, _<_, min}
 use native.Mathlib.Nat.{le-of-suc-le-suc}
 use native.Mathlib.Numerals.{add-one}
 use native.Mathlib.Omega.{arith}
 use lib.ListN.{length, getD, set, drop, replicate}
 use Rattle.lists.specs.Fill.{tabulate, filled}
+use Rattle.lists.proofs.Tests.{lt-or-le}
 
 module _ {A : Type 0} where
   -- ---- tabulate
@@ -121,3 +123,19 @@ module _ {A : Type 0} where
   -- the list after the last turn of a loop that fills
   pub fill-end : (f : ℕ → A) (n : ℕ) (d xs : List A) → xs ≡ filled f n d → length d ≤ n → xs ≡ tabulate f (length d)
   fill-end f n d xs e h = e ∙ filled-over f n d h ∙ filled-all f (length d) d refl
+
+  -- a turn of a loop that replaces each element by what g makes of it
+  pub fill-own : (g : ℕ → A → A) (z : A) (n : ℕ) (d xs : List A) (v : A) → n < length d → xs ≡ filled (λ i. g i (getD d i z)) n d
+      → v ≡ g n (getD xs n z) → set xs n v ≡ filled (λ i. g i (getD d i z)) (n + 1) d
+  fill-own g z n d xs v l e h =
+      let f : ℕ → A = λ i. g i (getD d i z) in
+      fill-more f n d xs v l e (h ∙ ap (g n) (ap (λ (q : List A). getD q n z) e ∙ getD-filled-past f n d n z (omega arith)))
+
+  -- the list after the last turn of a loop to the lesser of its length and m
+  pub fill-least : (f : ℕ → A) (n m : ℕ) (d xs : List A) → xs ≡ filled f n d → n ≡ min (length d) m → xs ≡ filled f m d
+  fill-least f n m d xs e h =
+      e
+      ∙ ⊎-elim
+      (λ (l : length d < m). let q : n ≡ length d = omega (arith, h) in ap (λ n. filled f n d) q ∙ sym (filled-over f m d (omega arith)))
+      (λ (l : m ≤ length d). let q : n ≡ m = omega (arith, h) in ap (λ n. filled f n d) q)
+      (lt-or-le (length d) m)

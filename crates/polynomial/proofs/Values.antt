@@ -1,10 +1,12 @@
 -- The values of sums, multiples and products. The main law: `evaluate-horner`, the value by powers is the value by Horner's rule.
 use mathlib.Core.Path.{_≡_, refl, sym, ap, ap₂, _∙_}
 use mathlib.Core.List.{List, [], _∷_}
-use Prim.Native.Nat.{ℕ, zero, suc, _-_, _≤_, _<_}
+use Prim.Native.Nat.{ℕ, zero, suc, _+_, _-_, _≤_, _<_}
+use native.Mathlib.Numerals.{add-one}
 use native.Mathlib.Omega.{arith}
 use lib.Dec.{lit<}
-use lib.ListN.{length, getD}
+use lib.ListN.{length, getD, drop}
+use lib.Seq.{drop-length, drop-cons}
 use Rattle.gf256.specs.Field.{gadd, gmul, gpow}
 use Rattle.gf256.proofs.Laws.{gadd-assoc, gadd-comm, gadd-zero-l, gadd-zero-r, gadd-self, gadd-medial, gadd-lt, gmul-left-comm, gmul-assoc, gmul-add-l}
 use Rattle.gf256.proofs.Laws.{gmul-add-r, gmul-zero-l, gmul-zero-r, gmul-one-r, gmul-lt, gpow-zero, gpow-suc}
@@ -55,6 +57,15 @@ horner-nil x = refl
 pub horner-cons : (c : ℕ) (p : List ℕ) (x : ℕ) → horner (c ∷ p) x ≡ gadd c (gmul x (horner p x))
 unfolding horner
 horner-cons c p x = refl
+
+-- from the last coefficient to the first: none is left
+pub horner-end : (p : List ℕ) (x : ℕ) → horner (drop (length p) p) x ≡ 0
+horner-end p x = ap (λ q. horner q x) (drop-length p) ∙ horner-nil x
+
+-- a coefficient more at the front
+pub horner-drop : (p : List ℕ) (x j : ℕ) → j < length p → horner (drop j p) x ≡ gadd (getD p j 0) (gmul x (horner (drop (j + 1) p) x))
+horner-drop p x j l =
+    ap (λ q. horner q x) (drop-cons p j 0 l ∙ ap (λ n. getD p j 0 ∷ drop n p) (sym (add-one j))) ∙ horner-cons (getD p j 0) (drop (j + 1) p) x
 
 pub horner-lt : (p : List ℕ) (x : ℕ) → Bytes p → horner p x < 256
 unfolding horner

@@ -1,9 +1,7 @@
 -- `evaluate` meets its contract. The invariant: r is the value of the last i coefficients.
-use Rattle.interpolation.proofs.Loops.{left-cons}
-use Rattle.polynomial.proofs.Laws.{horner-nil, horner-cons, evaluate-horner}
+use Rattle.polynomial.proofs.Laws.{horner-end, horner-drop, evaluate-horner}
 use Rattle.polynomial.specs.Polynomial.{horner}
 use Rattle.gf256.specs.Field.{gadd, gmul}
-use lib.Seq.{drop-length}
 use lib.ListN.{length, getD, drop}
 use native.Mathlib.Omega.{arith}
 use Prim.Native.Nat.{_+_, _-_, _≤_}
@@ -11,10 +9,6 @@ use mathlib.Core.Path.{_≡_, sym, ap, _∙_}
 use borrow.Author.Needs.{needs}
 use Rattle.interpolation.proofs.evaluate.Statement.{statement}
 use Rattle.interpolation.proofs.evaluate.Tie as tie
-use Rattle.interpolation.proofs.evaluate.Reads as reads
-use Rattle.interpolation.proofs.evaluate.Lts as lts
-use Rattle.gf256.proofs.add.Reads as add-reads
-use Rattle.gf256.proofs.mul.Reads as mul-reads
 
 abbrev Inv-loop : tie.InvT-loop
 Inv-loop p x r₀ i₀ r i = (i ≤ length p) × (r ≡ horner (drop (length p - i) p) x)
@@ -27,7 +21,7 @@ loop-holds c =
     let p = c .before .args .p .now in
     let x = c .before .args .x in
     let e : length p ≡ length p - 0 = omega arith in
-    (omega arith, sym (ap (λ j. horner (drop j p) x) (sym e) ∙ ap (λ l. horner l x) (drop-length p) ∙ horner-nil x))
+    (omega arith, sym (ap (λ j. horner (drop j p) x) (sym e) ∙ horner-end p x))
 
 add-i : tie.Need-add-i Inv-loop μ-loop
 add-i c = search needs
@@ -57,7 +51,7 @@ loop-again c =
       omega arith,
       c .add .ensures
           ∙ ap (gadd (getD p j 0)) (c .before .mul .ensures ∙ ap (gmul x) (l .inv .1 ∙ ap (λ k. horner (drop k p) x) e))
-          ∙ sym (ap (λ q. horner q x) (left-cons p j (omega arith)) ∙ horner-cons (getD p j 0) (drop (j + 1) p) x),
+          ∙ sym (horner-drop p x j (omega arith)),
     )
 
 returns : tie.Need-returns Inv-loop μ-loop
