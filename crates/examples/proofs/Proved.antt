@@ -21,7 +21,7 @@ use Rattle.reed_solomon.specs.Encode.{stripe, pieceOf, encodeRefusal, encodeOf}
 use Rattle.reed_solomon.specs.declared.Decoded.the-variants.{Block, Beyond}
 use Rattle.reed_solomon.specs.Decode.{hasPiece, received, presentCount, differing, isNamed, namedOf, decodeRefusal}
 use Rattle.reed_solomon.specs.First.{meets}
-use Rattle.reed_solomon.specs.Steps.{points, column, differences, stripeOf, isFound}
+use Rattle.reed_solomon.specs.Steps.{points, column, differences}
 use Rattle.reed_solomon.proofs.Laws.{meets-decodes, stripe-beyond}
 use Rattle.phase_king.specs.Bit.{zeroSeen, oneSeen}
 use Rattle.graph.specs.Neighbour.{neighbour}
@@ -48,7 +48,7 @@ example-d = (refl, meets-decodes 4 1 1 (fourPieces 0x00 0x22 0x36 0x5a) (0x0a �
 example-e : decodes 0x1e 0x22 0x37 0x5b Beyond (0 ∷ 0 ∷ [])
 unfolding sum count tabulate filled gadd gmul ginv gpow polyMul reduce outside tooMany broken refusalOf encodingRefusal decodingRefusal starRefusal
     blockLength width slotOf part holds isPresent messageOf gsum evaluate horner plus scale timesRoot wrongBy combine withRoot start advance next run smaller
-    reduced series candidate hasPiece received selected points column differences stripeOf isFound decodeRefusal
+    reduced series candidate hasPiece received selected points column differences decodeRefusal
 example-e = (refl, stripe-beyond 4 1 1 (fourPieces 0x1e 0x22 0x37 0x5b) (omega arith) 0 (omega arith) refl, refl)
 
 pub examples : Examples

@@ -5,6 +5,7 @@ use mathlib.Core.Bool.{Bool}
 use Prim.Native.Nat.{ℕ, _+_, _*_, _/_, _%_, _≤_, _<_}
 use native.Mathlib.Nat.{zero-mul, one-mul}
 use native.Mathlib.Omega.{arith}
+use lib.Bits.{bitAnd, and-mask}
 use lib.Dec.{T, eqb, eqb→eq}
 use Rattle.lists.proofs.Table.{below, below-at}
 use Rattle.gf256.specs.Field.{gadd, gmul}
@@ -14,15 +15,15 @@ use Rattle.gf256.proofs.Product.{gmul-assoc, gmul-zero-l, gmul-one-l}
 
 -- ---- 02 times an element
 doubleAt : ℕ → Bool
-doubleAt a = eqb (gadd (a % 128 * 2) (a / 128 * 0x1d)) (gmul 2 a)
+doubleAt a = eqb (gadd (a * 2 % 256) (a / 128 * 0x1d)) (gmul 2 a)
 
 double-test : T (below 256 doubleAt)
 unfolding gadd gmul doubleAt
 double-test = tt
 
-pub double-is : (a : ℕ) → a < 256 → gadd (a % 128 * 2) (a / 128 * 0x1d) ≡ gmul 2 a
+pub double-is : (a : ℕ) → a < 256 → gadd (a * 2 % 256) (a / 128 * 0x1d) ≡ gmul 2 a
 unfolding doubleAt
-double-is a h = eqb→eq (gadd (a % 128 * 2) (a / 128 * 0x1d)) (gmul 2 a) (below-at 256 doubleAt double-test a h)
+double-is a h = eqb→eq (gadd (a * 2 % 256) (a / 128 * 0x1d)) (gmul 2 a) (below-at 256 doubleAt double-test a h)
 
 -- ---- a product from that of half of a factor
 halfAt : ℕ → Bool
@@ -40,11 +41,15 @@ halves a h = eqb→eq (gadd (gmul 2 (a / 2)) (a % 2)) a (below-at 256 halfAt hal
 bit-times : (x b : ℕ) → x < 2 → b < 256 → gmul x b ≡ x * b
 bit-times x b h l = bit-cases (λ x. gmul x b ≡ x * b) (gmul-zero-l b ∙ sym (zero-mul b)) (gmul-one-l b l ∙ sym (one-mul b)) x h
 
-pub bit-times-le : (a b : ℕ) → a % 2 * b ≤ b
-bit-times-le a b = bit-cases (λ x. x * b ≤ b) (omega (arith, zero-mul b)) (omega (arith, one-mul b)) (a % 2) (bit-lt a)
+low-bit : (a : ℕ) → bitAnd a 1 ≡ a % 2
+low-bit a = and-mask a 1
 
-pub gmul-bit : (a b : ℕ) → a < 256 → b < 256 → gadd (gmul 2 (gmul (a / 2) b)) (a % 2 * b) ≡ gmul a b
+pub bit-times-le : (a b : ℕ) → bitAnd a 1 * b ≤ b
+bit-times-le a b =
+    rw (low-bit a) (bit-cases (λ x. x * b ≤ b) (omega (arith, zero-mul b)) (omega (arith, one-mul b)) (a % 2) (bit-lt a))
+
+pub gmul-bit : (a b : ℕ) → a < 256 → b < 256 → gadd (gmul 2 (gmul (a / 2) b)) (bitAnd a 1 * b) ≡ gmul a b
 gmul-bit a b h l =
-    ap₂ gadd (sym (gmul-assoc 2 (a / 2) b)) (sym (bit-times (a % 2) b (bit-lt a) l))
+    ap₂ gadd (sym (gmul-assoc 2 (a / 2) b)) (ap (λ x. x * b) (low-bit a) ∙ sym (bit-times (a % 2) b (bit-lt a) l))
     ∙ sym (gmul-add-l (gmul 2 (a / 2)) (a % 2) b)
     ∙ ap (λ x. gmul x b) (halves a h)

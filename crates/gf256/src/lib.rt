@@ -105,7 +105,7 @@ pub fn inv(a: u8) -> u8
 fn double(a: u8) -> u8
     ensures { λ r. ⌜ r ≡ gmul 2 a ⌝ }
 {
-    a % 128 * 2 ^ a / 128 * 0x1d
+    a << 1 ^ (a >> 7) * 0x1d
 }
 
 // a times b, from `half`, which is a / 2 times b.
@@ -113,20 +113,20 @@ fn bitwise_step(half: u8, a: u8, b: u8) -> u8
     requires { ⌜ half ≡ gmul (a / 2) b ⌝ }
     ensures { λ r. ⌜ r ≡ gmul a b ⌝ }
 {
-    double(half) ^ a % 2 * b
+    double(half) ^ (a & 1) * b
 }
 
 // The product, a bit of a after the other: with no table and no test, so that loops over it work on sixteen bytes at a time.
 fn bitwise_product(a: u8, b: u8) -> u8
     ensures { λ r. ⌜ r ≡ gmul a b ⌝ }
 {
-    let p = bitwise_step(0, a / 128, b);
-    let p = bitwise_step(p, a / 64, b);
-    let p = bitwise_step(p, a / 32, b);
-    let p = bitwise_step(p, a / 16, b);
-    let p = bitwise_step(p, a / 8, b);
-    let p = bitwise_step(p, a / 4, b);
-    let p = bitwise_step(p, a / 2, b);
+    let p = bitwise_step(0, a >> 7, b);
+    let p = bitwise_step(p, a >> 6, b);
+    let p = bitwise_step(p, a >> 5, b);
+    let p = bitwise_step(p, a >> 4, b);
+    let p = bitwise_step(p, a >> 3, b);
+    let p = bitwise_step(p, a >> 2, b);
+    let p = bitwise_step(p, a >> 1, b);
     bitwise_step(p, a, b)
 }
 
@@ -153,8 +153,7 @@ pub fn scale(p: &mut [u8], a: u8)
 }
 
 // Adds q to p, element by element, as far as both reach.
-// Shut out: q written over p; the first one left.
-pub fn add_all(p: &mut [u8], q: &[u8])
+fn add_all(p: &mut [u8], q: &[u8])
     ensures { λ _. ⌜ now (p .exit) ≡ filled (λ i. gadd (getD (now (p .entry)) i 0) (getD (now (q .entry)) i 0)) (length (now (q .entry))) (now (p .entry)) ⌝ }
 {
     let end = least(p.len(), q.len());
@@ -165,9 +164,23 @@ pub fn add_all(p: &mut [u8], q: &[u8])
     }
 }
 
-// A step of Horner's rule at many points: each element of p times its point of xs, and c added, as far as both reach.
+// Adds b times q to p, element by element, as far as both reach.
+// Shut out: p multiplied too; the first one left.
+pub fn add_multiple(p: &mut [u8], b: u8, q: &[u8])
+    ensures { λ _. ⌜ now (p .exit) ≡ filled (λ i. gadd (getD (now (p .entry)) i 0) (gmul b (getD (now (q .entry)) i 0))) (length (now (q .entry))) (now (p .entry)) ⌝ }
+{
+    let end = least(p.len(), q.len());
+    let mut i: usize = 0;
+    while i < end {
+        p[i] = add(p[i], bitwise_product(b, q[i]));
+        i += 1;
+    }
+}
+
+// A step of Horner's rule for one polynomial at many points: each element of p times its point of xs, and the coefficient c added, as far as both
+// reach.
 // Shut out: the points added; c times the element.
-pub fn horner_step(p: &mut [u8], xs: &[u8], c: u8)
+pub fn horner_at_points(p: &mut [u8], xs: &[u8], c: u8)
     ensures { λ _. ⌜ now (p .exit) ≡ filled (λ i. gadd c (gmul (getD (now (xs .entry)) i 0) (getD (now (p .entry)) i 0))) (length (now (xs .entry))) (now (p .entry)) ⌝ }
 {
     let end = least(p.len(), xs.len());
@@ -176,4 +189,14 @@ pub fn horner_step(p: &mut [u8], xs: &[u8], c: u8)
         p[i] = add(c, bitwise_product(xs[i], p[i]));
         i += 1;
     }
+}
+
+// A step of Horner's rule for many polynomials at one point: each element of p times x, and its coefficient of cs added; one that cs has not is 00.
+// Two loops: the compiler makes sixteen bytes at a time of each, and not of both in one.
+// Shut out: cs multiplied and p added; p as it was where cs ends.
+pub fn horner_at_point(p: &mut [u8], x: u8, cs: &[u8])
+    ensures { λ _. ⌜ now (p .exit) ≡ tabulate (λ i. gadd (getD (now (cs .entry)) i 0) (gmul x (getD (now (p .entry)) i 0))) (length (now (p .entry))) ⌝ }
+{
+    scale(p, x);
+    add_all(p, cs);
 }

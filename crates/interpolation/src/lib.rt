@@ -17,8 +17,7 @@ struct Weights {
 const MOST: usize = 22;
 
 // The value of the polynomial p at x, by Horner's rule.
-// Shut out: a further coefficient 01 at the end; must-fail/coefficients_reversed.
-pub fn evaluate(p: &[u8], x: u8) -> u8
+fn evaluate(p: &[u8], x: u8) -> u8
     ensures { λ r. ⌜ r ≡ evaluate (now (p .entry)) x ⌝ }
 {
     let mut r: u8 = 0;
@@ -49,11 +48,8 @@ fn combine(p: &mut [u8], a: u8, q: &[u8], b: u8)
     requires { ⌜ length (now p) ≡ length (now q) ⌝ }
     ensures { λ _. ⌜ now (p .exit) ≡ plus (scale a (now (p .entry))) (scale b (now (q .entry))) ⌝ }
 {
-    let mut i: usize = 0;
-    while i < p.len() {
-        p[i] = gf256::add(gf256::mul(a, p[i]), gf256::mul(b, q[i]));
-        i += 1;
-    }
+    gf256::scale(p, a);
+    gf256::add_multiple(p, b, q);
 }
 
 // q(x) - y e(x): what the pair q, e is wrong by at x, where y was received.
@@ -214,7 +210,7 @@ fn recover(xs: &[u8], ys: &[u8], t: usize, m: &mut [u8])
 
 // The only polynomial of m.len() coefficients that can agree with the values ys received at the points xs in enough places, into m. Nothing
 // is written where ys has not a value for each point, m is empty, or there are more than MOST points and coefficients together.
-// Shut out: must-fail/larger_pair; must-fail/discrepancies_swapped.
+// Shut out: must-fail/larger_pair; must-fail/discrepancies_swapped; must-fail/coefficients_reversed.
 pub fn candidate(xs: &[u8], ys: &[u8], m: &mut [u8])
     ensures { λ _. ⌜ now (m .exit) ≡ candidateInto (now (xs .entry)) (now (ys .entry)) (now (m .entry)) ⌝ }
 {

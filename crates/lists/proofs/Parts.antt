@@ -8,7 +8,7 @@ use native.Mathlib.Nat.{le-of-suc-le-suc, suc-mul, mul-le-mul-right, le-refl, su
 use native.Mathlib.Numerals.{add-one}
 use native.Mathlib.Omega.{arith}
 use lib.ListN.{length, getD, set, take, drop, replicate, drop-of-length-le, length-append}
-use lib.Seq.{take-all, take-at, take-nil, drop-at, drop-drop, length-take-le}
+use lib.Seq.{take-all, take-at, take-nil, take-take, take-append-le, drop-at, drop-drop, length-take-le}
 use Rattle.lists.proofs.Tests.{lt-or-le}
 
 -- ---- copies from the front
@@ -50,6 +50,10 @@ length-put d v a e h g l =
       lib.ListN.length-drop (e - a) (drop a d),
       lib.ListN.length-drop a d,
     )
+
+-- what stands before a part that was lent
+pub front-put : (a : ℕ) (l x : List ℕ) → a ≤ length l → take a (take a l ++ x) ≡ take a l
+front-put a l x h = take-append-le a (take a l) x (omega (arith, length-take-le a l h)) ∙ take-take a a l (omega arith)
 
 -- a part of w elements that is lent
 pub length-lent : (a w : ℕ) (l : List ℕ) → a + w ≤ length l → length (take (a + w - a) (drop a l)) ≡ w

@@ -1,5 +1,5 @@
--- The decoding rule. The main laws: `decodes-unique` (at most one block meets it), `answers-unique` (so there is one answer), `found-block` and
--- `found-none` (what the code finds is that block, or there is none), `rebuilt-block` and `rebuilt-none` (the same of the function `rebuilt`).
+-- The decoding rule. The main laws: `decodes-unique` (at most one block meets it), `answers-unique` (so there is one answer), `right-rule` and
+-- `none-beyond` (what the code finds of a stripe is what the rule asks), `rebuilt-block` and `rebuilt-none` (the function `rebuilt`).
 use mathlib.Core.Path.{_≡_, refl, sym, ap, ap₂, subst, _∙_}
 use mathlib.Core.Bool.{Bool, true, false, not, _&&_}
 use mathlib.Core.List.{List}
@@ -30,35 +30,27 @@ use Rattle.reed_solomon.specs.declared.Decoded.the-variants.{Block, Beyo
 use Rattle.reed_solomon.specs.Decode.{hasPiece, received, presentCount, differing, Decodes, decodeFits, decodeRefusal, DecodesUnique}
 use Rattle.reed_solomon.specs.Decode.{namedOf, AnswersUnique, PiecesDecode, FewBeyond}
 use Rattle.reed_solomon.specs.First.{firstBytes, isRightStripe, meets, DecodesMeets, MeetsDecodes, rebuilt, RebuiltDecodes, RebuiltBlock, RebuiltNone}
-use Rattle.reed_solomon.specs.Steps.{points, column, differences, isRight, stripeOf, isFound, Pointed, Tried, Found}
+use Rattle.reed_solomon.specs.Steps.{points, column, differences, isRight, NoneRight, Pointed}
 use Rattle.reed_solomon.proofs.Sizes.{both-true, true-both}
 use Rattle.reed_solomon.proofs.First.{Right, first-right}
 use Rattle.reed_solomon.proofs.Stripes.{length-points, differing-points, agreements-differences, rising-points, units-rising, points-rising, different-numbers}
-use Rattle.reed_solomon.proofs.Stripes.{length-stripe, bytes-stripe, length-found, bytes-found, stripe-joined, block-joined}
+use Rattle.reed_solomon.proofs.Stripes.{length-stripe, bytes-stripe, block-joined}
 use Rattle.lists.specs.Join.{joined}
-use Rattle.lists.proofs.Joins.{joined-ext, length-joined, all-joined}
+use Rattle.lists.proofs.Joins.{joined-ext}
 
--- ---- what the code tries is what the definition says
-pub tried-found : (t k : ℕ) (slots : List ℕ) (s : ℕ) (xs : List ℕ) (r : Bool) (m : List ℕ) → Tried t xs (column k slots s xs) r m
-    → (m ≡ stripeOf t k slots xs s) × (r ≡ isFound t k slots xs s)
-unfolding stripeOf isFound
-tried-found t k slots s xs r m h = (h .message, h .right ∙ ap (isRight t xs (column k slots s xs)) (h .message))
-
+-- ---- bytes that are right at a list of points
 -- bytes that are right are the candidate, however they were found
 right-candidate : (n t : ℕ) (xs ys m : List ℕ) → n < 256 → Rising n xs → Bytes m → length m ≡ t + 1 → isRight t xs ys m ≡ true → candidate t xs ys ≡ m
 right-candidate n t xs ys m few rising hm lm right =
     recovers t xs ys m (units-rising n xs few rising) (points-rising n xs few rising) hm lm
     (omega (arith, leb-true (2 * differences xs ys m + t + 1) (length xs) right, agreements-differences xs ys m))
 
-pub guessed : (t : ℕ) (xs ys m : List ℕ) → Pointed t xs → Bytes m → length m ≡ t + 1 → isRight t xs ys m ≡ true → m ≡ candidate t xs ys
-guessed t xs ys m p hm lm right = sym (right-candidate 16 t xs ys m (omega arith) (p .rising) hm lm right)
-
--- with fewer than t + 1 points nothing is right
-pub few-found : (t k : ℕ) (slots xs : List ℕ) (s : ℕ) → length xs ≤ t → isFound t k slots xs s ≡ false
-unfolding isFound
-few-found t k slots xs s few =
-    fails (isFound t k slots xs s)
-    (λ e. omega (arith, leb-true (2 * differences xs (column k slots s xs) (stripeOf t k slots xs s) + t + 1) (length xs) e))
+-- where the candidate is not right, nothing is
+pub none-right : (t : ℕ) (xs ys : List ℕ) → Pointed t xs → isRight t xs ys (candidate t xs ys) ≡ false → NoneRight t xs ys
+none-right t xs ys p wrong m hm lm =
+    fails (isRight t xs ys m)
+    (λ right.
+    true≢false (sym right ∙ sym (ap (isRight t xs ys) (right-candidate 16 t xs ys m (omega arith) (p .rising) hm lm right)) ∙ wrong))
 
 module _ (n t k : ℕ) (slots : List ℕ) where
   -- ---- the number of the refusal table, and what 0 says
@@ -89,67 +81,37 @@ module _ (n t k : ℕ) (slots : List ℕ) where
   right-points : (s : ℕ) (m : List ℕ) → isRight t xs (column k slots s xs) m ≡ isRightStripe n t k slots s m
   right-points s m = ap₂ (λ d c. leb (2 * d + t + 1) c) (differing-points k slots s n m) (length-points n k slots)
 
-  -- where every stripe is found, the block meets the rule
-  found-decodes : ((s : ℕ) → s < k → isFound t k slots xs s ≡ true) → Decodes n t k slots (joined (stripeOf t k slots xs) k)
-  unfolding isFound
-  found-decodes h = record {
-    size = length-joined (t + 1) (stripeOf t k slots xs) k (λ s l. length-found t k slots xs s) ∙ sym (block-length-is k t);
-    bytes = all-joined (λ x. x < 256) (stripeOf t k slots xs) k (lit< tt) (λ s l. bytes-found t k slots xs s);
-    right = λ s l.
-        subst (λ m. 2 * differing n k slots s m + t + 1 ≤ presentCount n k slots)
-        (sym (stripe-joined t (stripeOf t k slots xs) k (λ s l. length-found t k slots xs s) s l))
-        (leb-true (2 * differing n k slots s (stripeOf t k slots xs s) + t + 1) (presentCount n k slots)
-        (sym (right-points s (stripeOf t k slots xs s)) ∙ h s l));
-  }
+  pub right-rule : (s : ℕ) (m : List ℕ) → isRight t xs (column k slots s xs) m ≡ true → 2 * differing n k slots s m + t + 1 ≤ presentCount n k slots
+  right-rule s m e = leb-true (2 * differing n k slots s m + t + 1) (presentCount n k slots) (sym (right-points s m) ∙ e)
 
-  -- what the code found is a block that meets the rule
-  pub found-block : (block : List ℕ) → Found t k slots xs true block → Decodes n t k slots block
-  found-block block h =
-      subst (Decodes n t k slots) (sym (h .block-is refl))
-      (found-decodes (count-full k (isFound t k slots xs) (omega (arith, eqb-true (count k (isFound t k slots xs)) k (sym (h .all))))))
+  rule-right : (s : ℕ) (m : List ℕ) → 2 * differing n k slots s m + t + 1 ≤ presentCount n k slots → isRight t xs (column k slots s xs) m ≡ true
+  rule-right s m h = right-points s m ∙ le-leb (2 * differing n k slots s m + t + 1) (presentCount n k slots) h
+
+  -- where no bytes of a stripe are right, no block meets the rule
+  pub none-beyond : (s : ℕ) → s < k → NoneRight t xs (column k slots s xs) → (B : List ℕ) → Decodes n t k slots B → ⊥
+  none-beyond s l h B d =
+      true≢false
+      (sym (rule-right s (stripe t B s) (d .right s l))
+      ∙ h (stripe t B s) (bytes-stripe t B s (d .bytes)) (length-stripe k t B s (d .size ∙ block-length-is k t) l))
 
   -- 1 .. n are different elements of the field
   module _ (few : n < 256) where
-    -- bytes that are right are those that the candidate gives
-    stripe-found : (s : ℕ) (m : List ℕ) → Bytes m → length m ≡ t + 1 → 2 * differing n k slots s m + t + 1 ≤ presentCount n k slots → stripeOf t k slots xs s ≡ m
-    unfolding stripeOf
-    stripe-found s m hm lm right =
-        right-candidate n t xs (column k slots s xs) m few (rising-points n k slots) hm lm
-        (right-points s m ∙ le-leb (2 * differing n k slots s m + t + 1) (presentCount n k slots) right)
+    -- each stripe of a block that meets the rule is the candidate
+    each : (B : List ℕ) → Decodes n t k slots B → (s : ℕ) → s < k → stripe t B s ≡ candidate t xs (column k slots s xs)
+    each B d s l =
+        sym
+        (right-candidate n t xs (column k slots s xs) (stripe t B s) few (rising-points n k slots) (bytes-stripe t B s (d .bytes))
+        (length-stripe k t B s (d .size ∙ block-length-is k t) l) (rule-right s (stripe t B s) (d .right s l)))
 
-    module _ (block : List ℕ) (d : Decodes n t k slots block) where
-      each : (s : ℕ) → s < k → stripeOf t k slots xs s ≡ stripe t block s
-      each s l =
-          stripe-found s (stripe t block s) (bytes-stripe t block s (d .bytes)) (length-stripe k t block s (d .size ∙ block-length-is k t) l) (d .right s l)
-
-      pub decodes-joined : block ≡ joined (stripeOf t k slots xs) k
-      decodes-joined =
-          block-joined k t block (d .size ∙ block-length-is k t) ∙ joined-ext (stripe t block) (stripeOf t k slots xs) k (λ s l. sym (each s l))
-
-      decodes-found : (s : ℕ) → s < k → isFound t k slots xs s ≡ true
-      unfolding isFound
-      decodes-found s l =
-          right-points s (stripeOf t k slots xs s)
-          ∙ le-leb (2 * differing n k slots s (stripeOf t k slots xs s) + t + 1) (presentCount n k slots)
-          (subst (λ m. 2 * differing n k slots s m + t + 1 ≤ presentCount n k slots) (sym (each s l)) (d .right s l))
+    decodes-joined : (B : List ℕ) → Decodes n t k slots B → B ≡ joined (λ s. candidate t xs (column k slots s xs)) k
+    decodes-joined B d =
+        block-joined k t B (d .size ∙ block-length-is k t) ∙ joined-ext (stripe t B) (λ s. candidate t xs (column k slots s xs)) k (each B d)
 
     -- where a stripe's candidate is not right, no block meets the rule
-    pub stripe-beyond : (s : ℕ) → s < k → isFound t k slots xs s ≡ false → (B : List ℕ) → Decodes n t k slots B → ⊥
-    stripe-beyond s l e B d = true≢false (sym (decodes-found B d s l) ∙ e)
-
-    -- where the code did not find every stripe, none does
-    pub found-none : (block : List ℕ) → Found t k slots xs false block → (B : List ℕ) → Decodes n t k slots B → ⊥
-    found-none block h B d = eqb-false (count k (isFound t k slots xs)) k (sym (h .all)) (count-all k (isFound t k slots xs) (decodes-found B d))
-
--- fewer than t + 1 points: the code finds nothing
-pub few-points : (t k : ℕ) (slots xs block : List ℕ) → 1 ≤ k → length xs ≤ t → Found t k slots xs false block
-few-points t k slots xs block least few = record {
-  all =
-      sym
-      (ne-eqb (count k (isFound t k slots xs)) k
-      (λ e. omega (arith, count-none k (isFound t k slots xs) (λ s l. few-found t k slots xs s few))));
-  block-is = λ e. absurd (true≢false (sym e));
-}
+    pub stripe-beyond : (s : ℕ) → s < k → isRight t xs (column k slots s xs) (candidate t xs (column k slots s xs)) ≡ false
+        → (B : List ℕ) → Decodes n t k slots B → ⊥
+    stripe-beyond s l wrong B d =
+        true≢false (sym (rule-right s (stripe t B s) (d .right s l)) ∙ ap (isRight t xs (column k slots s xs)) (each B d s l) ∙ wrong)
 
 -- ---- at most one block meets the rule, and there is one answer
 pub decodes-unique : DecodesUnique

@@ -4,11 +4,13 @@ use mathlib.Core.Path.{_≡_, sym, ap, _∙_}
 use mathlib.Core.Bool.{Bool, true, false, not}
 use mathlib.Core.List.{List, [], _∷_, _++_}
 use mathlib.Core.Logic.{⊎-elim}
-use Prim.Native.Nat.{ℕ, _+_, _*_, _≤_, _<_}
+use Prim.Native.Nat.{ℕ, _+_, _-_, _*_, _≤_, _<_}
+use native.Mathlib.Nat.{add-mul, le-trans, mul-le-mul-right}
 use native.Mathlib.Omega.{arith}
 use lib.Dec.{eqb, lit<}
 use lib.ListN.{length, getD, take, drop, length-drop}
-use lib.Seq.{length-take-le, getD-take, getD-drop}
+use lib.Seq.{length-take-le, getD-take, getD-drop, take-take}
+use borrow.Rule.Slice.PartMut.{putMid}
 use Rattle.lists.specs.Sum.{count}
 use Rattle.lists.specs.Join.{joined, part}
 use Rattle.lists.specs.Select.{Rising}
@@ -17,15 +19,15 @@ use Rattle.lists.proofs.Selects.{selected-none, selected-yes, selected-no, risi
 use Rattle.lists.proofs.Selects.{count-selected}
 use Rattle.lists.proofs.Tests.{lt-or-le}
 use Rattle.lists.proofs.Fills.{length-tabulate, getD-tabulate}
-use Rattle.lists.proofs.Parts.{slot-within}
-use Rattle.lists.proofs.Joins.{part-take, part-joined, joined-parts, joined-ext}
+use Rattle.lists.proofs.Parts.{slot-within, drop-take}
+use Rattle.lists.proofs.Joins.{part-take, part-put-same, joined-parts, joined-ext}
 use Rattle.polynomial.specs.Polynomial.{evaluate, Bytes, Points}
 use Rattle.polynomial.proofs.Laws.{past-end}
 use Rattle.interpolation.specs.Interpolation.{agreements}
-use Rattle.interpolation.proofs.Laws.{Units, agreements-count, length-candidate, bytes-candidate}
+use Rattle.interpolation.proofs.Laws.{Units, agreements-count}
 use Rattle.reed_solomon.specs.Encode.{stripe}
 use Rattle.reed_solomon.specs.Decode.{hasPiece, received, presentCount, differing}
-use Rattle.reed_solomon.specs.Steps.{points, column, differences, stripeOf, Pointed}
+use Rattle.reed_solomon.specs.Steps.{points, column, differences, Pointed}
 
 -- ---- points and columns
 -- numbers that rise are units of the field, all different
@@ -105,6 +107,43 @@ unfolding stripe
 length-stripe k t block s e l =
     length-take-le (t + 1) (drop (s * (t + 1)) block) (omega (arith, length-drop (s * (t + 1)) block, slot-within k (t + 1) s l))
 
+-- a stripe lies in the front that ends behind it, or later
+stripe-within : (t : ℕ) (block : List ℕ) (s from : ℕ) → s < from → stripe t block s ≡ take (t + 1) (drop (s * (t + 1)) (take (from * (t + 1)) block))
+unfolding stripe
+stripe-within t block s from l =
+    let w = t + 1 in
+    sym
+    (ap (take w) (drop-take (s * w) (from * w) block)
+    ∙ take-take w (from * w - s * w) (drop (s * w) block) (omega (arith, slot-within from w s l)))
+
+pub stripe-front : (t : ℕ) (b c : List ℕ) (from : ℕ) → take (from * (t + 1)) b ≡ take (from * (t + 1)) c → (s : ℕ) → s < from → stripe t b s ≡ stripe t c s
+stripe-front t b c from e s l =
+    stripe-within t b s from l ∙ ap (λ (f : List ℕ). take (t + 1) (drop (s * (t + 1)) f)) e ∙ sym (stripe-within t c s from l)
+
+-- a shorter front
+pub front-less : (w : ℕ) (b c : List ℕ) (s from : ℕ) → take (from * w) b ≡ take (from * w) c → s < from → take (s * w) b ≡ take (s * w) c
+front-less w b c s from e l =
+    let h : s * w ≤ from * w = omega (arith, slot-within from w s l) in
+    sym (take-take (s * w) (from * w) b h) ∙ ap (take (s * w)) e ∙ take-take (s * w) (from * w) c h
+
+-- a stripe that was lent and came back as y
+pub stripe-put : (k t : ℕ) (block y : List ℕ) (s : ℕ) → length block ≡ k * (t + 1) → s < k → length y ≡ t + 1
+    → stripe t (putMid (s * (t + 1)) (s * (t + 1) + (t + 1) - s * (t + 1)) block y) s ≡ y
+unfolding stripe
+stripe-put k t block y s e l h =
+    sym (part-take (t + 1) (putMid (s * (t + 1)) (s * (t + 1) + (t + 1) - s * (t + 1)) block y) s)
+    ∙ part-put-same (t + 1) block y k s l (omega (arith, e)) h
+
+-- the longest block
+pub block-most : (k t : ℕ) → k ≤ 128 → t ≤ 5 → k * (t + 1) ≤ 768
+block-most k t h l = le-trans (mul-le-mul-right (t + 1) h) (omega arith)
+
+-- the stripes before a place and those from it on
+pub rest-size : (k from w : ℕ) → from ≤ k → (k - from) * w + from * w ≡ k * w
+rest-size k from w l =
+    let e : k - from + from ≡ k = omega arith in
+    sym (add-mul (k - from) from w) ∙ ap (λ n. n * w) e
+
 pub bytes-stripe : (t : ℕ) (block : List ℕ) (s : ℕ) → Bytes block → Bytes (stripe t block s)
 unfolding stripe
 bytes-stripe t block s h i =
@@ -114,19 +153,7 @@ bytes-stripe t block s h i =
     rw (past-end (take (t + 1) (drop (s * (t + 1)) block)) i (omega (arith, lib.ListN.length-take (t + 1) (drop (s * (t + 1)) block)))) (lit< tt))
     (lt-or-le i (t + 1))
 
-pub length-found : (t k : ℕ) (slots xs : List ℕ) (s : ℕ) → length (stripeOf t k slots xs s) ≡ t + 1
-unfolding stripeOf
-length-found t k slots xs s = length-candidate t xs (column k slots s xs)
-
-pub bytes-found : (t k : ℕ) (slots xs : List ℕ) (s : ℕ) → Bytes (stripeOf t k slots xs s)
-unfolding stripeOf
-bytes-found t k slots xs s = bytes-candidate t xs (column k slots s xs)
-
 -- ---- stripes joined
-pub stripe-joined : (t : ℕ) (f : ℕ → List ℕ) (k : ℕ) → ((s : ℕ) → s < k → length (f s) ≡ t + 1) → (s : ℕ) → s < k → stripe t (joined f k) s ≡ f s
-unfolding stripe
-stripe-joined t f k h s l = sym (part-take (t + 1) (joined f k) s) ∙ part-joined (t + 1) f k h s l
-
 pub block-joined : (k t : ℕ) (block : List ℕ) → length block ≡ k * (t + 1) → block ≡ joined (stripe t block) k
 unfolding stripe
 block-joined k t block e = joined-parts (t + 1) block k e ∙ joined-ext (part (t + 1) block) (stripe t block) k (λ s l. part-take (t + 1) block s)

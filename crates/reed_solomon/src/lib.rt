@@ -1,18 +1,19 @@
 // The Reed-Solomon code (document 01, 'Field and code'; document 02, U2 and U1): one piece of a block's coding, and a block from the present ones of
 // n slots of pieces, with the marks of those that are not its own. It knows of the field only its contracts and laws.
+mod columns;
+mod comparison;
 mod guessing;
-mod naming;
 
 ghost use mathlib.Core.Path.{_≡_};
-ghost use Prim.Native.Nat.{_+_, _*_, _≤_};
-ghost use lib.Dec.{eqb};
-ghost use lib.ListN.{length};
+ghost use mathlib.Core.Bool.{true};
+ghost use Prim.Native.Nat.{_+_, _*_, _≤_, _<_};
+ghost use lib.Dec.{eqb, ltb};
+ghost use lib.ListN.{length, take};
 ghost use Rattle.settings.specs.Valid.{Coded};
 ghost use Rattle.wire.specs.Length.{blockLength};
-ghost use Rattle.polynomial.specs.Polynomial.{evaluate};
-ghost use Rattle.reed_solomon.specs.Encode.{stripe, pieceOf, encodeFits, encoded, encodeOf, isReady};
+ghost use Rattle.reed_solomon.specs.Encode.{pieceOf, encodeFits, encoded, encodeOf, isReady};
 ghost use Rattle.reed_solomon.specs.Decode.{hasPiece, received, decodeFits, decodeRefusal, Answers};
-ghost use Rattle.reed_solomon.specs.Steps.{points, column, differences, isRight, Pointed, Tried, Found, Listed};
+ghost use Rattle.reed_solomon.specs.Steps.{column, valuesAt, unequal, different, isRight, NoneRight, Pointed, Settled, Mended, Rebuilds, Lent, Room, Listed};
 
 // What decoding answers. The block itself is in the lent bytes; with it come the marks of the slots that were absent or did not hold their piece.
 pub enum Decoded {
@@ -21,22 +22,61 @@ pub enum Decoded {
     Refused(u8),
 }
 
-// At how many of the points xs the message m does not take the value that ys has.
-fn differences(xs: &[u8], ys: &[u8], m: &[u8]) -> usize
-    requires { ⌜ length (now ys) ≡ length (now xs) ⌝ }
-    ensures { λ r. ⌜ r ≡ differences (now (xs .entry)) (now (ys .entry)) (now (m .entry)) ⌝ }
+// From where the next guess is made, where the stripe looked at was found: the marks of the points that were seen to be false, by index, and the index
+// to start from.
+struct Search {
+    found: bool,
+    marks: u16,
+    start: usize,
+}
+
+// The values of the polynomial m at the points xs, into out.
+fn values(m: &[u8], xs: &[u8], out: &mut [u8])
+    requires { ⌜ length (now out) ≡ length (now xs) ⌝ }
+    ensures { λ _. ⌜ now (out .exit) ≡ valuesAt (now (m .entry)) (now (xs .entry)) ⌝ }
 {
-    let mut count: usize = 0;
+    wire::silence(out);
+    let mut j = m.len();
+    while 0 < j {
+        j -= 1;
+        gf256::horner_at_points(out, xs, m[j]);
+    }
+}
+
+// The marks of the places at which a and b differ.
+fn mark_unequal(a: &[u8], b: &[u8]) -> u16
+    requires { ⌜ (length (now a) ≡ length (now b)) × (length (now a) ≤ 16) ⌝ }
+    ensures { λ r. ⌜ r ≡ unequal (now (a .entry)) (now (b .entry)) ⌝ }
+{
+    let mut marks: u16 = 0;
     let mut i: usize = 0;
-    while i < xs.len() {
-        let y = ys[i];
-        let x = xs[i];
+    while i < a.len() {
+        let index = i;
         i += 1;
-        if interpolation::evaluate(m, x) != y {
-            count += 1;
+        if a[index] != b[index] {
+            marks = bitset::insert(marks, index);
         }
     }
-    count
+    marks
+}
+
+// The marks, by index, of the points xs at which the message m does not take the value that ys has, by way of vs.
+fn mark_values(xs: &[u8], ys: &[u8], m: &[u8], vs: &mut [u8]) -> u16
+    requires { ⌜ (length (now ys) ≡ length (now xs)) × (length (now vs) ≡ length (now xs)) × (length (now xs) ≤ 16) ⌝ }
+    ensures { λ r. ⌜ r ≡ different (now (xs .entry)) (now (ys .entry)) (now (m .entry)) ⌝ }
+{
+    values(m, xs, vs);
+    mark_unequal(vs, ys)
+}
+
+// The same, with bytes of its own for the values of m.
+fn mark_different(xs: &[u8], ys: &[u8], m: &[u8]) -> u16
+    requires { ⌜ (length (now ys) ≡ length (now xs)) × (length (now xs) ≤ 16) ⌝ }
+    ensures { λ r. ⌜ r ≡ different (now (xs .entry)) (now (ys .entry)) (now (m .entry)) ⌝ }
+{
+    let n = xs.len();
+    let mut vs = [0u8; 16];
+    mark_values(xs, ys, m, &mut vs[..n])
 }
 
 // Whether the message m is right for the values ys at the points xs: twice the number of values that differ is at most xs.len() - t - 1.
@@ -44,7 +84,7 @@ fn is_right(xs: &[u8], ys: &[u8], t: usize, m: &[u8]) -> bool
     requires { ⌜ (length (now ys) ≡ length (now xs)) × (length (now xs) ≤ 16) × (t ≤ 5) ⌝ }
     ensures { λ r. ⌜ r ≡ isRight t (now (xs .entry)) (now (ys .entry)) (now (m .entry)) ⌝ }
 {
-    2 * differences(xs, ys, m) + t + 1 <= xs.len()
+    2 * bitset::size(mark_different(xs, ys, m)) + t + 1 <= xs.len()
 }
 
 // Whether slot j is present.
@@ -94,72 +134,296 @@ fn gather(slots: &[u8], k: usize, s: usize, xs: &[u8], ys: &mut [u8])
     }
 }
 
-// The bytes of stripe s from the values at the points xs, into m, by way of ys; whether they are right. First the guess is tried.
-fn decode_column(
+// A guess at stripe s, into m.
+fn guess_stripe(
     slots: &[u8],
     t: usize,
     k: usize,
     s: usize,
     xs: &[u8],
-    ys: &mut [u8],
+    marks: u16,
+    start: usize,
     m: &mut [u8],
-) -> bool
-    requires { ⌜ (length (now ys) ≡ length (now xs)) × Pointed t (now xs) × (length (now m) ≡ t + 1) ⌝ }
-    ensures { λ r. ⌜ Tried t (now (xs .entry)) (column k (now (slots .entry)) s (now (xs .entry))) r (now (m .exit)) ⌝ }
+)
+    requires { ⌜ Pointed t (now xs) × (start ≤ length (now xs)) × (length (now m) ≡ t + 1) ⌝ }
 {
-    gather(slots, k, s, xs, ys);
-    guessing::guess(xs, ys, m);
-    if is_right(xs, ys, t, m) {
-        return true;
-    }
-    interpolation::candidate(xs, ys, m);
-    is_right(xs, ys, t, m)
+    let w = t + 1;
+    let mut cols = [0u8; 6];
+    let mut tmp = [0u8; 1];
+    guessing::guess(
+        slots,
+        t,
+        k,
+        s,
+        xs,
+        marks,
+        start,
+        &mut cols[..w],
+        &mut tmp,
+        m,
+    );
 }
 
-// The same, with bytes of its own for the values.
-fn decode_stripe(slots: &[u8], t: usize, k: usize, s: usize, xs: &[u8], m: &mut [u8]) -> bool
+// Guesses at stripe s, whose values at the points xs are ys, through one set of unmarked points after the other, into m, until one is right: the index
+// at which the points of that one start; xs.len() where none is.
+fn try_guesses(
+    slots: &[u8],
+    t: usize,
+    k: usize,
+    s: usize,
+    xs: &[u8],
+    marks: u16,
+    ys: &[u8],
+    m: &mut [u8],
+) -> usize
+    requires { ⌜ (length (now ys) ≡ length (now xs)) × Pointed t (now xs) × (length (now m) ≡ t + 1) ⌝ }
+    ensures { λ r. ⌜ (r ≤ length (now (xs .entry))) × (r < length (now (xs .entry)) → isRight t (now (xs .entry)) (now (ys .entry)) (now (m .exit)) ≡ true) ⌝ }
+{
+    let mut start: usize = 0;
+    while start < xs.len() {
+        guess_stripe(slots, t, k, s, xs, marks, start, m);
+        if is_right(xs, ys, t, m) {
+            return start;
+        }
+        start += t + 1;
+    }
+    xs.len()
+}
+
+// The right bytes of stripe s, whose values at the points xs are ys, into m, by guesses and else by interpolation with errors: the index from which to
+// take points for the next guess; xs.len() where no bytes are right.
+fn find(
+    slots: &[u8],
+    t: usize,
+    k: usize,
+    s: usize,
+    xs: &[u8],
+    marks: u16,
+    ys: &[u8],
+    m: &mut [u8],
+) -> usize
+    requires { ⌜ (length (now ys) ≡ length (now xs)) × Pointed t (now xs) × (length (now m) ≡ t + 1) ⌝ }
+    ensures { λ r. ⌜ Settled t (now (xs .entry)) (now (ys .entry)) (ltb r (length (now (xs .entry)))) (now (m .exit)) × (r ≤ length (now (xs .entry))) ⌝ }
+{
+    let start = try_guesses(slots, t, k, s, xs, marks, ys, m);
+    if start < xs.len() {
+        return start;
+    }
+    interpolation::candidate(xs, ys, m);
+    if is_right(xs, ys, t, m) {
+        return 0;
+    }
+    xs.len()
+}
+
+// The marks of both sets; where these are too many, the new ones alone.
+fn add_marks(marks: u16, new: u16, most: usize) -> u16 {
+    let both = bitset::union(marks, new);
+    if most < bitset::size(both) {
+        return new;
+    }
+    both
+}
+
+// The bytes of stripe s from the values at the points xs, into m, by way of ys; whether they are right, and from where to guess next. The points whose
+// values differ are marked, as long as t + 1 are left.
+fn settle_column(
+    slots: &[u8],
+    t: usize,
+    k: usize,
+    s: usize,
+    xs: &[u8],
+    marks: u16,
+    ys: &mut [u8],
+    m: &mut [u8],
+) -> Search
+    requires { ⌜ (length (now ys) ≡ length (now xs)) × Pointed t (now xs) × (length (now m) ≡ t + 1) ⌝ }
+    ensures { λ r. ⌜ Settled t (now (xs .entry)) (column k (now (slots .entry)) s (now (xs .entry))) (r .found) (now (m .exit)) × (r .start ≤ length (now (xs .entry))) ⌝ }
+{
+    gather(slots, k, s, xs, ys);
+    let start = find(slots, t, k, s, xs, marks, ys, m);
+    let new = mark_different(xs, ys, m);
+    Search {
+        found: start < xs.len(),
+        marks: add_marks(marks, new, xs.len() - t - 1),
+        start,
+    }
+}
+
+// The same, with bytes of its own for the values received.
+fn settle(slots: &[u8], t: usize, k: usize, s: usize, xs: &[u8], marks: u16, m: &mut [u8]) -> Search
     requires { ⌜ Pointed t (now xs) × (length (now m) ≡ t + 1) ⌝ }
-    ensures { λ r. ⌜ Tried t (now (xs .entry)) (column k (now (slots .entry)) s (now (xs .entry))) r (now (m .exit)) ⌝ }
+    ensures { λ r. ⌜ Settled t (now (xs .entry)) (column k (now (slots .entry)) s (now (xs .entry))) (r .found) (now (m .exit)) × (r .start ≤ length (now (xs .entry))) ⌝ }
 {
     let n = xs.len();
     let mut ys = [0u8; 16];
-    decode_column(slots, t, k, s, xs, &mut ys[..n], m)
+    settle_column(slots, t, k, s, xs, marks, &mut ys[..n], m)
 }
 
-// The stripes of a block, one after the other, from the values at the points xs; whether each was found. The rest of the block stays.
-fn decode_stripes(slots: &[u8], t: usize, k: usize, xs: &[u8], block: &mut [u8]) -> bool
-    requires { ⌜ Pointed t (now xs) × (k ≤ 128) × (length (now block) ≡ k * (t + 1)) ⌝ }
-    ensures { λ r. ⌜ Found t k (now (slots .entry)) (now (xs .entry)) r (now (block .exit)) ⌝ }
+// A guess at the stripes of the block from `from` on; those before it stay.
+fn guess_rest(
+    slots: &[u8],
+    t: usize,
+    k: usize,
+    from: usize,
+    xs: &[u8],
+    marks: u16,
+    start: usize,
+    block: &mut [u8],
+    cols: &mut [u8],
+    tmp: &mut [u8],
+)
+    requires { ⌜ Pointed t (now xs) × (start ≤ length (now xs)) × (from ≤ k) × Room t k (now block) (now cols) (now tmp) ⌝ }
+    ensures { λ _. ⌜ take (from * (t + 1)) (now (block .exit)) ≡ take (from * (t + 1)) (now (block .entry)) ⌝ }
 {
-    let mut s: usize = 0;
-    while s < k {
-        let a = s * (t + 1);
-        let e = a + (t + 1);
-        if !decode_stripe(slots, t, k, s, xs, &mut block[a..e]) {
-            return false;
-        }
-        s += 1;
-    }
-    true
+    let rows = k - from;
+    let size = rows * (t + 1);
+    let a = from * (t + 1);
+    guessing::guess(
+        slots,
+        t,
+        k,
+        from,
+        xs,
+        marks,
+        start,
+        &mut cols[..size],
+        &mut tmp[..rows],
+        &mut block[a..],
+    );
 }
 
-// The same from the present ones of n slots, whose points are written to xs. Fewer than t + 1 determine nothing.
+// Stripe s of the block is decoded, and those after it are guessed; those before it stay.
+fn mend(
+    slots: &[u8],
+    t: usize,
+    k: usize,
+    s: usize,
+    xs: &[u8],
+    marks: u16,
+    block: &mut [u8],
+    cols: &mut [u8],
+    tmp: &mut [u8],
+) -> Search
+    requires { ⌜ Pointed t (now xs) × (s < k) × Room t k (now block) (now cols) (now tmp) ⌝ }
+    ensures { λ r. ⌜ Mended t k (now (slots .entry)) (now (xs .entry)) s (r .found) (now (block .entry)) (now (block .exit)) ⌝ }
+{
+    let a = s * (t + 1);
+    let e = a + (t + 1);
+    let search = settle(slots, t, k, s, xs, marks, &mut block[a..e]);
+    if search.found {
+        guess_rest(
+            slots,
+            t,
+            k,
+            s + 1,
+            xs,
+            search.marks,
+            search.start,
+            block,
+            cols,
+            tmp,
+        );
+    }
+    search
+}
+
+// The block with every stripe right and the marks of the slots that do not hold their piece of it, from one that was guessed: its first wrong stripe
+// is decoded, and the rest guessed anew, until none is wrong.
+fn mend_all(
+    n: usize,
+    t: usize,
+    k: usize,
+    slots: &[u8],
+    xs: &[u8],
+    marks: u16,
+    block: &mut [u8],
+    cols: &mut [u8],
+    tmp: &mut [u8],
+) -> Decoded
+    requires { ⌜ Lent n t k (now slots) (now xs) × Room t k (now block) (now cols) (now tmp) ⌝ }
+    ensures { λ r. ⌜ Rebuilds n t k (now (slots .entry)) r (now (block .exit)) ⌝ }
+{
+    let mut known = marks;
+    let first = comparison::check(n, t, k, slots, xs.len(), 0, block, cols, tmp);
+    let mut named = first.named;
+    let mut s = first.wrong;
+    while s < k {
+        let search = mend(slots, t, k, s, xs, known, block, cols, tmp);
+        if !search.found {
+            return Decoded::Beyond;
+        }
+        known = search.marks;
+        let next = comparison::check(n, t, k, slots, xs.len(), s + 1, block, cols, tmp);
+        named = next.named;
+        s = next.wrong;
+    }
+    Decoded::Block(named)
+}
+
+// The block and its marks from the present slots, whose points are xs. The last stripe is decoded first, so that slots that turned false are known,
+// and all are guessed from there.
 fn decode_present(
+    n: usize,
+    t: usize,
+    k: usize,
+    slots: &[u8],
+    xs: &[u8],
+    block: &mut [u8],
+    cols: &mut [u8],
+    tmp: &mut [u8],
+) -> Decoded
+    requires { ⌜ Lent n t k (now slots) (now xs) × Room t k (now block) (now cols) (now tmp) ⌝ }
+    ensures { λ r. ⌜ Rebuilds n t k (now (slots .entry)) r (now (block .exit)) ⌝ }
+{
+    let mut m = [0u8; 6];
+    let search = settle(slots, t, k, k - 1, xs, 0, &mut m[..t + 1]);
+    if !search.found {
+        return Decoded::Beyond;
+    }
+    guess_rest(
+        slots,
+        t,
+        k,
+        0,
+        xs,
+        search.marks,
+        search.start,
+        block,
+        cols,
+        tmp,
+    );
+    mend_all(n, t, k, slots, xs, search.marks, block, cols, tmp)
+}
+
+// The same, with bytes of its own to work with.
+fn decode_points(n: usize, t: usize, k: usize, slots: &[u8], xs: &[u8], block: &mut [u8]) -> Decoded
+    requires { ⌜ Lent n t k (now slots) (now xs) × (length (now block) ≡ k * (t + 1)) ⌝ }
+    ensures { λ r. ⌜ Rebuilds n t k (now (slots .entry)) r (now (block .exit)) ⌝ }
+{
+    let size = block.len();
+    let mut cols = [0u8; 768];
+    let mut tmp = [0u8; 128];
+    decode_present(n, t, k, slots, xs, block, &mut cols[..size], &mut tmp[..k])
+}
+
+// The same from n slots, the points of the present ones of which are written to xs. Fewer than t + 1 determine nothing.
+fn decode_slots(
     n: usize,
     t: usize,
     k: usize,
     slots: &[u8],
     xs: &mut [u8],
     block: &mut [u8],
-) -> bool
+) -> Decoded
     requires { ⌜ Coded n t k × (n ≤ length (now xs)) × (length (now block) ≡ k * (t + 1)) ⌝ }
-    ensures { λ r. ⌜ Found t k (now (slots .entry)) (points n k (now (slots .entry))) r (now (block .exit)) ⌝ }
+    ensures { λ r. ⌜ Rebuilds n t k (now (slots .entry)) r (now (block .exit)) ⌝ }
 {
     let count = list_points(n, k, slots, xs);
     if count <= t {
-        return false;
+        return Decoded::Beyond;
     }
-    decode_stripes(slots, t, k, &xs[..count], block)
+    decode_points(n, t, k, slots, &xs[..count], block)
 }
 
 // Whether a list is exactly as long as a block of k stripes.
@@ -202,20 +466,19 @@ fn rebuild(n: usize, t: usize, k: usize, slots: &[u8], block: &mut [u8]) -> Deco
     ensures { λ r. ⌜ Answers n t k (now (slots .entry)) (now (block .entry)) r (now (block .exit)) ⌝ }
 {
     let mut xs = [0u8; 16];
-    if decode_present(n, t, k, slots, &mut xs, block) {
-        let named = naming::name(n, t, k, slots, block);
-        return Decoded::Block(named);
+    let decoded = decode_slots(n, t, k, slots, &mut xs, block);
+    if let Decoded::Beyond = decoded {
+        wire::silence(block);
     }
-    let end = block.len();
-    wire::silence(&mut block[..end]);
-    Decoded::Beyond
+    decoded
 }
 
 // Decoding: the block in each stripe of which twice the number of present values that differ from their code is at most N - t - 1, with N of the n
 // slots present, into the lent block, and the marks of the slots that do not hold their piece of it; beyond and zeros where there is none. The
 // relation determines the answer and the block that is left: at most one block meets the rule (laws `decodes-unique`, `answers-unique`).
-// Shut out: must-fail/bound_off_by_one; must-fail/absent_as_zeros; must-fail/absent_differ; must-fail/points_renumbered;
-// must-fail/beyond_keeps_the_block; must-fail/refusal_clears_the_block; must-fail/named_without_absent; must-fail/named_by_first_stripe.
+// Shut out: must-fail/guess_unchecked; must-fail/bound_off_by_one; must-fail/stripe_bound_off_by_one; must-fail/another_point;
+// must-fail/absent_as_zeros; must-fail/absent_differ; must-fail/points_renumbered; must-fail/beyond_keeps_the_block;
+// must-fail/refusal_clears_the_block; must-fail/named_without_absent; must-fail/named_by_first_stripe.
 pub fn decode(n: usize, t: usize, k: usize, slots: &[u8], block: &mut [u8]) -> Decoded
     ensures { λ r. ⌜ Answers n t k (now (slots .entry)) (now (block .entry)) r (now (block .exit)) ⌝ }
 {
@@ -226,26 +489,29 @@ pub fn decode(n: usize, t: usize, k: usize, slots: &[u8], block: &mut [u8]) -> D
     rebuild(n, t, k, slots, block)
 }
 
-// The value at x of stripe s of a block.
-pub(crate) fn stripe_value(t: usize, block: &[u8], s: usize, x: u8) -> u8
-    requires { ⌜ (t ≤ 5) × (s * (t + 1) + (t + 1) ≤ length (now block)) ⌝ }
-    ensures { λ r. ⌜ r ≡ evaluate (stripe t (now (block .entry)) s) x ⌝ }
+// The values at x of the stripes of a block, into `piece`, by way of `column`.
+fn encode_columns(t: usize, block: &[u8], x: u8, column: &mut [u8], piece: &mut [u8])
+    requires { ⌜ (t ≤ 5) × (length (now block) ≡ length (now piece) * (t + 1)) × (length (now column) ≡ length (now piece)) ⌝ }
+    ensures { λ _. ⌜ now (piece .exit) ≡ pieceOf (length (now (piece .entry))) t (now (block .entry)) x ⌝ }
 {
-    let a = s * (t + 1);
-    let e = a + (t + 1);
-    interpolation::evaluate(&block[a..e], x)
+    let w = t + 1;
+    columns::take_column(block, w, t, piece);
+    let mut j = t;
+    while 0 < j {
+        j -= 1;
+        columns::take_column(block, w, j, column);
+        gf256::horner_at_point(piece, x, column);
+    }
 }
 
-// The values at x of the stripes of a block, into `piece`.
+// The same, with bytes of its own for the columns.
 fn encode_piece(t: usize, block: &[u8], x: u8, piece: &mut [u8])
     requires { ⌜ (t ≤ 5) × (length (now piece) ≤ 128) × (length (now block) ≡ length (now piece) * (t + 1)) ⌝ }
     ensures { λ _. ⌜ now (piece .exit) ≡ pieceOf (length (now (piece .entry))) t (now (block .entry)) x ⌝ }
 {
-    let mut s: usize = 0;
-    while s < piece.len() {
-        piece[s] = stripe_value(t, block, s, x);
-        s += 1;
-    }
+    let k = piece.len();
+    let mut column = [0u8; 128];
+    encode_columns(t, block, x, &mut column[..k], piece);
 }
 
 // Coding: piece `number` of a block's coding, into the lent piece.

@@ -33,28 +33,40 @@ impl Case {
     const PEER: Side<Case> = (Case::decode_by_peer, Case::test_decoded);
     const ENCODE: Side<Case> = (|case| case.encode_by(raw::encode), Case::test_coded);
 
-    /// A block drawn at random, whose pieces at the indices `wrong` are false in every byte. The reference codes it.
+    /// A block drawn at random, whose pieces at the indices `wrong` are false in every byte.
     pub fn new(random: &mut Random, t: usize, k: usize, wrong: &[usize]) -> Case {
+        Case::partly(random, t, k, |_, i, _| wrong.contains(&i))
+    }
+
+    /// A block drawn at random; `wrong` says, of each index of a piece and each stripe, whether the byte is false. The reference codes it.
+    pub fn partly(
+        random: &mut Random,
+        t: usize,
+        k: usize,
+        wrong: impl Fn(&mut Random, usize, usize) -> bool,
+    ) -> Case {
         let block = random.bytes(k * (t + 1));
         let mut pieces = vec![0; N * k];
         let mut slots = Vec::new();
+        let mut marks = 0;
         for (i, piece) in pieces.chunks_exact_mut(k).enumerate() {
             let number = code::encode(N as u64, t as u64, k as u64, i as u64 + 1, &block, piece);
             assert_eq!(number, 0);
             let mut sent = piece.to_vec();
-            if wrong.contains(&i) {
-                sent.iter_mut()
-                    .for_each(|byte| *byte ^= 1 + random.below(255) as u8);
+            for (s, byte) in sent.iter_mut().enumerate() {
+                if wrong(random, i, s) {
+                    *byte ^= 1 + random.below(255) as u8;
+                    assert_ne!(*byte, piece[s]);
+                    marks |= 1 << i;
+                }
             }
-            let differing = piece.iter().zip(&sent).filter(|(a, b)| a != b).count();
-            assert_eq!(differing, if wrong.contains(&i) { k } else { 0 });
             slots.push(1);
             slots.extend(sent);
         }
         Case {
             t,
             k,
-            marks: wrong.iter().fold(0, |marks, &i| marks | 1 << i),
+            marks,
             decoded: vec![BEFORE; block.len()],
             named: NAMED_BEFORE,
             coded: vec![BEFORE; pieces.len()],
@@ -213,5 +225,65 @@ pub fn by_length() {
 Pieces and block are filled with a5 before each call, within the time.";
     let names =
         "k | bytes | encode | min | max | decode, none false | min | max | decode, 1 to 5 false | min | max";
+    print_table(heading, names, &rows);
+}
+
+/// In which stripes a false piece is false: its place among the t false ones, the stripe, t and k.
+type Pattern = fn(&mut Random, usize, usize, usize, usize) -> bool;
+
+const PATTERNS: [(&str, Pattern); 9] = [
+    ("the first", |_, _, s, _, _| s == 0),
+    ("the last", |_, _, s, _, k| s == k - 1),
+    ("one in the middle", |_, _, s, _, k| s == k / 2),
+    ("from the middle on", |_, _, s, _, k| s >= k / 2),
+    ("every second", |_, _, s, _, _| s % 2 == 0),
+    ("each another one", |_, i, s, t, k| {
+        s == (i + 1) * k / (t + 1)
+    }),
+    ("each later on", |_, i, s, t, k| s >= (i + 1) * k / (t + 1)),
+    ("1 in 2 at random", |random, _, _, _, _| {
+        random.below(2) == 0
+    }),
+    ("1 in 32 at random", |random, _, _, _, _| {
+        random.below(32) == 0
+    }),
+];
+
+/// Table 9: decoding where t pieces are false in some stripes only.
+pub fn partly_false() {
+    let (t, k) = (5, 128);
+    let mut random = Random::new(9);
+    let mut none: Vec<Case> = (0..REPETITIONS)
+        .map(|_| Case::new(&mut random, t, k, &[]))
+        .collect();
+    let [none] = in_turns(&mut none, [Case::LIBRARY]);
+    let mut rows = Vec::new();
+    for (name, pattern) in PATTERNS {
+        for place in ["1 to t", "at random"] {
+            let mut case = |_| {
+                let places = if place == "1 to t" {
+                    (0..t).collect()
+                } else {
+                    random.choice(N, t)
+                };
+                Case::partly(&mut random, t, k, |random, i, s| {
+                    places
+                        .iter()
+                        .position(|&place| place == i)
+                        .is_some_and(|i| pattern(random, i, s, t, k))
+                })
+            };
+            let mut cases: Vec<Case> = (0..REPETITIONS).map(&mut case).collect();
+            let [library, peer] = in_turns(&mut cases, [Case::LIBRARY, Case::PEER]);
+            let mut row = vec![name.to_string(), place.to_string()];
+            row.extend(library.cells(1e3));
+            row.push(ratio(&library, &none));
+            row.extend(peer.cells(1e3));
+            row.push(ratio(&peer, &library));
+            rows.push(row);
+        }
+    }
+    let heading = "9. Decoding";
+    let names = "false in stripes | false pieces | library | min | max | to none false | peer | min | max | peer / library";
     print_table(heading, names, &rows);
 }

@@ -18,6 +18,7 @@ const TABLES: &[(&str, fn())] = &[
     ("3", stars::of_sixteen),
     ("4", stars::by_controllers),
     ("5", runs::whole_runs),
+    ("9", coding::partly_false),
     #[cfg(feature = "isal")]
     ("6", isal::against_isal),
     #[cfg(feature = "earlier")]

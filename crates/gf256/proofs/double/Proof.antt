@@ -9,12 +9,9 @@ use Rattle.gf256.proofs.double.Tie as tie
 mul-result : tie.Need-mul-result
 mul-result c = search needs
 
-mul-result-2 : tie.Need-mul-result-2
-mul-result-2 c = search needs
-
 returns : tie.Need-returns
 unfolding gadd
 returns c = double-is _ (omega arith)
 
 pub double-spec : {M : Type 1} → statement M
-double-spec = tie.close (tie.spec mul-result mul-result-2 returns)
+double-spec = tie.close (tie.spec mul-result returns)

@@ -1,90 +1,40 @@
--- `combine` meets its contract. The invariant: the first i places are done.
-use Rattle.interpolation.proofs.Loops.{unread}
-use Rattle.polynomial.proofs.Laws.{combined}
-use Rattle.lists.proofs.Fills.{filled-none, fill-more, fill-end}
-use Rattle.lists.specs.Fill.{filled}
-use Rattle.gf256.specs.Field.{gadd, gmul}
-use lib.ListN.{length, getD, length-set}
-use native.Mathlib.Omega.{arith}
-use Prim.Native.Nat.{ℕ, _-_, _≤_}
-use mathlib.Core.Path.{_≡_, refl, sym, ap, ap₂, _∙_}
+-- `combine` meets its contract: p is multiplied, and then the multiple of q is added.
+use mathlib.Core.Path.{_≡_, sym, ap, _∙_}
+use mathlib.Core.List.{List}
+use Prim.Native.Nat.{ℕ}
 use borrow.Author.Needs.{needs}
+use lib.ListN.{length, getD}
+use Rattle.lists.specs.Fill.{tabulate, filled}
+use Rattle.lists.proofs.Fills.{length-tabulate, getD-tabulate, tabulate-ext, filled-all}
+use Rattle.gf256.specs.Field.{gadd, gmul}
+use Rattle.polynomial.proofs.Laws.{combined}
 use Rattle.interpolation.proofs.combine.Statement.{statement}
 use Rattle.interpolation.proofs.combine.Tie as tie
 
-abbrev Inv-loop : tie.InvT-loop
-Inv-loop p₀ a q b i₀ p i = (i ≤ length p₀) × (length p ≡ length p₀) × (p ≡ filled (λ j. gadd (gmul a (getD p₀ j 0)) (gmul b (getD q j 0))) i p₀)
+scale-requires : tie.Need-scale-requires
+scale-requires c κs = search needs
 
-abbrev μ-loop : tie.MeasureT-loop
-μ-loop p₀ a q b i₀ p i = length p₀ - i
+add-multiple-requires : tie.Need-add-multiple-requires
+add-multiple-requires c κs = search needs
 
-loop-holds : tie.Need-loop-holds Inv-loop μ-loop
-loop-holds c = (omega arith, refl, sym (filled-none _ _))
+same-length : tie.Need-same-length
+same-length c = search needs
 
-slice-read-mul : tie.Need-slice-read-mul Inv-loop μ-loop
-slice-read-mul c = search needs
-
-mul-requires : tie.Need-mul-requires Inv-loop μ-loop
-mul-requires c κs = search needs
-
-shared-slice-read-mul : tie.Need-shared-slice-read-mul Inv-loop μ-loop
-shared-slice-read-mul c = search needs
-
-mul-requires-2 : tie.Need-mul-requires-2 Inv-loop μ-loop
-mul-requires-2 c κs = search needs
-
-add-requires : tie.Need-add-requires Inv-loop μ-loop
-add-requires c κs = search needs
-
-slice-write-p : tie.Need-slice-write-p Inv-loop μ-loop
-slice-write-p c = search needs
-
-add-i : tie.Need-add-i Inv-loop μ-loop
-add-i c = search needs
-
-loop-less : tie.Need-loop-less Inv-loop μ-loop
-loop-less c = omega arith
-
-loop-again : tie.Need-loop-again Inv-loop μ-loop
-loop-again c =
-    let a = c .before .before .before .before .before .before .before .before .before .args in
-    let p₀ = a .p .now in
-    let l = c .before .before .before .before .before .before .loop in
-    let f : ℕ → ℕ = λ j. gadd (gmul (a .a) (getD p₀ j 0)) (gmul (a .b) (getD (a .q .now) j 0)) in (
-      omega arith,
-      length-set (l .p) (l .i) (c .add .result) ∙ l .inv .1,
-      fill-more f (l .i) p₀ (l .p) (c .add .result) (omega arith) (l .inv .2)
-          (c .add .ensures
-          ∙ ap₂ gadd (c .before .before .before .mul .ensures ∙ ap (gmul (a .a)) (unread f (l .i) p₀ (l .p) (l .inv .2) (l .i) (omega arith)))
-          (c .before .mul2 .ensures)),
-    )
-
-same-length : tie.Need-same-length Inv-loop μ-loop
-same-length c = c .before .loop .inv .1
-
-returns : tie.Need-returns Inv-loop μ-loop
+returns : tie.Need-returns
 returns c =
-    let a = c .before .before .before .before .args in
-    let p₀ = a .p .now in
-    let l = c .before .loop in
-    fill-end (λ j. gadd (gmul (a .a) (getD p₀ j 0)) (gmul (a .b) (getD (a .q .now) j 0))) (l .i) p₀ (l .p) (l .inv .2) (omega arith)
-    ∙ sym (combined (a .a) (a .b) p₀ (a .q .now) (c .before .before .before .before .pre))
+    let S = c .before .before .before .before .before .before .before .before .before .before in
+    let a = S .args in
+    let p = a .p .now in
+    let q = a .q .now in
+    let f : ℕ → ℕ = λ i. gmul (a .a) (getD p i 0) in
+    let added : List ℕ → ℕ → ℕ = λ r i. gadd (getD r i 0) (gmul (a .b) (getD q i 0)) in
+    c .before .before .add-multiple .ensures
+    ∙ ap (λ (r : List ℕ). filled (added r) (length q) r) (c .before .before .before .before .before .before .scale .ensures)
+    ∙ ap (λ n. filled (added (tabulate f (length p))) n (tabulate f (length p))) (sym (S .pre))
+    ∙ filled-all (added (tabulate f (length p))) (length p) (tabulate f (length p)) (length-tabulate f (length p))
+    ∙ tabulate-ext (added (tabulate f (length p))) (λ i. gadd (f i) (gmul (a .b) (getD q i 0))) (length p)
+    (λ i h. ap (λ v. gadd v (gmul (a .b) (getD q i 0))) (getD-tabulate f (length p) i 0 h))
+    ∙ sym (combined (a .a) (a .b) p q (S .pre))
 
 pub combine-spec : {M : Type 1} → statement M
-combine-spec =
-    tie.close
-    (tie.spec
-    Inv-loop
-    μ-loop
-    loop-holds
-    slice-read-mul
-    mul-requires
-    shared-slice-read-mul
-    mul-requires-2
-    add-requires
-    slice-write-p
-    add-i
-    loop-less
-    loop-again
-    same-length
-    returns)
+combine-spec = tie.close (tie.spec scale-requires add-multiple-requires same-length returns)

@@ -1,50 +1,49 @@
--- `decode_present` meets its contract: the points that are listed are those of the present slots.
-use Rattle.reed_solomon.proofs.Rule.{few-points}
-use Rattle.reed_solomon.proofs.Stripes.{points-le, pointed-points}
-use Rattle.reed_solomon.specs.Steps.{Pointed, Found}
-use lib.ListN.{length}
-use lib.Seq.{length-take-le}
+-- `decode_present` meets its contract.
+use mathlib.Core.Path.{_≡_, refl, sym}
+use Prim.Native.Nat.{_+_, _-_}
 use native.Mathlib.Omega.{arith}
-use mathlib.Core.Path.{sym, subst, _∙_}
 use borrow.Author.Needs.{needs}
+use borrow.Author.Tests.{not-true}
+use Rattle.lists.proofs.Zeros.{length-front}
+use Rattle.reed_solomon.proofs.Mending.{none-at, room-kept}
 use Rattle.reed_solomon.proofs.decode_present.Statement.{statement}
 use Rattle.reed_solomon.proofs.decode_present.Tie as tie
 
-list-points-requires : tie.Need-list-points-requires
-list-points-requires c κs = search needs
+sub-settle : tie.Need-sub-settle
+sub-settle c = search needs
 
-same-length : tie.Need-same-length
-same-length c = search needs
+add-m : tie.Need-add-m
+add-m c = search needs
+
+array-borrow-prefix-m : tie.Need-array-borrow-prefix-m
+array-borrow-prefix-m c = search needs
+
+slice-aggregate-settle : tie.Need-slice-aggregate-settle
+slice-aggregate-settle c = sym (length-front 6 (c .before .before .before .before .before .before .args .t + 1) (omega (arith, c .before .before .before .before .before .before .pre .0 .pointed .few-faulty)))
+
+settle-requires : tie.Need-settle-requires
+settle-requires c κs = (c .before .before .before .before .before .before .pre .0 .pointed, length-front 6 (c .before .before .before .before .before .before .args .t + 1) (omega (arith, c .before .before .before .before .before .before .pre .0 .pointed .few-faulty)))
 
 returns : tie.Need-returns
 returns c =
-    let S = c .before .before .before .before .before .before .before .before in
-    let a = S .args in
-    few-points (a .t) (a .k) (a .slots .now) _ (a .block .now) (S .pre .0 .k-least) (omega (arith, c .before .before .before .list-points .ensures .size, c .if1 .taken))
-
-slice-reshare-prefix-decode-stripes : tie.Need-slice-reshare-prefix-decode-stripes
-slice-reshare-prefix-decode-stripes c =
-    let a = c .before .before .before .before .before .before .before .before .args in
-    omega (arith, c .before .before .before .list-points .ensures .size, points-le (a .n) (a .k) (a .slots .now), c .before .before .before .before .before .before .before .before .pre .1, c .before .before .before .list-points .kept .1 .1 .1 .0)
-
-slice-aggregate-decode-stripes : tie.Need-slice-aggregate-decode-stripes
-slice-aggregate-decode-stripes c =
-    let S = c .before .before .before .before .before .before .before .before .before in
-    let l = c .before .before .before .before .list-points in
-    sym (length-take-le (l .result) (l .last .1 .1 .1 .0)
-    (omega (arith, l .ensures .size, points-le (S .args .n) (S .args .k) (S .args .slots .now), S .pre .1, l .kept .1 .1 .1 .0)))
-
-decode-stripes-requires : tie.Need-decode-stripes-requires
-decode-stripes-requires c κs =
     let S = c .before .before .before .before .before .before .before .before .before .before in
     let a = S .args in
-    let l = c .before .before .before .before .before .list-points in (
-      subst (Pointed (a .t)) (sym (l .ensures .are))
-          (pointed-points (a .n) (a .k) (a .slots .now) (a .t) (S .pre .0 .quorum .n-most) (omega (arith, S .pre .0 .quorum .n-most, S .pre .0 .quorum .t-most))
-          (omega (arith, l .ensures .size, c .before .before .if1 .left))),
-      S .pre .0 .k-most,
-      S .pre .2,
-    )
+    let d = c .before .before .before .settle in
+    none-at (a .n) (a .t) (a .k) (a .slots .now) (a .xs .now) (S .pre .0) (a .k - 1) (omega (arith, S .pre .0 .coded .k-least))
+    (d .ensures .0 .none-right (not-true (d .result .found) (c .if1 .taken)))
+
+guess-rest-requires : tie.Need-guess-rest-requires
+guess-rest-requires c κs = search needs
+
+mend-all-requires : tie.Need-mend-all-requires
+mend-all-requires c κs =
+    let S = c .before .before .before .before .before .before .before .before .before .before .before .before .before .before .before .before .before .before .before .before .before .before .before in
+    let a = S .args in
+    let g = c .before .before .before .before .before .before .before .before .before .guess-rest in
+    (S .pre .0, room-kept (a .t) (a .k) (a .block .now) (a .cols .now) (a .tmp .now) _ _ _ (S .pre .1) (g .kept .1 .1 .1 .1 .1 .1 .1 .0) (g .kept .1 .1 .1 .1 .1 .1 .1 .1 .0) (g .kept .1 .1 .1 .1 .1 .1 .1 .1 .1 .0))
+
+same-length : tie.Need-same-length
+same-length c = search needs
 
 same-length-2 : tie.Need-same-length-2
 same-length-2 c = search needs
@@ -53,21 +52,21 @@ same-length-3 : tie.Need-same-length-3
 same-length-3 c = search needs
 
 returns-2 : tie.Need-returns-2
-returns-2 c =
-    let a = c .before .before .before .before .before .before .before .before .before .before .before .before .before .args in
-    let d = c .before .before .decode-stripes in
-    subst (λ xs. Found (a .t) (a .k) (a .slots .now) xs (d .result) (d .last .1 .1 .1 .1 .0)) (c .before .before .before .before .before .before .before .before .list-points .ensures .are) (d .ensures)
+returns-2 c = search needs
 
 pub decode-present-spec : {M : Type 1} → statement M
 decode-present-spec =
     tie.close
     (tie.spec
-    list-points-requires
-    same-length
+    sub-settle
+    add-m
+    array-borrow-prefix-m
+    slice-aggregate-settle
+    settle-requires
     returns
-    slice-reshare-prefix-decode-stripes
-    slice-aggregate-decode-stripes
-    decode-stripes-requires
+    guess-rest-requires
+    mend-all-requires
+    same-length
     same-length-2
     same-length-3
     returns-2)

@@ -1,39 +1,47 @@
--- `newton` keeps to the lists that it is lent, and writes bytes. Which ones is a guess.
-use Rattle.polynomial.specs.Polynomial.{Bytes}
+-- `newton` meets its contract: the lengths stay.
 use lib.ListN.{length}
 use native.Mathlib.Omega.{arith}
-use mathlib.Core.Path.{_≡_, refl}
-use Prim.Native.Nat.{_-_, _≤_}
+use Prim.Native.Nat.{ℕ, _-_, _*_}
+use mathlib.Core.Path.{_≡_, ap}
 use borrow.Author.Needs.{needs}
 use Rattle.reed_solomon.proofs.guessing.newton.Statement.{statement}
 use Rattle.reed_solomon.proofs.guessing.newton.Tie as tie
 
 abbrev Inv-loop : tie.InvT-loop
-Inv-loop xs m₀ j₀ m j = (1 ≤ j) × (length m ≡ length m₀) × (length m₀ ≤ length xs) × Bytes m
+Inv-loop c cols₀ tmp₀ i₀ cols tmp i = (length cols ≡ length cols₀) × (length tmp ≡ length tmp₀)
 
 abbrev μ-loop : tie.MeasureT-loop
-μ-loop xs m₀ j₀ m j = length m₀ - j
+μ-loop c cols₀ tmp₀ i₀ cols tmp i = length c - i
 
 loop-holds : tie.Need-loop-holds Inv-loop μ-loop
-loop-holds c = (omega arith, refl, c .before .before .pre .0, c .before .before .pre .1)
+loop-holds c = search needs
 
-divide-differences-requires : tie.Need-divide-differences-requires Inv-loop μ-loop
-divide-differences-requires c κs = search needs
+newton-column-requires : tie.Need-newton-column-requires Inv-loop μ-loop
+newton-column-requires c κs =
+    let a = c .before .before .before .before .before .before .before .args in
+    let l = c .before .before .before .loop in (
+      omega (arith, ap (λ (x : ℕ). length (a .c .now) * x) (l .inv .1), c .before .before .before .before .before .before .before .pre .0),
+      omega arith,
+      omega arith,
+    )
 
-add-j : tie.Need-add-j Inv-loop μ-loop
-add-j c = omega arith
+add-i : tie.Need-add-i Inv-loop μ-loop
+add-i c = search needs
 
 loop-less : tie.Need-loop-less Inv-loop μ-loop
-loop-less c = omega arith
+loop-less c = search needs
 
 loop-again : tie.Need-loop-again Inv-loop μ-loop
-loop-again c = (omega arith, omega arith, omega arith, c .before .before .divide-differences .ensures)
+loop-again c = search needs
 
 same-length : tie.Need-same-length Inv-loop μ-loop
-same-length c = omega arith
+same-length c = search needs
+
+same-length-2 : tie.Need-same-length-2 Inv-loop μ-loop
+same-length-2 c = search needs
 
 returns : tie.Need-returns Inv-loop μ-loop
-returns c = c .before .loop .inv .3
+returns c = search needs
 
 pub newton-spec : {M : Type 1} → statement M
 newton-spec =
@@ -42,9 +50,10 @@ newton-spec =
     Inv-loop
     μ-loop
     loop-holds
-    divide-differences-requires
-    add-j
+    newton-column-requires
+    add-i
     loop-less
     loop-again
     same-length
+    same-length-2
     returns)

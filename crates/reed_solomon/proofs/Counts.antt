@@ -1,0 +1,99 @@
+-- Laws of the counts of the slots that differ in each stripe. The main one: `counted-slot`, the counts with one slot more.
+use mathlib.Core.Path.{_≡_, refl, sym, ap, ap₂, _∙_}
+use mathlib.Core.Bool.{Bool, true, false, not, _&&_}
+use mathlib.Core.List.{List}
+use mathlib.Core.Logic.{⊎-elim}
+use Prim.Native.Nat.{ℕ, _+_, _≤_, _<_}
+use native.Mathlib.Omega.{arith}
+use borrow.Author.Tests.{eqb-true, eqb-false, not-true, not-false}
+use lib.Dec.{eqb}
+use lib.ListN.{length, getD, replicate, List·getD-eq-default}
+use Rattle.lists.specs.Fill.{tabulate, filled}
+use Rattle.lists.specs.Sum.{ind}
+use Rattle.lists.proofs.Tests.{either, lt-or-le, and-tail, and-no-left}
+use Rattle.lists.proofs.Sums.{count-more, count-le, count-none-below, ind-no}
+use Rattle.lists.proofs.Fills.{length-tabulate, getD-tabulate, tabulate-ext, tabulate-const, filled-none, filled-all}
+use Rattle.wire.specs.Slot.{layoutWith, messageOf}
+use Rattle.wire.proofs.Laws.{length-message}
+use Rattle.polynomial.specs.Polynomial.{evaluate}
+use Rattle.reed_solomon.specs.Encode.{stripe, pieceOf}
+use Rattle.reed_solomon.specs.Decode.{hasPiece, received, differing}
+use Rattle.reed_solomon.specs.Steps.{counted}
+
+-- the length of the message of a slot that is present, and of one that is not
+pub length-present : (k : ℕ) (slots : List ℕ) (j : ℕ) → hasPiece k slots j ≡ true → length (messageOf slots (layoutWith k) j) ≡ k
+unfolding hasPiece
+length-present k slots j h =
+    let n = length (messageOf slots (layoutWith k) j) in
+    length-message slots (layoutWith k) j (eqb-false n 0 (not-true (eqb n 0) h))
+
+pub length-absent : (k : ℕ) (slots : List ℕ) (j : ℕ) → hasPiece k slots j ≡ false → length (messageOf slots (layoutWith k) j) ≡ 0
+unfolding hasPiece
+length-absent k slots j h =
+    let n = length (messageOf slots (layoutWith k) j) in
+    eqb-true n 0 (not-false (eqb n 0) h)
+
+pub message-le : (k : ℕ) (slots : List ℕ) (j : ℕ) → length (messageOf slots (layoutWith k) j) ≤ k
+message-le k slots j =
+    ⊎-elim
+    (λ (h : hasPiece k slots j ≡ true). omega (arith, length-present k slots j h))
+    (λ (h : hasPiece k slots j ≡ false). omega (arith, length-absent k slots j h))
+    (either (hasPiece k slots j))
+
+module _ (t k : ℕ) (slots block : List ℕ) where
+  -- the counts of the first i slots
+  unfoldable pub countsOf : ℕ → List ℕ
+  countsOf i = tabulate (λ s. differing i k slots s (stripe t block s)) k
+
+  pub counts-all : (i : ℕ) → countsOf i ≡ tabulate (λ s. differing i k slots s (stripe t block s)) k
+  unfolding countsOf
+  counts-all i = refl
+
+  pub counts-none : countsOf 0 ≡ replicate k 0
+  unfolding countsOf differing
+  counts-none =
+      tabulate-ext (λ s. differing 0 k slots s (stripe t block s)) (λ _. 0) k (λ s h. count-none-below _) ∙ tabulate-const 0 k
+
+  pub length-counts : (i : ℕ) → length (countsOf i) ≡ k
+  unfolding countsOf
+  length-counts i = length-tabulate (λ s. differing i k slots s (stripe t block s)) k
+
+  pub count-few : (i : ℕ) (counts : List ℕ) → counts ≡ countsOf i → i ≤ 16 → (s : ℕ) → getD counts s 0 < 255
+  unfolding countsOf differing
+  count-few i counts e h s =
+      ⊎-elim
+      (λ (l : s < k). omega (
+        arith,
+        ap (λ (x : List ℕ). getD x s 0) e,
+        getD-tabulate (λ s. differing i k slots s (stripe t block s)) k s 0 l,
+        count-le i (λ j. hasPiece k slots (j + 1) && not (eqb (evaluate (stripe t block s) (j + 1)) (received k slots s (j + 1)))),
+      ))
+      (λ (l : k ≤ s). omega (arith, List·getD-eq-default counts 0 {n = s} (omega (arith, ap length e, length-counts i))))
+      (lt-or-le s k)
+
+  pub counted-slot : (i : ℕ) (counts : List ℕ) → counts ≡ countsOf i
+      → counted (messageOf slots (layoutWith k) (i + 1)) (pieceOf k t block (i + 1)) counts ≡ countsOf (i + 1)
+  unfolding counted countsOf pieceOf differing received
+  counted-slot i counts e =
+      let m = messageOf slots (layoutWith k) (i + 1) in
+      let f : ℕ → ℕ = λ s. getD counts s 0 + ind (not (eqb (getD (pieceOf k t block (i + 1)) s 0) (getD m s 0))) in
+      let g : ℕ → ℕ → ℕ = λ i s. differing i k slots s (stripe t block s) in
+      let is : ℕ → ℕ → Bool = λ s j. hasPiece k slots (j + 1) && not (eqb (evaluate (stripe t block s) (j + 1)) (received k slots s (j + 1))) in
+      ⊎-elim
+      (λ (h : hasPiece k slots (i + 1) ≡ true).
+      ap (λ n. filled f n counts) (length-present k slots (i + 1) h) ∙ filled-all f k counts (ap length e ∙ length-counts i)
+      ∙ tabulate-ext f (g (i + 1)) k
+      (λ s l.
+      ap₂ _+_ (ap (λ (x : List ℕ). getD x s 0) e ∙ getD-tabulate (g i) k s 0 l)
+      (ap (λ (v : ℕ). ind (not (eqb v (getD m s 0)))) (getD-tabulate (λ s. evaluate (stripe t block s) (i + 1)) k s 0 l)
+      ∙ ap ind (sym (and-tail (hasPiece k slots (i + 1)) (not (eqb (evaluate (stripe t block s) (i + 1)) (getD m s 0))) h)))
+      ∙ sym (count-more i (is s))))
+      (λ (h : hasPiece k slots (i + 1) ≡ false).
+      ap (λ n. filled f n counts) (length-absent k slots (i + 1) h) ∙ filled-none f counts ∙ e
+      ∙ tabulate-ext (g i) (g (i + 1)) k
+      (λ s l. omega (
+        arith,
+        count-more i (is s),
+        ind-no (and-no-left (hasPiece k slots (i + 1)) (not (eqb (evaluate (stripe t block s) (i + 1)) (received k slots s (i + 1)))) h),
+      )))
+      (either (hasPiece k slots (i + 1)))
