@@ -1,6 +1,6 @@
 // The field of 256 elements: bytes, with exclusive or as the sum and the product of polynomials over two elements reduced by 11d
 // (document 01, 'Field and code'). Every function has an answer for every byte. Crates above know the contracts and the laws of
-// proofs/Laws.antt; each table is read by one function here and seen by nobody else.
+// proofs/Laws.antt; each table is read by one function here and seen by nobody else. Loops over many elements use no table.
 ghost use mathlib.Core.Path.{_≡_};
 ghost use Prim.Native.Nat.{_/_, min};
 ghost use lib.ListN.{length, getD};
@@ -141,7 +141,7 @@ fn least(a: usize, b: usize) -> usize
 }
 
 // Multiplies every element of p by a.
-// Shut out: every element added to a; the last one left.
+// Shut out: p as it was; the multiple of the first element everywhere.
 pub fn scale(p: &mut [u8], a: u8)
     ensures { λ _. ⌜ now (p .exit) ≡ tabulate (λ i. gmul a (getD (now (p .entry)) i 0)) (length (now (p .entry))) ⌝ }
 {
@@ -165,7 +165,7 @@ fn add_all(p: &mut [u8], q: &[u8])
 }
 
 // Adds b times q to p, element by element, as far as both reach.
-// Shut out: p multiplied too; the first one left.
+// Shut out: q itself added; all added to the first element of p.
 pub fn add_multiple(p: &mut [u8], b: u8, q: &[u8])
     ensures { λ _. ⌜ now (p .exit) ≡ filled (λ i. gadd (getD (now (p .entry)) i 0) (gmul b (getD (now (q .entry)) i 0))) (length (now (q .entry))) (now (p .entry)) ⌝ }
 {
@@ -179,7 +179,7 @@ pub fn add_multiple(p: &mut [u8], b: u8, q: &[u8])
 
 // A step of Horner's rule for one polynomial at many points: each element of p times its point of xs, and the coefficient c added, as far as both
 // reach.
-// Shut out: the points added; c times the element.
+// Shut out: c not added; the first point everywhere.
 pub fn horner_at_points(p: &mut [u8], xs: &[u8], c: u8)
     ensures { λ _. ⌜ now (p .exit) ≡ filled (λ i. gadd c (gmul (getD (now (xs .entry)) i 0) (getD (now (p .entry)) i 0))) (length (now (xs .entry))) (now (p .entry)) ⌝ }
 {
@@ -193,7 +193,7 @@ pub fn horner_at_points(p: &mut [u8], xs: &[u8], c: u8)
 
 // A step of Horner's rule for many polynomials at one point: each element of p times x, and its coefficient of cs added; one that cs has not is 00.
 // Two loops: the compiler makes sixteen bytes at a time of each, and not of both in one.
-// Shut out: cs multiplied and p added; p as it was where cs ends.
+// Shut out: p not multiplied; p taken for 00.
 pub fn horner_at_point(p: &mut [u8], x: u8, cs: &[u8])
     ensures { λ _. ⌜ now (p .exit) ≡ tabulate (λ i. gadd (getD (now (cs .entry)) i 0) (gmul x (getD (now (p .entry)) i 0))) (length (now (p .entry))) ⌝ }
 {

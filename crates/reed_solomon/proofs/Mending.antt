@@ -1,14 +1,13 @@
 -- From a guessed block to the one that meets the rule. The main laws: `mended` (after a stripe was decoded, all to the next wrong one are right) and
 -- `all-right` (where none is wrong, the block meets the rule).
 use mathlib.Core.Path.{_≡_, refl, sym, ap, subst, _∙_}
-use mathlib.Core.Bool.{true, false}
+use mathlib.Core.Bool.{true}
 use mathlib.Core.List.{List}
 use mathlib.Core.Logic.{⊎-elim}
 use Prim.Native.Nat.{ℕ, _+_, _*_, _≤_, _<_}
 use native.Mathlib.Omega.{arith}
 use lib.ListN.{length}
 use Rattle.lists.proofs.Tests.{lt-or-le}
-use Rattle.wire.specs.Length.{blockLength}
 use Rattle.wire.proofs.Laws.{block-length-is}
 use Rattle.polynomial.specs.Polynomial.{Bytes}
 use Rattle.reed_solomon.specs.Encode.{stripe}

@@ -11,7 +11,7 @@ use Rattle.lists.specs.Sum.{count}
 use Rattle.lists.specs.Fill.{tabulate, filled}
 use Rattle.lists.proofs.Sums.{count-ext}
 use Rattle.lists.proofs.Fills.{length-tabulate, getD-tabulate, tabulate-ext, tabulate-const, filled-all}
-use Rattle.bitset.specs.Set.{setOf, sizeOf}
+use Rattle.bitset.specs.Set.{sizeOf}
 use Rattle.bitset.proofs.Laws.{size-set}
 use Rattle.gf256.specs.Field.{gadd, gmul}
 use Rattle.polynomial.specs.Polynomial.{evaluate, horner, Bytes}

@@ -7,12 +7,12 @@ use mathlib.Core.Option.{Option, none, some}
 use mathlib.Core.Logic.{_⊎_, inl, inr, ⊎-elim}
 use Prim.Native.Nat.{ℕ, _+_, _*_, _≤_, _<_}
 use native.Mathlib.Omega.{arith}
-use borrow.Author.Tests.{eq-eqb, ne-eqb, eqb-true, eqb-false, le-leb, leb-true}
+use borrow.Author.Tests.{eq-eqb, ne-eqb, eqb-true, le-leb, leb-true}
 use lib.Dec.{eqb, leb, lit<}
 use lib.ListN.{length, getD}
 use Rattle.lists.specs.Sum.{count}
 use Rattle.lists.specs.Select.{Rising}
-use Rattle.lists.proofs.Sums.{count-le, count-all, count-none, count-full, count-mono, count-split}
+use Rattle.lists.proofs.Sums.{count-le, count-all, count-full, count-mono, count-split}
 use Rattle.lists.proofs.Fills.{length-tabulate, getD-tabulate}
 use Rattle.lists.proofs.Tests.{true≢false, fails, and-both, cond-yes, cond-no, lt-or-le}
 use Rattle.settings.specs.Refusal.{encodingRefusal, decodingRefusal}

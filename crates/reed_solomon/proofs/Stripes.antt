@@ -18,7 +18,7 @@ use Rattle.lists.proofs.Sums.{count-le, count-ext, count-not}
 use Rattle.lists.proofs.Selects.{selected-none, selected-yes, selected-no, rising-selected, rising-different, length-selected}
 use Rattle.lists.proofs.Selects.{count-selected}
 use Rattle.lists.proofs.Tests.{lt-or-le}
-use Rattle.lists.proofs.Fills.{length-tabulate, getD-tabulate}
+use Rattle.lists.proofs.Fills.{getD-tabulate}
 use Rattle.lists.proofs.Parts.{slot-within, drop-take}
 use Rattle.lists.proofs.Joins.{part-take, part-put-same, joined-parts, joined-ext}
 use Rattle.polynomial.specs.Polynomial.{evaluate, Bytes, Points}

@@ -40,7 +40,7 @@ use Rattle.polynomial.specs.Polynomial.{evaluate, Bytes}
 use Rattle.reed_solomon.specs.Encode.{stripe}
 use Rattle.reed_solomon.specs.declared.Decoded.the-variants.{Block, Beyond, Refused}
 use Rattle.reed_solomon.specs.declared.Decoded.{Decoded}
-use Rattle.reed_solomon.specs.Decode.{hasPiece, received, presentCount, differing, Decodes, namedOf}
+use Rattle.reed_solomon.specs.Decode.{hasPiece, received, differing, Decodes, namedOf}
 
 unfoldable pub points : (n k : ℕ) → List ℕ → List ℕ
 points n k slots = selected (hasPiece k slots) n

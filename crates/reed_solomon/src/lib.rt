@@ -13,7 +13,7 @@ ghost use Rattle.settings.specs.Valid.{Coded};
 ghost use Rattle.wire.specs.Length.{blockLength};
 ghost use Rattle.reed_solomon.specs.Encode.{pieceOf, encodeFits, encoded, encodeOf, isReady};
 ghost use Rattle.reed_solomon.specs.Decode.{hasPiece, received, decodeFits, decodeRefusal, Answers};
-ghost use Rattle.reed_solomon.specs.Steps.{column, valuesAt, unequal, different, isRight, NoneRight, Pointed, Settled, Mended, Rebuilds, Lent, Room, Listed};
+ghost use Rattle.reed_solomon.specs.Steps.{column, valuesAt, unequal, different, isRight, Pointed, Settled, Mended, Rebuilds, Lent, Room, Listed};
 
 // What decoding answers. The block itself is in the lent bytes; with it come the marks of the slots that were absent or did not hold their piece.
 pub enum Decoded {

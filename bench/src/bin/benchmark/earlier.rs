@@ -1,12 +1,9 @@
-//! Coding and the star beside an earlier version of the library, in one run: one before request U1 of document 02, whose decoding writes no
-//! marks. Only with the feature `earlier`; build.rs gives the functions of that version their other names.
-use crate::coding::{Case, N};
+//! Coding and the star beside an earlier version of the library, in one run: one from request U1 of document 02 on, whose decoding writes marks
+//! as today's does. Only with the feature `earlier`; build.rs gives the functions of that version their other names.
+use crate::coding::Case;
 use crate::random::Random;
 use crate::stars;
 use crate::timing::{in_turns, print_table, ratio, Side, Times};
-use potekawhi::raw;
-
-const K: usize = 128;
 
 extern "C" {
     fn earlier_encode(
@@ -27,6 +24,7 @@ extern "C" {
         slots_length: usize,
         block: *mut u8,
         block_length: usize,
+        named: *mut u16,
     ) -> u8;
     fn earlier_star(
         n: usize,
@@ -54,9 +52,8 @@ fn encode(n: usize, t: usize, k: usize, number: usize, block: &[u8], piece: &mut
     }
 }
 
-/// It leaves the marks as they are.
-fn decode(n: usize, t: usize, k: usize, slots: &[u8], block: &mut [u8], _: &mut u16) -> u8 {
-    // SAFETY: the pointers and lengths are those of slices, of which the written one overlaps no other.
+fn decode(n: usize, t: usize, k: usize, slots: &[u8], block: &mut [u8], named: &mut u16) -> u8 {
+    // SAFETY: the pointers and lengths are those of slices and of a number, of which those written overlap no other.
     unsafe {
         earlier_decode(
             n,
@@ -66,6 +63,7 @@ fn decode(n: usize, t: usize, k: usize, slots: &[u8], block: &mut [u8], _: &mut 
             slots.len(),
             block.as_mut_ptr(),
             block.len(),
+            named,
         )
     }
 }
@@ -84,53 +82,37 @@ fn star(n: usize, t: usize, rows: &[u8], sets: &mut [u8]) -> u8 {
     }
 }
 
-/// Encoding with t 1 and with t 5, each by the earlier version and by this one.
-const ENCODE: [Side<[Case; 2]>; 4] = [
-    (
-        |[one, _]| one.encode_by(encode),
-        |[one, _]| one.test_coded(),
-    ),
-    (
-        |[one, _]| one.encode_by(raw::encode),
-        |[one, _]| one.test_coded(),
-    ),
-    (
-        |[_, five]| five.encode_by(encode),
-        |[_, five]| five.test_coded(),
-    ),
-    (
-        |[_, five]| five.encode_by(raw::encode),
-        |[_, five]| five.test_coded(),
-    ),
+/// Each by the earlier version and by this one.
+const ENCODE: [Side<Case>; 2] = [
+    (|case| case.encode_by(encode), Case::test_coded),
+    Case::ENCODE,
 ];
 const DECODE: [Side<Case>; 2] = [
-    (|case| case.decode_by(decode), Case::test_decoded),
+    (|case| case.decode_by(decode), Case::test_named),
     Case::LIBRARY,
 ];
 
-/// Table 7: a product, encoding and decoding, beside the earlier version.
+/// Table 7: encoding and decoding beside the earlier version.
 pub fn against_earlier() {
+    let (t, k) = (5, 128);
     let mut random = Random::new(7);
-    let mut case = |t, wrong: &[usize]| Case::new(&mut random, t, K, wrong);
-    let mut blocks = [[case(1, &[]), case(5, &[])]];
-    let [earlier_1, now_1, earlier_5, now_5] = in_turns(&mut blocks, ENCODE);
-    // a value takes four products more with t 5 than with t 1, each with a sum and a turn of the loop
-    let products = [earlier_5.minus(&earlier_1), now_5.minus(&now_1)];
-    let none = in_turns(&mut [case(5, &[])], DECODE);
-    let wrong = in_turns(&mut [case(5, &[0, 1, 2, 3, 4])], DECODE);
-    let silent = in_turns(&mut [case(5, &[]).without(0..5)], DECODE);
+    let mut case = |k, wrong: &[usize]| Case::new(&mut random, t, k, wrong);
+    let shortest = in_turns(&mut [case(1, &[])], ENCODE);
+    let longest = in_turns(&mut [case(k, &[])], ENCODE);
+    let none = in_turns(&mut [case(k, &[])], DECODE);
+    let wrong = in_turns(&mut [case(k, &[0, 1, 2, 3, 4])], DECODE);
+    let silent = in_turns(&mut [case(k, &[]).without(0..t)], DECODE);
     let rows = [
-        ("a product, ns", products, (4 * N * K) as f64),
-        ("encode, us", [earlier_5, now_5], 1e3),
+        ("encode, k 1, ns", shortest, 1.0),
+        ("encode, us", longest, 1e3),
         ("decode, none false, us", none, 1e3),
         ("decode, 1 to 5 false, us", wrong, 1e3),
         ("decode, 1 to 5 silent, us", silent, 1e3),
     ];
     let rows = rows.map(|(name, times, unit)| row(name, times, unit));
     let heading =
-        "7. Coding beside an earlier version of the library, n 16, k 128. Encoding, of all 16 pieces, and decoding with t 5.
-A product is one in Horner's chain: a fourth of what a value takes longer with t 5 than with t 1.
-This version's decoding writes the marks of the false and the silent too, the earlier one's does not.
+        "7. Coding beside an earlier version of the library, n 16, t 5, k 128 where the row does not say 1. Encoding is of all 16 pieces.
+The false pieces are false in every byte. Both versions' decoding writes the marks of the false and the silent.
 Pieces and block are filled with a5 before each call, on both sides, within the time.";
     print_table(heading, NAMES, &rows);
 }

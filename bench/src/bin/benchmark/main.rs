@@ -1,6 +1,6 @@
-//! Measures the static library `boards`: decoding beside a peer, coding as blocks grow, the star, whole runs beside the reference, with the
-//! feature `isal` encoding beside ISA-L, and with the feature `earlier` coding and the star beside an earlier version. Every answer is
-//! compared. Arguments name the tables to print, by their numbers; with none all are printed.
+//! Measures the static library `boards`: decoding beside a peer, with pieces false in all stripes and in some, coding as blocks grow, the star,
+//! whole runs beside the reference, with the feature `isal` encoding beside ISA-L, and with the feature `earlier` coding and the star beside an
+//! earlier version. Every answer is compared. Arguments name the tables to print, by their numbers; with none all are printed.
 mod coding;
 #[cfg(feature = "earlier")]
 mod earlier;
@@ -18,13 +18,13 @@ const TABLES: &[(&str, fn())] = &[
     ("3", stars::of_sixteen),
     ("4", stars::by_controllers),
     ("5", runs::whole_runs),
-    ("9", coding::partly_false),
     #[cfg(feature = "isal")]
     ("6", isal::against_isal),
     #[cfg(feature = "earlier")]
     ("7", earlier::against_earlier),
     #[cfg(feature = "earlier")]
     ("8", earlier::stars_against_earlier),
+    ("9", coding::partly_false),
 ];
 
 /// The value behind the first line of a file of /proc that starts with a name; the file's first line where the name is empty.

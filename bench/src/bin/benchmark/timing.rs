@@ -23,13 +23,6 @@ impl Times {
         self.0[self.0.len() / 2]
     }
 
-    /// How much longer these are: the least than the least, and so on.
-    #[cfg(feature = "earlier")]
-    pub fn minus(&self, others: &Times) -> Times {
-        let pairs = self.0.iter().zip(&others.0);
-        Times::new(pairs.map(|(time, other)| time - other).collect())
-    }
-
     /// Median, least and most, in a unit of so many nanoseconds.
     pub fn cells(&self, unit: f64) -> [String; 3] {
         let (least, most) = (self.0[0], self.0[self.0.len() - 1]);

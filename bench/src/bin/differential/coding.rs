@@ -1,11 +1,18 @@
-//! encode and decode, with the marks that it writes: right and wrong settings and lengths, any numbers of absent slots and of false pieces,
-//! random slots.
+//! encode and decode, with the marks that it writes: right and wrong settings and lengths, any numbers of absent slots and of false pieces, which
+//! are false in all stripes or in some, random slots.
 use crate::compare::{wrong_length, Lent, Same, Tally};
-use crate::inputs::{self, EDGES};
+use crate::inputs::{self, EDGES, STRIPES};
 use crate::random::Random;
 use potekawhi::raw;
 use reference::code::{self, Decoded};
 use reference::controller::State;
+
+/// Numbers of stripes: the least, the most, and some at and beside powers of 2.
+const LENGTHS: [usize; 11] = [1, 2, 3, 15, 16, 17, 31, 32, 33, 127, 128];
+/// In so many cases `encode_piece` has each t with each of these lengths and each number of a piece, and `decode_partly` each t with each of
+/// them and each choice of stripes, as no two of the factors have a common divisor.
+pub const EVERY_PIECE: u64 = 5 * 11 * 16;
+pub const EVERY_CHOICE: u64 = 5 * 11 * 7;
 
 #[derive(Default)]
 pub struct Counts {
@@ -19,6 +26,9 @@ pub struct Counts {
     pub marked: u64,
     pub many_marked: u64,
     pub marked_later: u64,
+    /// Blocks with a present piece that is false in some stripes and true in others; and with more such pieces than are corrected in a stripe.
+    pub partly: u64,
+    pub many_partly: u64,
     pub beyonds: u64,
     /// Beyond with at most t slots present.
     pub few_present: u64,
@@ -37,6 +47,31 @@ pub fn encode(tally: &mut Tally, random: &mut Random, counts: &mut Counts) -> Sa
         let which = random.below(2);
         lengths[which] = wrong_length(random, lengths[which]);
     }
+    compare_encoding(tally, random, counts, (n, t, k, number), lengths)
+}
+
+/// Right settings and lengths; t, k and the number of the piece follow from that of the case.
+pub fn encode_piece(
+    tally: &mut Tally,
+    random: &mut Random,
+    case: u64,
+    counts: &mut Counts,
+) -> Same<()> {
+    let case = case as usize;
+    let (t, k, number) = (1 + case % 5, LENGTHS[case % 11], 1 + case % 16);
+    let n = random.within(number.max(3 * t + 1), 16);
+    let lengths = [k * (t + 1), k];
+    compare_encoding(tally, random, counts, (n, t, k, number), lengths)
+}
+
+/// What library and reference answer to a block, with block and piece of these lengths.
+fn compare_encoding(
+    tally: &mut Tally,
+    random: &mut Random,
+    counts: &mut Counts,
+    (n, t, k, number): (usize, usize, usize, usize),
+    lengths: [usize; 2],
+) -> Same<()> {
     let block = random.bytes(lengths[0]);
     let mut piece = random.bytes(lengths[1]);
     let lent_block = Lent::new(random, &block);
@@ -127,6 +162,40 @@ pub fn decode_count(
     compare_decoding(tally, random, counts, (n, t, k), &slots, &mut block)
 }
 
+/// Pieces that are false in some stripes only. The library guesses all stripes from t + 1 slots that it has not seen to be false, decodes by
+/// itself a stripe for which the guess is wrong, and guesses those behind it again: here the slots that it guesses from are false in some
+/// stripes, once or again and again, and not in the last, which it decodes first, or only there. t, k and the choice of stripes mostly follow
+/// from the number of the case.
+pub fn decode_partly(
+    tally: &mut Tally,
+    random: &mut Random,
+    case: u64,
+    counts: &mut Counts,
+) -> Same<()> {
+    let case = case as usize;
+    let (t, stripes) = (1 + case % 5, STRIPES[case % 7]);
+    let k = if random.one_in(8) {
+        random.within(1, 128)
+    } else {
+        LENGTHS[case % 11]
+    };
+    let n = if random.one_in(2) {
+        16
+    } else {
+        random.within(3 * t + 1, 16)
+    };
+    let coded = State {
+        n,
+        t,
+        k,
+        ..State::default()
+    };
+    let message = inputs::some_block(random, k * (t + 1));
+    let slots = inputs::received_partly(random, &coded, &message, stripes);
+    let mut block = random.bytes(k * (t + 1));
+    compare_decoding(tally, random, counts, (n, t, k), &slots, &mut block)
+}
+
 /// What library and reference answer to the same slots.
 fn compare_decoding(
     tally: &mut Tally,
@@ -176,7 +245,7 @@ fn compare_decoding(
             tally
                 .holds("2 * differing + t + 1 <= present", right)
                 .map_err(place)?;
-            let (unlike, later) = unlike_slots(&coded, slots, block);
+            let (unlike, later, partly) = unlike_slots(&coded, slots, block);
             tally
                 .holds("marks of the slots unlike the block's", named == unlike)
                 .map_err(place)?;
@@ -186,6 +255,9 @@ fn compare_decoding(
             counts.marked += u64::from(named != 0);
             counts.many_marked += u64::from(named.count_ones() as usize > t);
             counts.marked_later += u64::from(later != 0);
+            counts.partly += u64::from(partly != 0);
+            let many = 2 * partly.count_ones() as usize + t + 1 > present;
+            counts.many_partly += u64::from(partly != 0 && many);
         }
         255 => {
             counts.beyonds += 1;
@@ -208,15 +280,18 @@ fn most_differing(state: &State, slots: &[u8], block: &[u8]) -> usize {
     differing.into_iter().fold(0, usize::max)
 }
 
-/// The marks of the slots that are unlike those of a block's pieces, and of those among them whose first two bytes are alike.
-fn unlike_slots(state: &State, slots: &[u8], block: &[u8]) -> (u16, u16) {
-    let (mut unlike, mut later) = (0, 0);
+/// The marks of the slots that are unlike those of a block's pieces, of those among them whose first two bytes are alike, and of the present ones
+/// that are unlike in some stripes only.
+fn unlike_slots(state: &State, slots: &[u8], block: &[u8]) -> (u16, u16, u16) {
+    let (mut unlike, mut later, mut partly) = (0, 0, 0);
     for (i, slot) in slots.chunks(1 + state.k).enumerate() {
         let right = [vec![1], inputs::piece(state, i + 1, block)].concat();
+        let alike = (1..=state.k).any(|s| slot[s] == right[s]);
         unlike |= u16::from(slot != right) << i;
         later |= u16::from(slot != right && slot[..2] == right[..2]) << i;
+        partly |= u16::from(slot != right && slot[0] == 1 && alike) << i;
     }
-    (unlike, later)
+    (unlike, later, partly)
 }
 
 /// The slots of pieces, all present or some absent.

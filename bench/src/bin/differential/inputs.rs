@@ -51,8 +51,7 @@ pub fn settings(random: &mut Random) -> (usize, usize, usize) {
 
 /// Whether the reference, which tries sets of t + 1 present pieces, needs long for a block if pieces of low numbers are false.
 pub fn costly(n: usize, t: usize, k: usize) -> bool {
-    let sets = (0..=t).fold(1, |sets, i| sets * (n - i) / (i + 1));
-    sets * k > 10_000
+    choose(n, t + 1) * k > 10_000
 }
 
 /// Piece `number` of the coding of a block.
@@ -398,15 +397,137 @@ pub fn received_with(
             pieces[present[i]][s] ^= random.within(1, 255) as u8;
         }
     }
+    slots_of(random, &pieces, &present)
+}
+
+/// The slots of pieces, those at the indices `present` present. Behind the first byte of another stands its piece too, or anything.
+fn slots_of(random: &mut Random, pieces: &[Vec<u8>], present: &[usize]) -> Vec<u8> {
     let mut slots = Vec::new();
     for (i, piece) in pieces.iter().enumerate() {
         if present.contains(&i) {
             slots.extend(slot(random, piece, 0));
             continue;
         }
-        let any = random.bytes(k);
+        let any = random.bytes(piece.len());
         let behind = if random.one_in(2) { piece } else { &any };
         slots.extend(slot(random, behind, 16));
     }
     slots
+}
+
+/// In which stripes false pieces are false: all from a stripe on, up to a stripe, or in one; each from its own on, or in its own; or each in each
+/// stripe with one chance in so many.
+#[derive(Clone, Copy)]
+pub enum Stripes {
+    From,
+    UpTo,
+    One,
+    EachFrom,
+    EachOne,
+    Chance(usize),
+}
+
+pub const STRIPES: [Stripes; 7] = [
+    Stripes::From,
+    Stripes::UpTo,
+    Stripes::One,
+    Stripes::EachFrom,
+    Stripes::EachOne,
+    Stripes::Chance(2),
+    Stripes::Chance(32),
+];
+
+/// The slots of the pieces of a block, more than t of them present, of which up to as many as decoding corrects, or one more, or any number
+/// are false, in some stripes only. The false bytes are any, or those of another block's pieces. The false pieces are drawn again where the
+/// reference would try too many sets.
+pub fn received_partly(
+    random: &mut Random,
+    state: &State,
+    block: &[u8],
+    stripes: Stripes,
+) -> Vec<u8> {
+    let State { n, t, k, .. } = *state;
+    let count = if random.one_in(2) {
+        n
+    } else {
+        random.within(t + 1, n)
+    };
+    let mut present = random.order(n)[..count].to_vec();
+    present.sort_unstable();
+    let corrected = corrected(count, t);
+    let errors = match random.below(4) {
+        0 => random.within(0, corrected),
+        1 => corrected,
+        2 => corrected + 1,
+        _ => random.within(0, count),
+    };
+    let mut most = 2 * choose(count, t + 1).max(k);
+    let wrong = loop {
+        let wrong = wrong_stripes(random, (count, errors.min(count), k), stripes);
+        // the false ones may be those of another block, which is found then
+        let sets = |&marks: &u16| sets_before(count, t, marks).min(sets_before(count, t, !marks));
+        if wrong.iter().map(sets).sum::<usize>() <= most {
+            break wrong;
+        }
+        most += most / 4;
+    };
+
+    let other = random.one_in(2).then(|| sharing_block(random, n, t, block));
+    let mut pieces: Vec<Vec<u8>> = (1..=n).map(|j| piece(state, j, block)).collect();
+    for (i, &j) in present.iter().enumerate() {
+        let others = other.as_ref().map(|other| piece(state, j + 1, other));
+        for s in (0..k).filter(|&s| wrong[s] >> i & 1 == 1) {
+            pieces[j][s] = match &others {
+                Some(others) => others[s],
+                None => pieces[j][s] ^ random.within(1, 255) as u8,
+            };
+        }
+    }
+    slots_of(random, &pieces, &present)
+}
+
+/// For each of k stripes the marks of the false ones of `count` pieces, `errors` of which are false in some stripes.
+fn wrong_stripes(
+    random: &mut Random,
+    (count, errors, k): (usize, usize, usize),
+    stripes: Stripes,
+) -> Vec<u16> {
+    let mut wrong = vec![0; k];
+    let common = random.below(k);
+    for i in &random.order(count)[..errors] {
+        let own = random.below(k);
+        for s in 0..k {
+            let is_wrong = match stripes {
+                Stripes::From => s >= common,
+                Stripes::UpTo => s <= common,
+                Stripes::One => s == common,
+                Stripes::EachFrom => s >= own,
+                Stripes::EachOne => s == own,
+                Stripes::Chance(among) => random.one_in(among),
+            };
+            wrong[s] |= u16::from(is_wrong) << i;
+        }
+    }
+    wrong
+}
+
+/// How many sets of t + 1 of n pieces come, in dictionary order, before the first one without a marked piece; all, where there is none.
+fn sets_before(n: usize, t: usize, marks: u16) -> usize {
+    let (mut sets, mut missing) = (0, t + 1);
+    for i in 0..n {
+        if marks >> i & 1 == 1 {
+            sets += choose(n - 1 - i, missing - 1);
+            continue;
+        }
+        missing -= 1;
+        if missing == 0 {
+            return sets;
+        }
+    }
+    choose(n, t + 1)
+}
+
+/// How many sets of `size` of n there are.
+fn choose(n: usize, size: usize) -> usize {
+    (0..size).fold(1, |sets, i| sets * n.saturating_sub(i) / (i + 1))
 }

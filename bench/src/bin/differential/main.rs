@@ -26,6 +26,7 @@ const DAMAGED: u64 = 200_000;
 const STARTS: u64 = starts::COMBINATIONS;
 const ENCODES: u64 = 40_000;
 const DECODES: u64 = 50_000;
+const PARTLY: u64 = 11 * coding::EVERY_CHOICE;
 const STARS: u64 = 5_250;
 const MESSAGES: u64 = 40_000;
 
@@ -139,6 +140,10 @@ fn main() -> ExitCode {
     run.cases("encode", ENCODES, |tally, random, _| {
         coding::encode(tally, random, &mut coding)
     });
+    let all = coding::EVERY_PIECE;
+    run.cases("encode, every piece", all, |tally, random, number| {
+        coding::encode_piece(tally, random, number, &mut coding)
+    });
     run.line(format!(
         "encode: {} pieces, {} refused",
         coding.pieces, coding.encode_refused
@@ -151,15 +156,21 @@ fn main() -> ExitCode {
     run.cases("decode, every count", all, |tally, random, number| {
         coding::decode_count(tally, random, every_count[number as usize - 1], &mut coding)
     });
+    run.cases("decode, some stripes", PARTLY, |tally, random, number| {
+        coding::decode_partly(tally, random, number, &mut coding)
+    });
     run.line(format!(
         "decode: {} blocks, of them {} with more than t false pieces and {} with more than t absent, {} with marks, {} with more than t, {} with \
-         that of a slot whose first byte is true; {} beyond, of them {} with at most t present; {} refused",
+         that of a slot whose first byte is true, {} with pieces false in some stripes only, {} with more of these than a stripe may have; {} \
+         beyond, of them {} with at most t present; {} refused",
         coding.blocks,
         coding.many_false,
         coding.many_absent,
         coding.marked,
         coding.many_marked,
         coding.marked_later,
+        coding.partly,
+        coding.many_partly,
         coding.beyonds,
         coding.few_present,
         coding.decode_refused

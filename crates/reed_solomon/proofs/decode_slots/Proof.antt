@@ -1,8 +1,7 @@
 -- `decode_slots` meets its contract.
-use mathlib.Core.Path.{_≡_, sym, ap, subst, _∙_}
+use mathlib.Core.Path.{sym, subst}
 use native.Mathlib.Omega.{arith}
 use borrow.Author.Needs.{needs}
-use lib.ListN.{length}
 use lib.Seq.{length-take-le}
 use Rattle.reed_solomon.specs.Steps.{Pointed}
 use Rattle.reed_solomon.proofs.Rule.{few-beyond}

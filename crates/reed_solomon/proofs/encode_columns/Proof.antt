@@ -1,12 +1,12 @@
 -- `encode_columns` meets its contract. The invariant: the values of the coefficients from j on.
 use mathlib.Core.Path.{_≡_, refl, sym, ap, _∙_}
-use Prim.Native.Nat.{ℕ, _+_, _-_, _*_, _≤_}
+use Prim.Native.Nat.{_+_, _-_, _*_, _≤_}
 use native.Mathlib.Omega.{arith}
 use borrow.Author.Needs.{needs}
 use lib.ListN.{length}
 use Rattle.reed_solomon.specs.Encode.{stripe, pieceOf}
 use Rattle.reed_solomon.specs.Steps.{every}
-use Rattle.reed_solomon.proofs.Rows.{rowsFrom, length-rows, piece-end, piece-step, piece-all}
+use Rattle.reed_solomon.proofs.Rows.{rowsFrom, piece-end, piece-step, piece-all}
 use Rattle.reed_solomon.proofs.encode_columns.Statement.{statement}
 use Rattle.reed_solomon.proofs.encode_columns.Tie as tie
 

@@ -1,12 +1,11 @@
 -- `is_right` meets its contract: as many are marked as differ.
-use mathlib.Core.Path.{_≡_, ap, _∙_}
+use mathlib.Core.Path.{ap, _∙_}
 use Prim.Native.Nat.{_+_, _*_}
 use native.Mathlib.Omega.{arith}
 use borrow.Author.Needs.{needs}
 use lib.Dec.{leb}
 use lib.ListN.{length}
 use Rattle.bitset.specs.Set.{sizeOf}
-use Rattle.reed_solomon.specs.Steps.{differences}
 use Rattle.reed_solomon.proofs.Right.{size-different}
 use Rattle.reed_solomon.proofs.Stripes.{differences-le}
 use Rattle.reed_solomon.proofs.is_right.Statement.{statement}

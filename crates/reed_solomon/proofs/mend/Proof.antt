@@ -1,12 +1,10 @@
 -- `mend` meets its contract: stripe s is the one that was settled, and what stands before it stays.
-use mathlib.Core.Path.{_≡_, sym, ap, subst, _∙_}
-use mathlib.Core.Bool.{true}
-use mathlib.Core.List.{List}
-use Prim.Native.Nat.{ℕ, _+_, _-_, _*_, _≤_, _<_}
+use mathlib.Core.Path.{_≡_, sym, ap, _∙_}
+use Prim.Native.Nat.{_+_, _-_, _*_, _≤_}
 use native.Mathlib.Omega.{arith}
 use borrow.Author.Needs.{needs}
 use borrow.Rule.Slice.PartMut.{putMid}
-use lib.ListN.{length, take}
+use lib.ListN.{length}
 use Rattle.lists.proofs.Parts.{slot-within, front-put, length-lent}
 use Rattle.lists.proofs.Tests.{true≢false}
 use Rattle.reed_solomon.specs.Encode.{stripe}

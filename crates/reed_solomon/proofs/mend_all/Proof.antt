@@ -1,12 +1,10 @@
 -- `mend_all` meets its contract. The invariant: the stripes before s are right, and the marks are those of the block.
-use mathlib.Core.Path.{_≡_, refl, sym, ap, subst, _∙_}
+use mathlib.Core.Path.{_≡_, refl, sym, subst, _∙_}
 use mathlib.Core.Bool.{Bool, true}
-use mathlib.Core.List.{List}
-use Prim.Native.Nat.{ℕ, _+_, _-_, _*_}
+use Prim.Native.Nat.{_-_}
 use native.Mathlib.Omega.{arith}
 use borrow.Author.Needs.{needs}
 use borrow.Author.Tests.{not-true, not-false}
-use lib.ListN.{length}
 use Rattle.polynomial.specs.Polynomial.{Bytes}
 use Rattle.reed_solomon.specs.Decode.{presentCount}
 use Rattle.reed_solomon.specs.Steps.{Checked, Room, Mended}

@@ -6,7 +6,7 @@ use Prim.Native.Nat.{ℕ}
 use native.Mathlib.Omega.{arith}
 use borrow.Author.Needs.{needs}
 use types.Run.{OneOf}
-use lib.ListN.{length, replicate}
+use lib.ListN.{replicate}
 use Rattle.wire.proofs.Laws.{block-length-is}
 use denote.Enum.Declared.{tagOf}
 use Rattle.reed_solomon.proofs.Decoded as declared

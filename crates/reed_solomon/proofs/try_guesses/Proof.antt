@@ -1,8 +1,7 @@
 -- `try_guesses` meets its contract. The invariant: the length of m.
 use mathlib.Core.Path.{_≡_, refl, sym, _∙_}
-use Prim.Native.Nat.{ℕ, _-_}
+use Prim.Native.Nat.{_-_}
 use native.Mathlib.Omega.{arith}
-use borrow.Author.Needs.{needs}
 use lib.ListN.{length}
 use Rattle.reed_solomon.proofs.try_guesses.Statement.{statement}
 use Rattle.reed_solomon.proofs.try_guesses.Tie as tie

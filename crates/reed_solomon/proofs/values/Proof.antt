@@ -1,10 +1,9 @@
 -- `values` meets its contract. The invariant: the values of the coefficients from index j on.
-use mathlib.Core.Path.{_≡_, refl, sym, ap, _∙_}
-use Prim.Native.Nat.{ℕ, _+_, _-_, _≤_}
+use mathlib.Core.Path.{_≡_, refl, ap, _∙_}
+use Prim.Native.Nat.{_+_, _-_, _≤_}
 use native.Mathlib.Omega.{arith}
 use borrow.Author.Needs.{needs}
 use lib.ListN.{length, replicate}
-use Rattle.lists.proofs.Fills.{length-tabulate}
 use Rattle.reed_solomon.proofs.Right.{valuesFrom, values-none, values-step, values-all}
 use Rattle.reed_solomon.proofs.values.Statement.{statement}
 use Rattle.reed_solomon.proofs.values.Tie as tie
