@@ -10,8 +10,8 @@ use Rattle.interpolation.specs.Interpolation.{candidate}
 use Rattle.interpolation.proofs.Laws.{into-candidate}
 use Rattle.reed_solomon.specs.Steps.{isRight}
 use Rattle.reed_solomon.proofs.Rule.{none-right}
-use Rattle.reed_solomon.proofs.find.Statement.{statement}
-use Rattle.reed_solomon.proofs.find.Tie as tie
+use Rattle.reed_solomon.proofs.settling.find.Statement.{statement}
+use Rattle.reed_solomon.proofs.settling.find.Tie as tie
 
 try-guesses-requires : tie.Need-try-guesses-requires
 try-guesses-requires c κs = search needs

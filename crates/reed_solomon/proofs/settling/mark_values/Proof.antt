@@ -4,8 +4,8 @@ use mathlib.Core.List.{List}
 use borrow.Author.Needs.{needs}
 use Prim.Native.Nat.{ℕ}
 use Rattle.reed_solomon.specs.Steps.{unequal, different}
-use Rattle.reed_solomon.proofs.mark_values.Statement.{statement}
-use Rattle.reed_solomon.proofs.mark_values.Tie as tie
+use Rattle.reed_solomon.proofs.settling.mark_values.Statement.{statement}
+use Rattle.reed_solomon.proofs.settling.mark_values.Tie as tie
 
 values-requires : tie.Need-values-requires
 values-requires c κs = search needs

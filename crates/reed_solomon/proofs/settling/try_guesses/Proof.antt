@@ -3,8 +3,8 @@ use mathlib.Core.Path.{_≡_, refl, sym, _∙_}
 use Prim.Native.Nat.{_-_}
 use native.Mathlib.Omega.{arith}
 use lib.ListN.{length}
-use Rattle.reed_solomon.proofs.try_guesses.Statement.{statement}
-use Rattle.reed_solomon.proofs.try_guesses.Tie as tie
+use Rattle.reed_solomon.proofs.settling.try_guesses.Statement.{statement}
+use Rattle.reed_solomon.proofs.settling.try_guesses.Tie as tie
 
 abbrev Inv-loop : tie.InvT-loop
 Inv-loop slots t k s xs marks ys m₀ start₀ m start = length m ≡ length m₀

@@ -5,8 +5,8 @@ use native.Mathlib.Omega.{arith}
 use borrow.Author.Needs.{needs}
 use lib.ListN.{length, replicate}
 use Rattle.reed_solomon.proofs.Right.{valuesFrom, values-none, values-step, values-all}
-use Rattle.reed_solomon.proofs.values.Statement.{statement}
-use Rattle.reed_solomon.proofs.values.Tie as tie
+use Rattle.reed_solomon.proofs.settling.values.Statement.{statement}
+use Rattle.reed_solomon.proofs.settling.values.Tie as tie
 
 abbrev Inv-loop : tie.InvT-loop
 Inv-loop m xs out₀ j₀ out j = (j ≤ length m) × (length out ≡ length out₀) × (out ≡ valuesFrom m xs j)

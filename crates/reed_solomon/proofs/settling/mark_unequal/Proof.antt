@@ -10,8 +10,8 @@ use lib.ListN.{length, getD}
 use Rattle.bitset.specs.Set.{setOf, inserted}
 use Rattle.bitset.proofs.Laws.{set-none, insert-next, insert-skip}
 use Rattle.reed_solomon.specs.Steps.{unequal}
-use Rattle.reed_solomon.proofs.mark_unequal.Statement.{statement}
-use Rattle.reed_solomon.proofs.mark_unequal.Tie as tie
+use Rattle.reed_solomon.proofs.settling.mark_unequal.Statement.{statement}
+use Rattle.reed_solomon.proofs.settling.mark_unequal.Tie as tie
 
 abbrev Inv-loop : tie.InvT-loop
 Inv-loop a b marks₀ i₀ marks i = (i ≤ length a) × (marks ≡ setOf i (λ j. not (eqb (getD a j 0) (getD b j 0))))

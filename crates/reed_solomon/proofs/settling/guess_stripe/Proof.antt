@@ -4,8 +4,8 @@ use Prim.Native.Nat.{_+_}
 use native.Mathlib.Omega.{arith}
 use borrow.Author.Needs.{needs}
 use Rattle.lists.proofs.Zeros.{length-front}
-use Rattle.reed_solomon.proofs.guess_stripe.Statement.{statement}
-use Rattle.reed_solomon.proofs.guess_stripe.Tie as tie
+use Rattle.reed_solomon.proofs.settling.guess_stripe.Statement.{statement}
+use Rattle.reed_solomon.proofs.settling.guess_stripe.Tie as tie
 
 add-w : tie.Need-add-w
 add-w c = search needs

@@ -8,8 +8,8 @@ use lib.ListN.{getD}
 use native.Mathlib.Omega.{arith}
 use mathlib.Core.Path.{_≡_, sym, ap, _∙_}
 use borrow.Author.Needs.{needs}
-use Rattle.reed_solomon.proofs.received.Statement.{statement}
-use Rattle.reed_solomon.proofs.received.Tie as tie
+use Rattle.reed_solomon.proofs.settling.received.Statement.{statement}
+use Rattle.reed_solomon.proofs.settling.received.Tie as tie
 
 layout-with-requires : tie.Need-layout-with-requires
 layout-with-requires c κs = search needs

@@ -8,8 +8,8 @@ use native.Mathlib.Omega.{arith}
 use Prim.Native.Nat.{ℕ, _-_, _≤_}
 use mathlib.Core.Path.{_≡_, refl, sym, ap, _∙_}
 use borrow.Author.Needs.{needs}
-use Rattle.reed_solomon.proofs.gather.Statement.{statement}
-use Rattle.reed_solomon.proofs.gather.Tie as tie
+use Rattle.reed_solomon.proofs.settling.gather.Statement.{statement}
+use Rattle.reed_solomon.proofs.settling.gather.Tie as tie
 
 abbrev Inv-loop : tie.InvT-loop
 Inv-loop slots k s xs ys₀ i₀ ys i = (i ≤ length xs) × (length ys ≡ length ys₀) × (ys ≡ filled (λ j. received k slots s (getD xs j 0)) i ys₀)

@@ -8,8 +8,8 @@ use lib.ListN.{length}
 use Rattle.bitset.specs.Set.{sizeOf}
 use Rattle.reed_solomon.proofs.Right.{size-different}
 use Rattle.reed_solomon.proofs.Stripes.{differences-le}
-use Rattle.reed_solomon.proofs.is_right.Statement.{statement}
-use Rattle.reed_solomon.proofs.is_right.Tie as tie
+use Rattle.reed_solomon.proofs.settling.is_right.Statement.{statement}
+use Rattle.reed_solomon.proofs.settling.is_right.Tie as tie
 
 mark-different-requires : tie.Need-mark-different-requires
 mark-different-requires c κs = search needs

@@ -3,8 +3,8 @@ use mathlib.Core.Path.{sym}
 use borrow.Author.Needs.{needs}
 use lib.ListN.{length}
 use Rattle.lists.proofs.Zeros.{length-front}
-use Rattle.reed_solomon.proofs.settle.Statement.{statement}
-use Rattle.reed_solomon.proofs.settle.Tie as tie
+use Rattle.reed_solomon.proofs.settling.settle.Statement.{statement}
+use Rattle.reed_solomon.proofs.settling.settle.Tie as tie
 
 array-borrow-prefix-ys : tie.Need-array-borrow-prefix-ys
 array-borrow-prefix-ys c = search needs

@@ -6,8 +6,8 @@ use borrow.Author.Needs.{needs}
 use lib.Dec.{ltb}
 use lib.ListN.{length}
 use Rattle.reed_solomon.specs.Steps.{Settled}
-use Rattle.reed_solomon.proofs.settle_column.Statement.{statement}
-use Rattle.reed_solomon.proofs.settle_column.Tie as tie
+use Rattle.reed_solomon.proofs.settling.settle_column.Statement.{statement}
+use Rattle.reed_solomon.proofs.settling.settle_column.Tie as tie
 
 gather-requires : tie.Need-gather-requires
 gather-requires c κs = search needs

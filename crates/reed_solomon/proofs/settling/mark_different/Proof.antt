@@ -3,8 +3,8 @@ use mathlib.Core.Path.{sym}
 use borrow.Author.Needs.{needs}
 use lib.ListN.{length}
 use Rattle.lists.proofs.Zeros.{length-front}
-use Rattle.reed_solomon.proofs.mark_different.Statement.{statement}
-use Rattle.reed_solomon.proofs.mark_different.Tie as tie
+use Rattle.reed_solomon.proofs.settling.mark_different.Statement.{statement}
+use Rattle.reed_solomon.proofs.settling.mark_different.Tie as tie
 
 array-borrow-prefix-vs : tie.Need-array-borrow-prefix-vs
 array-borrow-prefix-vs c = search needs
