@@ -1,7 +1,8 @@
 /* How much stack the functions of the library use. Each is called on a stack of its own that was filled with one byte value before; what
  * differs afterwards was used. What the call itself takes here, some hundred bytes, is in the figures. They are of these inputs: the largest
  * settings, n 16, t 5 and k 128; every call of a run, with random messages in all slots, in call 3t + 7 that one of many graphs of which the
- * star uses most; decoding, by itself and in the last call, of pieces of which the first t are false. No theorem bounds the stack. */
+ * star uses most; decoding, by itself and in the last call, of pieces of which t are false in all stripes but the last, one in each set of slots that a
+ * guess is made from, so that a stripe is interpolated with errors inside the search. No theorem bounds the stack. */
 #define _XOPEN_SOURCE 700
 #include <stdbool.h>
 #include <stddef.h>
@@ -109,16 +110,25 @@ static void fill_inbox(size_t message_length) {
     }
 }
 
-/* The marks of the first T controllers. */
-#define FIRST ((1u << T) - 1)
+/* Whether the piece of controller j is false, for T of them: 1, 4, 7 and so on. */
+static int is_false(size_t j) { return j % 3 == 1 && j <= 3 * T; }
 
-/* Slots of the block's pieces, of which the first T are false in every byte. */
+/* Their marks. */
+static unsigned false_marks(void) {
+    unsigned marks = 0;
+    for (size_t j = 1; j <= N; j++) {
+        marks |= (unsigned)is_false(j) << (j - 1);
+    }
+    return marks;
+}
+
+/* Slots of the block's pieces, of which T are false in every byte but the last. */
 static void fill_pieces(void) {
     for (size_t j = 1; j <= N; j++) {
         uint8_t *slot = inbox + (j - 1) * (1 + K);
         slot[0] = 1;
         potekawhi_encode(N, T, K, j, block, sizeof block, slot + 1, K);
-        for (size_t s = 1; s <= K && j <= T; s++) {
+        for (size_t s = 1; s < K && is_false(j); s++) {
             slot[s] ^= 0xff;
         }
     }
@@ -193,9 +203,9 @@ int main(void) {
             right = report(name, bytes) && right;
         }
     }
-    right = right && potekawhi_named(state, sizeof state) == FIRST;
+    right = right && potekawhi_named(state, sizeof state) == false_marks();
     right = report("potekawhi_encode", used(encode)) && right && answer == POTEKAWHI_OK;
     fill_pieces();
-    right = report("potekawhi_decode", used(decode)) && right && answer == POTEKAWHI_OK && named == FIRST;
+    right = report("potekawhi_decode", used(decode)) && right && answer == POTEKAWHI_OK && named == false_marks();
     return right ? 0 : 1;
 }
