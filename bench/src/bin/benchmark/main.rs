@@ -18,13 +18,14 @@ const TABLES: &[(&str, fn())] = &[
     ("3", stars::of_sixteen),
     ("4", stars::by_controllers),
     ("5", runs::whole_runs),
-    #[cfg(feature = "isal")]
-    ("6", isal::against_isal),
     #[cfg(feature = "earlier")]
     ("7", earlier::against_earlier),
     #[cfg(feature = "earlier")]
     ("8", earlier::stars_against_earlier),
     ("9", coding::partly_false),
+    // last: once ISA-L's wide instructions have run, the library's loops take longer in the same process
+    #[cfg(feature = "isal")]
+    ("6", isal::against_isal),
 ];
 
 /// The value behind the first line of a file of /proc that starts with a name; the file's first line where the name is empty.
