@@ -1,4 +1,4 @@
-//! One controller: start and step (document 01, 'The house', 'Rounds', 'Turned down'; document 02, U1), for all inputs, refused ones too, and
+//! One controller: start and step (document 01, 'The house', 'Rounds', 'Turned down'; document 02, U1 and U6), for all inputs, refused ones too, and
 //! for states that no run reaches.
 use crate::code::{self, Decoded};
 use crate::vote::{self, Message};
@@ -20,6 +20,7 @@ pub struct State {
     pub t: usize,
     pub k: usize,
     pub own: usize,
+    /// 0 if there is none.
     pub sender: usize,
     /// The number of the next call.
     pub next: usize,
@@ -34,11 +35,11 @@ pub struct State {
     pub named: u16,
 }
 
-/// Rows 1 to 5 of 'Turned down', in order; 0 if none of them is met.
+/// Rows 1 to 5 of 'Turned down', in order, row 5 as U6 has it; 0 if none of them is met.
 fn settings_refusal(n: usize, t: usize, k: usize, own: usize, sender: usize) -> u8 {
     match code::settings_refusal(n as u128, t as u128, k as u128) {
         0 if !(1..=n).contains(&own) => 4,
-        0 if !(1..=n).contains(&sender) => 5,
+        0 if !(0..=n).contains(&sender) => 5,
         number => number,
     }
 }
@@ -187,11 +188,13 @@ impl State {
         piece
     }
 
-    /// Call 2: the block is the sender's message, zeros if absent; to j go the own piece and piece j.
+    /// Call 2: the block is the sender's message, zeros if absent; without a sender it is kept. To j go the own piece and piece j.
     fn disperse(&self, block: &mut [u8], received: &[Message]) -> Vec<Message> {
-        match &received[self.sender - 1] {
-            Some(message) => block.copy_from_slice(message),
-            None => block.fill(0),
+        if self.sender != 0 {
+            match &received[self.sender - 1] {
+                Some(message) => block.copy_from_slice(message),
+                None => block.fill(0),
+            }
         }
         let own = self.piece(block, self.own);
         (1..=self.n)
@@ -316,6 +319,24 @@ mod tests {
         let sender = State { own: 1, ..at(1) };
         let (_, outbox) = carried_out(sender, &mut block, &[]);
         assert_eq!(outbox, slots(2, [&[10, 20]; 4]));
+    }
+
+    /// Without a sender round 1 is silent, and whatever arrives in it the block is kept.
+    #[test]
+    fn no_sender() {
+        for own in 1..=4 {
+            let (number, state) = start(4, 1, 1, own, 0, &[10, 20]);
+            assert_eq!(number, 0);
+            let mut block = [10, 20];
+            let (state, outbox) = carried_out(state, &mut block, &[]);
+            assert_eq!(outbox, [0; 12]);
+            let inbox = slots(2, [&[1, 2], &[3, 4], &[5, 6], &[7, 8]]);
+            let (_, outbox) = carried_out(state, &mut block, &inbox);
+            assert_eq!(block, [10, 20]);
+            let pieces = [0x1e, 0x22, 0x36, 0x5a];
+            let sent = pieces.map(|piece| [pieces[own - 1], piece]);
+            assert_eq!(outbox, slots(2, sent.each_ref().map(|m| &m[..])));
+        }
     }
 
     /// Example c of document 01: 0a14 codes to 1e 22 36 5a.

@@ -1,4 +1,4 @@
-//! The simulator (document 01, 'The house program'): a file of a system is read, the system is played, its outcomes are written.
+//! The simulator (document 01, 'The house program'; document 02, U6): a file of a system is read, the system is played, its outcomes are written.
 use crate::controller::{start, step, Outcome, State};
 use crate::wire;
 use std::collections::{BTreeMap, BTreeSet};
@@ -28,6 +28,7 @@ pub struct System {
     pub n: usize,
     pub t: usize,
     pub k: usize,
+    /// 0 if there is none.
     pub sender: usize,
     pub block: Vec<u8>,
     /// Who stands under `from`.
@@ -130,7 +131,7 @@ fn settings(line: &[u8]) -> Option<System> {
         n,
         t,
         k,
-        sender: number(sender, 1, n)?,
+        sender: number(sender, 0, n)?,
         block: bytes(block, k * (t + 1))?,
         faulty: BTreeSet::new(),
         messages: BTreeMap::new(),
@@ -335,6 +336,20 @@ mod tests {
         assert_eq!(output("\n"), "bad,1\n");
     }
 
+    /// Without a sender the blocks of round 1 are not read: all correct controllers keep the file's, and so nobody is left out.
+    #[test]
+    fn no_sender() {
+        let expected = changed("4,1,1,1,0a14", "4,1,1,0,0a14");
+        let rows: String = (2..=4).map(|i| format!("{i},agreed,0a14\n")).collect();
+        assert_eq!(expected, format!("{OUTCOME_NAMES}\n{rows}"));
+        let input = EXAMPLE.replace("4,1,1,1,0a14", "4,1,1,0,0a14");
+        let cores = read(input.as_bytes()).unwrap().play();
+        assert!(cores.iter().all(|c| c.state.core & 0b1110 == 0b1110));
+        // with sender 1 controller 4 has another block than 2 and 3
+        let cores = read(EXAMPLE.as_bytes()).unwrap().play();
+        assert!(cores.iter().all(|c| c.state.core & 0b1110 == 0b0110));
+    }
+
     #[test]
     fn wrong_settings() {
         assert_eq!(changed("controllers", "Controllers"), "bad,1\n");
@@ -345,7 +360,7 @@ mod tests {
             "6,2,1,1,0a1414",
             "4,1,0,1,",
             "4,1,33,1,0a14",
-            "4,1,1,0,0a14",
+            "4,1,1,00,0a14",
             "4,1,1,5,0a14",
             "4,1,1,1,0A14",
             "4,1,1,1,0a1",

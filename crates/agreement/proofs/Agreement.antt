@@ -17,7 +17,7 @@ use Rattle.agreement.proofs.Graph.{Graph, graph-laws}
 use Rattle.agreement.proofs.Votes.{by-index}
 use Rattle.agreement.proofs.Cores.{lastMatrix}
 use Rattle.agreement.proofs.Ends.{set-by-last, named-at-end}
-use Rattle.agreement.proofs.Verdict.{verdict, sender-verdict}
+use Rattle.agreement.proofs.Verdict.{verdict, sender-verdict, alike-verdict}
 
 module _ (code : (n t k : ℕ) → Coded n t k → Code n t k) (graph : (n t : ℕ) → Quorum n t → (rows : List ℕ) → Graph rows n t) where
   pub concluded : Agreement
@@ -33,6 +33,8 @@ module _ (code : (n t k : ℕ) → Coded n t k → Code n t k) (graph : (n t : �
         same-block = λ i j f g. let v = verdict S H i f (C i f) (G i f) .2 in v .all i f .1 ∙ sym (v .all j g .1);
         sender-outcome = λ i g f. sender-verdict S H i f (C i f) (G i f) g .all i f .0;
         sender-block = λ i g f. sender-verdict S H i f (C i f) (G i f) g .all i f .1;
+        alike-outcome = λ i B a f. alike-verdict S H i f (C i f) (G i f) B a .all i f .0;
+        alike-block = λ i B a f. alike-verdict S H i f (C i f) (G i f) B a .all i f .1;
       }
 
 -- demand 3

@@ -1,5 +1,5 @@
--- Step 2. After call 2 each correct controller i holds a block B i (`is-block`), the sender's if the sender is correct (`sender-block`). The
--- marks of i have a correct j exactly where the codings of B i and B j agree at both their places (`marks-agree`, `agree-marks`).
+-- Step 2. After call 2 each correct controller i holds a block B i (`is-block`): the sender's if the sender is correct (`sender-block`), its own
+-- if there is no sender (`own-block`). The marks of i have a correct j exactly where the codings of B i and B j agree at both their places (`marks-agree`, `agree-marks`).
 use mathlib.Core.Path.{_≡_, refl, sym, ap, subst, _∙_}
 use mathlib.Core.Bool.{true}
 use mathlib.Core.List.{List, _++_}
@@ -23,13 +23,13 @@ use Rattle.wire.proofs.Laws.{call-send, call-receive, call-compare, round-block
 use Rattle.wire.proofs.Laws.{Sized, sized-bytes}
 use Rattle.reed_solomon.specs.Encode.{pieceOf}
 use Rattle.dispersal.specs.Dispersal.{sentBlock, receivedBlock, twoPieces, sentPieces, isMarked, marksOf, marksMessage, sentMarks}
-use Rattle.dispersal.proofs.Laws.{sent-block, received-message, length-received, received-all, sent-pieces, two-pieces-is, marks-set, marked-yes, yes-marked}
-use Rattle.dispersal.proofs.Laws.{sent-marks}
+use Rattle.dispersal.proofs.Laws.{sent-block, received-kept, received-message, length-received, received-all, sent-pieces, two-pieces-is, marks-set}
+use Rattle.dispersal.proofs.Laws.{marked-yes, yes-marked, sent-marks}
 use Rattle.protocol.specs.Calls.{Carried, sendCall, receiveCall, compareCall}
 use Rattle.protocol.proofs.Laws.{of-send, of-receive, of-compare}
 use Rattle.agreement.specs.Run.{Local}
 use Rattle.agreement.specs.Agreement.{System, Correct, Supposed, call, layoutOf}
-use Rattle.agreement.proofs.System.{coded, numbered, length-block, call-at, call-first, length-round, outbox-long, block-long, performs-kind, sends-by}
+use Rattle.agreement.proofs.System.{coded, numbered, length-block, call-at, call-first, call-next, length-round, outbox-long, performs-kind, sends-by}
 use Rattle.agreement.proofs.System.{block-from, delivered}
 use Rattle.agreement.proofs.Coding.{IsBlock, Code}
 
@@ -52,7 +52,16 @@ module _ (S : System) (H : Supposed S) where
     len-3 = length-round S H i f 3 (round-marks (S .settings .t)) (row-marks (S .settings .n) (S .settings .t) (S .settings .k))
 
     -- ---- call 2
-    received : heldBlock S i ≡ receivedBlock (call S i 2 .lent .inbox) (layoutOf S 1) (S .settings .sender) (call S i 2 .before .block)
+    -- it is lent the block that the controller was started with, since call 1 keeps it
+    lent-2 : call S i 2 .before .block ≡ S .block i
+    lent-2 =
+        ap (λ (h : Local). h .block) (call-next S H i f 1 (omega arith) (omega arith))
+        ∙ call-at S H i f 1 (omega arith) (omega arith) .block-is
+        ∙ ap (λ (x : Carried). x .block)
+        (performs-kind S H i f 1 (omega arith) (omega arith) Send (call-send (S .settings .t)) (λ s b _ o. sendCall s b o) of-send)
+        ∙ ap (λ (h : Local). h .block) (call-first S H i f)
+
+    received : heldBlock S i ≡ receivedBlock (call S i 2 .lent .inbox) (layoutOf S 1) (S .settings .sender) (S .block i)
     received =
         let m = call S i 2 in
         let r = call-at S H i f 2 (omega arith) (omega arith) in
@@ -60,20 +69,19 @@ module _ (S : System) (H : Supposed S) where
         r .block-is
         ∙ ap (λ (x : Carried). x .block) (performs-kind S H i f 2 (omega arith) (omega arith) Receive (call-receive (S .settings .t)) receiveCall of-receive)
         ∙ (λ x. receivedBlock (m .lent .inbox) (roundLayout (a .settings-is x .n) (a .settings-is x .t) (a .settings-is x .k) (a .next-is x - 1))
-        (a .settings-is x .sender) (m .before .block))
+        (a .settings-is x .sender) (lent-2 x))
 
-    long-2 : length (call S i 2 .before .block) ≡ layoutOf S 1 .length
-    long-2 = block-long S H i f 2 (omega arith) (omega arith) ∙ sym len-1
+    long-2 : length (S .block i) ≡ layoutOf S 1 .length
+    long-2 = length-block S H i f ∙ sym len-1
 
     pub is-block : IsBlock (S .settings .k) (S .settings .t) (heldBlock S i)
     is-block = record {
       size =
-          ap length received ∙ length-received (call S i 2 .lent .inbox) (layoutOf S 1) (S .settings .sender) (call S i 2 .before .block)
-          ∙ block-long S H i f 2 (omega arith) (omega arith);
+          ap length received ∙ length-received (call S i 2 .lent .inbox) (layoutOf S 1) (S .settings .sender) (S .block i) ∙ length-block S H i f;
       bytes = λ p.
           subst (λ (l : List ℕ). lib.ListN.getD l p 0 < 256) (sym received)
-          (received-all (call S i 2 .lent .inbox) (layoutOf S 1) (S .settings .sender) (call S i 2 .before .block) (λ x. x < 256) (lit< tt)
-          (call S i 2 .lent .inbox-bytes) long-2 p);
+          (received-all (call S i 2 .lent .inbox) (layoutOf S 1) (S .settings .sender) (S .block i) (λ x. x < 256) (lit< tt)
+          (call S i 2 .lent .inbox-bytes) (S .block-bytes i) long-2 p);
     }
 
     -- round 2: to j the own piece, then piece j
@@ -84,6 +92,8 @@ module _ (S : System) (H : Supposed S) where
         sends-by S H i f 2 (omega arith) (omega arith) Receive (call-receive (S .settings .t)) receiveCall of-receive
         (λ s own next. sentPieces (s .n) (s .t) (s .k) own
         (receivedBlock (m .lent .inbox) (roundLayout (s .n) (s .t) (s .k) (next - 1)) (s .sender) (m .before .block)) o) refl
+        ∙ ap (λ (b : List ℕ). sentPieces (S .settings .n) (S .settings .t) (S .settings .k) i
+        (receivedBlock (m .lent .inbox) (layoutOf S 1) (S .settings .sender) b) o) lent-2
         ∙ ap (λ (b : List ℕ). sentPieces (S .settings .n) (S .settings .t) (S .settings .k) i b o) (sym received)
         ∙ sent-pieces (S .settings .n) (S .settings .t) (S .settings .k) i (heldBlock S i) (coded S H i f) (numbered S H i f) (is-block .size) o
         (outbox-long S H i f 2 (omega arith) (omega arith) ∙ ap (λ (x : Layout). S .settings .n * width x) layout-2)
@@ -135,26 +145,27 @@ module _ (S : System) (H : Supposed S) where
     sent =
         let i = S .settings .sender in
         let m = call S i 1 in
-        let long : length (S .block i) ≡ layoutOf S 1 .length = length-block S H i g ∙ sym (len-1 i g) in
         let F : Settings → ℕ → ℕ → List ℕ → List ℕ = λ s own next b.
         sentBlock (roundLayout (s .n) (s .t) (s .k) next) (s .n) own (s .sender) b (m .lent .outbox) in
         sends-by S H i g 1 (omega arith) (omega arith) Send (call-send (S .settings .t)) (λ s b _ o. sendCall s b o) of-send
         (λ s own next. F s own next (m .before .block)) refl
         ∙ ap (F (S .settings) i 1) (ap (λ (h : Local). h .block) (call-first S H i g))
-        ∙ sent-block (layoutOf S 1) (S .settings .n) i i (S .block i) (m .lent .outbox) refl long (outbox-long S H i g 1 (omega arith) (omega arith))
+        ∙ sent-block (layoutOf S 1) (S .settings .n) i i (S .block i) (m .lent .outbox) refl (long-2 i g) (outbox-long S H i g 1 (omega arith) (omega arith))
 
     pub sender-block : (i : ℕ) → Correct S i → heldBlock S i ≡ S .block (S .settings .sender)
     sender-block i f =
-        let long : length (S .block (S .settings .sender)) ≡ layoutOf S 1 .length = length-block S H (S .settings .sender) g
-        ∙ sym (len-1 (S .settings .sender) g) in
         let came : messageOf (call S i 2 .lent .inbox) (layoutOf S 1) (S .settings .sender) ≡ S .block (S .settings .sender) =
         delivered S H (S .settings .sender) i 1 g f (omega arith) (omega arith) (λ _. bytes (S .block (S .settings .sender)))
-        (λ m. sized-bytes (layoutOf S 1) (S .block (S .settings .sender)) long) sent in
+        (λ m. sized-bytes (layoutOf S 1) (S .block (S .settings .sender)) (long-2 (S .settings .sender) g)) sent in
         let some : 0 < S .settings .k * (S .settings .t + 1) = mul-pos (coded S H i f .k-least) (omega arith) in
         received i f
-        ∙ received-message (call S i 2 .lent .inbox) (layoutOf S 1) (S .settings .sender) (call S i 2 .before .block)
+        ∙ received-message (call S i 2 .lent .inbox) (layoutOf S 1) (S .settings .sender) (S .block i) (λ z. omega (arith, g .least, z))
         (λ z. omega (arith, ap length came, length-block S H (S .settings .sender) g, block-length-is (S .settings .k) (S .settings .t))) (long-2 i f)
         ∙ came
+
+  -- ---- there is no sender
+  pub own-block : S .settings .sender ≡ 0 → (i : ℕ) → Correct S i → heldBlock S i ≡ S .block i
+  own-block z i f = received i f ∙ received-kept (call S i 2 .lent .inbox) (layoutOf S 1) (S .settings .sender) (S .block i) z
 
   -- ---- marks between two correct controllers
   module _ (C : Code (S .settings .n) (S .settings .t) (S .settings .k)) where

@@ -1,6 +1,7 @@
 -- Step 7. One core for all: with none all say none and zeros; else its correct members hold one block, and all end with agreed and that block;
--- either way they name no correct controller (`verdict`). If the sender is correct, the correct controllers are a clique of at least n - t, so that the
--- core holds them all (`sender-in-core`) and the block is the sender's (`sender-verdict`).
+-- either way they name no correct controller (`verdict`). If all held one block after call 2, the correct controllers are a clique of at least n - t,
+-- so that the core holds them all (`common-in-core`) and the block is that one (`common-verdict`): with a correct sender the sender's (`sender-in-core`,
+-- `sender-verdict`), without a sender the one that all were started with (`alike-verdict`).
 use mathlib.Core.Path.{_≡_, sym, ap, ap₂, subst, _∙_}
 use mathlib.Core.Bool.{true, false, _&&_}
 use mathlib.Core.List.{List}
@@ -18,12 +19,12 @@ use Rattle.reed_solomon.specs.Encode.{pieceOf}
 use Rattle.protocol.specs.Calls.{coreOf}
 use Rattle.reconstruction.specs.declared.Outcome.{Outcome}
 use Rattle.reconstruction.specs.declared.Outcome.the-variants.{Agreed, None}
-use Rattle.agreement.specs.Agreement.{System, Correct, Supposed, outcomeOf, blockOf}
+use Rattle.agreement.specs.Agreement.{System, Correct, Supposed, StartedAlike, outcomeOf, blockOf}
 use Rattle.agreement.specs.Named.{namedBy}
 use Rattle.agreement.proofs.System.{coded}
 use Rattle.agreement.proofs.Coding.{IsBlock, Code}
 use Rattle.agreement.proofs.Graph.{Graph}
-use Rattle.agreement.proofs.Blocks.{heldBlock, is-block, agree-marks, sender-block}
+use Rattle.agreement.proofs.Blocks.{heldBlock, is-block, agree-marks, sender-block, own-block}
 use Rattle.agreement.proofs.Votes.{correctAt, by-index, to-index, most-correct, row-is-marks}
 use Rattle.agreement.proofs.Cores.{lastMatrix, one-core, one-block, enough-correct}
 use Rattle.agreement.proofs.Ends.{ends-none, none-unnamed, ends-agreed, ends-unnamed}
@@ -92,22 +93,22 @@ module _ (S : System) (H : Supposed S) (w : ℕ) (f : Correct S w) (C : Code (S 
       (λ (z : coreSet ≡ 0 → ⊥). let r = held-by z in (Agreed, heldBlock S (r .0 + 1), r .1))
       (same-or-not coreSet 0)
 
-  -- ---- the sender is correct
-  module _ (g : Correct S (S .settings .sender)) where
+  -- ---- all held one block after call 2
+  module _ (B : List ℕ) (common : (i : ℕ) → Correct S i → heldBlock S i ≡ B) where
     -- correct controllers mark each other
     marked : (x y : ℕ) (p : Correct S (x + 1)) (q : Correct S (y + 1)) → member (getD (lastMatrix S w) x 0) y ≡ true
     marked x y p q =
         let a : x + 1 - 1 ≡ x = omega arith in
         let b : y + 1 - 1 ≡ y = omega arith in
-        let same : heldBlock S (y + 1) ≡ heldBlock S (x + 1) = sender-block S H g (y + 1) q ∙ sym (sender-block S H g (x + 1) p) in
+        let same : heldBlock S (y + 1) ≡ heldBlock S (x + 1) = common (y + 1) q ∙ sym (common (x + 1) p) in
         ap₂ member (ap (λ (z : ℕ). getD (lastMatrix S w) z 0) (sym a) ∙ row-is-marks S H few-rows w (x + 1) f p) (sym b)
         ∙ agree-marks S H C (x + 1) (y + 1) p q
-        (ap (λ (B : List ℕ). pieceOf (S .settings .k) (S .settings .t) B (y + 1)) same)
-        (ap (λ (B : List ℕ). pieceOf (S .settings .k) (S .settings .t) B (x + 1)) same)
+        (ap (λ (b : List ℕ). pieceOf (S .settings .k) (S .settings .t) b (y + 1)) same)
+        (ap (λ (b : List ℕ). pieceOf (S .settings .k) (S .settings .t) b (x + 1)) same)
 
     -- so that they are all in the core
-    pub sender-in-core : (i : ℕ) → Correct S i → member coreSet (i - 1) ≡ true
-    sender-in-core i h =
+    pub common-in-core : (i : ℕ) → Correct S i → member coreSet (i - 1) ≡ true
+    common-in-core i h =
         let r = to-index S i h in
         G .clique-in (correctAt S)
         (λ x y l m p q.
@@ -116,9 +117,20 @@ module _ (S : System) (H : Supposed S) (w : ℕ) (f : Correct S w) (C : Code (S 
         G .marks-near x y (marked x y fx fy) (marked y x fy fx))
         (most-correct S H) (i - 1) (r .0) (r .1)
 
-    pub sender-verdict : Verdict Agreed (S .block (S .settings .sender))
-    sender-verdict =
-        with (λ z. true≢false (sym (ap (λ (x : ℕ). member x (w - 1)) (sym z) ∙ sender-in-core w f) ∙ member-over 0 0 (w - 1) (lit< tt) (omega arith)))
-        (S .block (S .settings .sender))
-        (subst (IsBlock (S .settings .k) (S .settings .t)) (sender-block S H g w f) (is-block S H w f))
-        (λ i h m. sender-block S H g i h)
+    pub common-verdict : Verdict Agreed B
+    common-verdict =
+        with (λ z. true≢false (sym (ap (λ (x : ℕ). member x (w - 1)) (sym z) ∙ common-in-core w f) ∙ member-over 0 0 (w - 1) (lit< tt) (omega arith)))
+        B
+        (subst (IsBlock (S .settings .k) (S .settings .t)) (common w f) (is-block S H w f))
+        (λ i h m. common i h)
+
+  -- ---- the sender is correct
+  pub sender-in-core : Correct S (S .settings .sender) → (i : ℕ) → Correct S i → member coreSet (i - 1) ≡ true
+  sender-in-core g = common-in-core (S .block (S .settings .sender)) (sender-block S H g)
+
+  pub sender-verdict : Correct S (S .settings .sender) → Verdict Agreed (S .block (S .settings .sender))
+  sender-verdict g = common-verdict (S .block (S .settings .sender)) (sender-block S H g)
+
+  -- ---- there is no sender, and all were started with one block
+  pub alike-verdict : (B : List ℕ) → StartedAlike S B → Verdict Agreed B
+  alike-verdict B a = common-verdict B (λ i h. own-block S H (a .no-sender) i h ∙ a .alike i h)

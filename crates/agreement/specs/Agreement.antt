@@ -1,4 +1,5 @@
--- Demand 3, as one proposition on the lists of steps of all correct controllers of a system together (document 01, 'The house').
+-- Demand 3, as one proposition on the lists of steps of all correct controllers of a system together (document 01, 'The house'). Runs without a
+-- sender, sender 0, are taken in (document 02, U6).
 --   System                   the settings; who is correct; the block that each was started with; the steps each made after its start
 --   Correct S i              controller i is one of 1 .. n, and correct (document 01: it follows the steps)
 --   atStart, callsOf, atEnd  what a controller holds at its start, its calls, and what it holds after all its steps
@@ -12,6 +13,7 @@
 --   outcomeOf, blockOf       the outcome and the block at the end
 --   SetByLast S i            outcome and block at the end are those that the last call sets
 --   RefusesMore S i          every later step is refused with 8 and leaves both
+--   StartedAlike S B         there is no sender, and every correct controller was started with the block B
 --   Concluded S              what is concluded
 --   Agreement                demand 3: supposed implies concluded
 --   Holds S i A              controller i ends with the block A agreed on (document 01: it holds the plan)
@@ -118,16 +120,23 @@ pub record SetByLast (S : System) (i : ℕ) : Type 0 where
 abbrev pub RefusesMore : System → ℕ → Type 0
 RefusesMore S i = (l : Lent) → (stepped (atEnd S i) l .answer .number ≡ 8) × (left (atEnd S i) l ≡ atEnd S i)
 
+pub record StartedAlike (S : System) (B : List ℕ) : Type 0 where
+  pub no-sender : S .settings .sender ≡ 0
+  pub alike : (i : ℕ) → Correct S i → S .block i ≡ B
+
 pub record Concluded (S : System) : Type 0 where
   -- each correct controller's outcome and block are those that the last call sets, and later steps leave them
   pub set : (i : ℕ) → Correct S i → SetByLast S i
   pub later : (i : ℕ) → Correct S i → RefusesMore S i
-  -- the outcomes are equal, and the blocks are equal byte for byte
+  -- the outcomes are equal, and the blocks are equal byte for byte; without a sender too, whatever blocks the controllers were started with
   pub same-outcome : (i j : ℕ) → Correct S i → Correct S j → outcomeOf S i ≡ outcomeOf S j
   pub same-block : (i j : ℕ) → Correct S i → Correct S j → blockOf S i ≡ blockOf S j
   -- if the sender is correct, every outcome is agreed, and every block is the one that the sender was started with
   pub sender-outcome : (i : ℕ) → Correct S (S .settings .sender) → Correct S i → outcomeOf S i ≡ Agreed
   pub sender-block : (i : ℕ) → Correct S (S .settings .sender) → Correct S i → blockOf S i ≡ S .block (S .settings .sender)
+  -- if there is no sender and all correct controllers were started with one block, every outcome is agreed, and every block is that one
+  pub alike-outcome : (i : ℕ) (B : List ℕ) → StartedAlike S B → Correct S i → outcomeOf S i ≡ Agreed
+  pub alike-block : (i : ℕ) (B : List ℕ) → StartedAlike S B → Correct S i → blockOf S i ≡ B
 
 abbrev pub Agreement : Type 0
 Agreement = (S : System) → Supposed S → Concluded S

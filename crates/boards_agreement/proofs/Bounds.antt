@@ -72,7 +72,7 @@ fresh-words s own v =
     let q = v .coded .quorum in
     zeros-words (freshState s own)
     (numbers-lt (freshState s own) (omega (arith, q .n-most)) (omega (arith, q .n-most, q .t-most)) (omega (arith, v .coded .k-most))
-    (omega (arith, q .n-most, v .number .most)) (omega (arith, q .n-most, v .sender .most)) (lit< tt))
+    (omega (arith, q .n-most, v .number .most)) (omega (arith, q .n-most, v .sender)) (lit< tt))
     refl
     refl
     refl

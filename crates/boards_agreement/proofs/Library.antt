@@ -6,12 +6,12 @@ use Prim.Native.Nat.{ℕ, _+_, _-_}
 use native.Mathlib.Omega.{arith}
 use lib.ListN.{length}
 use Rattle.settings.specs.declared.Settings.{Settings}
-use Rattle.wire.specs.Length.{blockSize}
+use Rattle.wire.specs.Length.{blockLength, blockSize}
 use Rattle.wire.proofs.Laws.{block-size-is}
 use Rattle.protocol.specs.Step.{startOf}
 use Rattle.protocol.proofs.Laws.{step-refused, step-number}
 use Rattle.agreement.specs.Run.{Lent, Local, stepped, left, leftAfter, begun}
-use Rattle.agreement.specs.Agreement.{System, Correct, Supposed, atStart, atEnd, last, lastInbox}
+use Rattle.agreement.specs.Agreement.{System, Correct, Supposed, Holds, atStart, atEnd, last, lastInbox}
 use Rattle.agreement.proofs.Laws.{At, coded, length-block, call-at, call-last, agreement, named-by-last, no-correct-named, named-by-many}
 use Rattle.state_bytes.specs.State.{stateLength, stateBytes, Words}
 use Rattle.bitset.specs.Set.{member}
@@ -129,16 +129,14 @@ module _ (S : System) (supposed : Supposed S) (buffers : ℕ → List ℕ) (size
       (agreement S supposed .same-outcome i j ci cj) (end-size i ci ∙ sym (end-size j cj)) (agreement S supposed .same-block i j ci cj)
       ∙ sym (ap (λ (c : Kept). finalBytes (c .state) (c .block) out) (at j cj))
 
-  senders-final : (i : ℕ) → Correct S (S .settings .sender) → Correct S i → (out : List ℕ) → length out ≡ length (S .block (S .settings .sender))
-      → finalBytes (keptAt S buffers i .state) (keptAt S buffers i .block) out ≡ returned 1 (S .block (S .settings .sender))
+  -- agreed on a block of the stated length: 1 and that block
+  agreed-final : (i : ℕ) → Correct S i → (B : List ℕ) → Holds S i B → length B ≡ blockLength (S .settings .k) (S .settings .t) → (out : List ℕ)
+      → length out ≡ length B → finalBytes (keptAt S buffers i .state) (keptAt S buffers i .block) out ≡ returned 1 B
   unfolding asKept
-  senders-final i cs ci out e =
-      let o = agreement S supposed .sender-outcome i cs ci in
-      let b = agreement S supposed .sender-block i cs ci in
+  agreed-final i ci B (o, b) long out e =
       let r : outcomeNumber (atEnd S i .state .outcome) ≡ 1 = ap outcomeNumber o in
-      let size : length (S .block (S .settings .sender)) ≡ blockSize (atEnd S i .state .settings .n) (atEnd S i .state .settings .t)
-      (atEnd S i .state .settings .k)
-      = length-block S supposed (S .settings .sender) cs ∙ sym (block-size-is (coded S supposed (S .settings .sender) cs)) ∙ sym (end-size i ci) in
+      let size : length B ≡ blockSize (atEnd S i .state .settings .n) (atEnd S i .state .settings .t) (atEnd S i .state .settings .k)
+      = long ∙ sym (block-size-is (coded S supposed i ci)) ∙ sym (end-size i ci) in
       ap (λ (c : Kept). finalBytes (c .state) (c .block) out) (at i ci)
       ∙ final-bytes (atEnd S i .state) (end-words i) (atEnd S i .block) out (ap length b ∙ size) (e ∙ size) (λ z. omega (arith, r, z))
       ∙ ap₂ returned r b
@@ -150,7 +148,14 @@ library-agrees S supposed buffers sizes = record {
   same-outcome = one-outcome S supposed buffers sizes;
   same-block = one-block S supposed buffers sizes;
   same-final = one-final S supposed buffers sizes;
-  sender-final = senders-final S supposed buffers sizes;
+  sender-final = λ i cs ci.
+      let C = agreement S supposed in
+      agreed-final S supposed buffers sizes i ci (S .block (S .settings .sender)) (C .sender-outcome i cs ci, C .sender-block i cs ci)
+      (length-block S supposed (S .settings .sender) cs);
+  alike-final = λ i B a ci.
+      let C = agreement S supposed in
+      agreed-final S supposed buffers sizes i ci B (C .alike-outcome i B a ci, C .alike-block i B a ci)
+      (ap length (sym (a .alike i ci)) ∙ length-block S supposed i ci);
 }
 
 pub library-names : LibraryNames

@@ -11,7 +11,8 @@
 --   keptAt S buffers i       what controller i keeps after all its steps, with a buffer of its own
 --   SetByLastCall ..         controller i's outcome and block are those that the last call sets
 --   OneOutcome S buffers     these; later steps answer 8 and change nothing; one outcome and one block; one final block; with a correct sender the
---                            outcome agreed, 1, and the sender's block
+--                            outcome agreed, 1, and the sender's block; without a sender (document 02, U6) agreed and the block that all correct
+--                            controllers were started with, if it was one
 --   LibraryAgrees            that holds of every system that `agreement` supposes, run through the library
 --   NamedRight S buffers     document 02, U1: with the outcome agreed a correct controller names those whose piece in the last round was absent, or was
 --                            not, byte for byte, their piece of its block; with any other outcome nobody; and no correct controller in any case. So
@@ -30,7 +31,7 @@ use Rattle.reconstruction.specs.declared.Outcome.the-variants.{Agreed, None, Be
 use Rattle.reconstruction.specs.Outcomes.{outcomeNumber}
 use Rattle.protocol.specs.Step.{startOf}
 use Rattle.agreement.specs.Run.{Lent, stepped, leftAfter, begun}
-use Rattle.agreement.specs.Agreement.{System, Correct, Supposed, lastCore, lastInbox}
+use Rattle.agreement.specs.Agreement.{System, Correct, Supposed, StartedAlike, lastCore, lastInbox}
 use Rattle.state_bytes.specs.State.{stateLength}
 use Rattle.boards.specs.Boards.{ReturnedStep, returnedStep, stepAsBytes, startBytes, stepBytes, outcomeIn, namedIn, finalBytes, returned}
 
@@ -84,6 +85,8 @@ pub record OneOutcome (S : System) (buffers : ℕ → List ℕ) : Type 0 where
       → finalBytes (keptAt S buffers i .state) (keptAt S buffers i .block) out ≡ finalBytes (keptAt S buffers j .state) (keptAt S buffers j .block) out
   pub sender-final : (i : ℕ) → Correct S (S .settings .sender) → Correct S i → (out : List ℕ) → length out ≡ length (S .block (S .settings .sender))
       → finalBytes (keptAt S buffers i .state) (keptAt S buffers i .block) out ≡ returned 1 (S .block (S .settings .sender))
+  pub alike-final : (i : ℕ) (B : List ℕ) → StartedAlike S B → Correct S i → (out : List ℕ) → length out ≡ length B
+      → finalBytes (keptAt S buffers i .state) (keptAt S buffers i .block) out ≡ returned 1 B
 
 abbrev pub LibraryAgrees : Type 0
 LibraryAgrees = (S : System) → Supposed S → (buffers : ℕ → List ℕ) → ((i : ℕ) → length (buffers i) ≡ stateLength) → OneOutcome S buffers

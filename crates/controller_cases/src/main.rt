@@ -21,7 +21,7 @@ ghost use Prim.Native.Nat.{_<_};
 
 // n, t, k, own number, sender and lent length of each start: each row of the refusal table by itself; two rows that apply, of which the first
 // counts; and starts that are taken.
-const STARTS: [[usize; 6]; 45] = [
+const STARTS: [[usize; 6]; 49] = [
     [3, 1, 1, 1, 1, 2],
     [17, 1, 1, 1, 1, 2],
     [0, 1, 1, 1, 1, 2],
@@ -38,40 +38,44 @@ const STARTS: [[usize; 6]; 45] = [
     [4, 1, 1, 0, 1, 2],
     [4, 1, 1, 5, 1, 2],
     [4, 1, 1, 18446744073709551615, 1, 2],
-    [4, 1, 1, 1, 0, 2],
+    [4, 1, 1, 0, 0, 2],
+    [16, 5, 1, 1, 17, 6],
     [4, 1, 1, 1, 5, 2],
     [4, 1, 1, 1, 18446744073709551615, 2],
     [4, 1, 1, 1, 1, 0],
     [4, 1, 1, 1, 1, 1],
     [4, 1, 1, 1, 1, 3],
+    [4, 1, 1, 1, 0, 3],
     [7, 2, 128, 7, 7, 383],
     [7, 2, 128, 7, 7, 385],
     [3, 0, 1, 1, 1, 1],
     [3, 1, 0, 1, 1, 0],
     [3, 1, 1, 0, 1, 2],
-    [3, 1, 1, 1, 0, 2],
+    [3, 1, 1, 1, 4, 2],
     [3, 1, 1, 1, 1, 3],
     [4, 0, 129, 1, 1, 129],
     [4, 0, 1, 0, 1, 1],
-    [4, 0, 1, 1, 0, 1],
+    [4, 0, 1, 1, 5, 1],
     [4, 0, 1, 1, 1, 2],
     [4, 1, 0, 0, 1, 0],
-    [4, 1, 0, 1, 0, 0],
+    [4, 1, 0, 1, 5, 0],
     [4, 1, 0, 1, 1, 1],
-    [4, 1, 1, 0, 0, 2],
+    [4, 1, 1, 0, 5, 2],
     [4, 1, 1, 0, 1, 3],
-    [4, 1, 1, 1, 0, 3],
-    [3, 0, 0, 0, 0, 9],
+    [4, 1, 1, 1, 5, 3],
+    [3, 0, 0, 0, 4, 9],
     [4, 1, 1, 1, 1, 2],
     [4, 1, 1, 4, 4, 2],
     [7, 2, 128, 7, 1, 384],
     [16, 1, 128, 16, 16, 256],
     [16, 5, 128, 1, 16, 768],
+    [4, 1, 1, 1, 0, 2],
+    [16, 5, 128, 16, 0, 768],
 ];
 
 // n, t, k, own number, sender and next call of the state given, and the lent lengths of block, inbox and outbox: settings out of range; the
 // next call out of range, and the run finished; two rows that apply, 7 before 8 before 6.
-const STEPS: [[usize; 9]; 40] = [
+const STEPS: [[usize; 9]; 43] = [
     [3, 1, 1, 1, 1, 1, 2, 0, 12],
     [17, 1, 1, 1, 1, 1, 2, 0, 12],
     [18446744073709551615, 1, 1, 1, 1, 1, 2, 0, 12],
@@ -84,7 +88,8 @@ const STEPS: [[usize; 9]; 40] = [
     [4, 1, 1, 0, 1, 1, 2, 0, 12],
     [4, 1, 1, 5, 1, 1, 2, 0, 12],
     [4, 1, 1, 18446744073709551615, 1, 1, 2, 0, 12],
-    [4, 1, 1, 1, 0, 1, 2, 0, 12],
+    [4, 1, 1, 0, 0, 1, 2, 0, 12],
+    [16, 5, 3, 1, 17, 1, 18, 0, 304],
     [4, 1, 1, 1, 5, 1, 2, 0, 12],
     [4, 1, 1, 1, 18446744073709551615, 1, 2, 0, 12],
     [4, 1, 1, 1, 1, 0, 2, 0, 0],
@@ -98,10 +103,12 @@ const STEPS: [[usize; 9]; 40] = [
     [7, 2, 2, 7, 1, 16, 6, 0, 0],
     [16, 5, 3, 1, 16, 26, 18, 0, 0],
     [16, 5, 3, 1, 16, 25, 18, 0, 0],
+    [4, 1, 1, 1, 0, 14, 2, 0, 0],
+    [4, 1, 1, 1, 0, 13, 2, 0, 0],
     [3, 1, 1, 1, 1, 13, 2, 0, 0],
     [4, 1, 0, 1, 1, 13, 0, 0, 0],
     [4, 1, 1, 5, 1, 13, 2, 0, 0],
-    [4, 1, 1, 1, 0, 13, 2, 0, 0],
+    [4, 1, 1, 1, 5, 13, 2, 0, 0],
     [4, 0, 1, 1, 1, 10, 1, 0, 0],
     [3, 1, 1, 1, 1, 0, 2, 0, 0],
     [3, 1, 1, 1, 1, 1, 3, 1, 13],
@@ -428,7 +435,7 @@ fn lengths(n: usize, t: usize, k: usize) {
 }
 
 fn start_at(i: usize) -> [usize; 6]
-    requires { ⌜ i < 45 ⌝ }
+    requires { ⌜ i < 49 ⌝ }
 {
     STARTS[i]
 }
@@ -440,14 +447,14 @@ fn start_row(r: [usize; 6]) {
 
 fn starts() {
     let mut i: usize = 0;
-    while i < 45 {
+    while i < 49 {
         start_row(start_at(i));
         i += 1;
     }
 }
 
 fn step_at(i: usize) -> [usize; 9]
-    requires { ⌜ i < 40 ⌝ }
+    requires { ⌜ i < 43 ⌝ }
 {
     STEPS[i]
 }
@@ -460,7 +467,7 @@ fn step_row(r: [usize; 9]) {
 
 fn steps() {
     let mut i: usize = 0;
-    while i < 40 {
+    while i < 43 {
         step_row(step_at(i));
         i += 1;
     }
@@ -554,6 +561,12 @@ fn run_other() {
     run(7, 2, 2, 4, 2, &mut block);
 }
 
+// Without a sender (document 02, U6) the block is kept until the last call.
+fn run_without_sender() {
+    let mut block = [10u8, 20];
+    run(4, 1, 1, 3, 0, &mut block);
+}
+
 // The state of controller 1, the sender, before its last call.
 fn before_last(n: usize, t: usize, k: usize, core: u16) -> State {
     let mut s = given(n, t, k, 1, 1, call_count(t));
@@ -628,6 +641,7 @@ fn main() {
     run_small();
     run_sender();
     run_other();
+    run_without_sender();
     last_examples();
     last_stripes();
     last_silent();

@@ -1,9 +1,9 @@
--- Laws of calls 1 to 3 within the settings. The main ones: `sent-block`, `sent-silence` and `sent-pieces` (what is sent), `received-message` (the
--- block is the sender's message), `marked-yes` and `yes-marked` (when the message of a controller with block B is marked), `row-of-marks` (the
--- marks are read back), `bytes-marks` (they are sent as bytes).
+-- Laws of calls 1 to 3 within the settings. The main ones: `sent-block`, `sent-silence` and `sent-pieces` (what is sent), `received-kept` and
+-- `received-message` (the block is the lent one, or the sender's message), `marked-yes` and `yes-marked` (when the message of a controller with
+-- block B is marked), `row-of-marks` (the marks are read back), `bytes-marks` (they are sent as bytes).
 use mathlib.Core.Path.{_≡_, refl, sym, ap, subst, _∙_}
 use mathlib.Core.Logic.{⊎-elim}
-use mathlib.Core.Bool.{Bool, true, false, cond, not}
+use mathlib.Core.Bool.{Bool, true, not}
 use mathlib.Core.List.{List, _++_}
 use Prim.Native.Nat.{ℕ, zero, suc, _+_, _*_, _≤_, _<_}
 use native.Mathlib.Omega.{arith}
@@ -12,7 +12,7 @@ use lib.Dec.{eqb, lit<}
 use lib.ListN.{length, take, drop, replicate, length-append, length-replicate, getD}
 use lib.Seq.{take-at, drop-at}
 use Rattle.lists.specs.Same.{same}
-use Rattle.lists.proofs.Tests.{true≢false, either, and-left, and-right, and-both, or-left, or-right, or-cases, cond-yes, cond-no}
+use Rattle.lists.proofs.Tests.{same-or-not, and-left, and-right, and-both, or-left, or-right, or-cases, cond-yes, cond-no}
 use Rattle.lists.proofs.Sames.{same-eq, eq-same}
 use Rattle.lists.proofs.Parts.{all-zeros}
 use Rattle.bitset.specs.Set.{setOf, restricted}
@@ -43,35 +43,48 @@ module _ (layout : Layout) (n own sender : ℕ) (b o : List ℕ) where
 
 -- ---- call 2
 module _ (inbox : List ℕ) (layout : Layout) (sender : ℕ) (b : List ℕ) where
-  pub received-message : (length (messageOf inbox layout sender) ≡ 0 → ⊥) → length b ≡ layout .length
-      → receivedBlock inbox layout sender b ≡ messageOf inbox layout sender
+  abbrev came : List ℕ
+  came = messageOf inbox layout sender
+
+  -- without a sender the lent block is kept
+  pub received-kept : sender ≡ 0 → receivedBlock inbox layout sender b ≡ b
   unfolding receivedBlock
-  received-message n e =
-      cond-no (eqb (length (messageOf inbox layout sender)) 0) (replicate (length b) 0) _ (ne-eqb (length (messageOf inbox layout sender)) 0 n)
-      ∙ copied-all (messageOf inbox layout sender) b (length-message inbox layout sender n ∙ sym e)
+  received-kept z = cond-yes (eqb sender 0) b _ (eq-eqb sender 0 z)
+
+  -- with one it is zeros, or what came
+  pub received-zeros : (sender ≡ 0 → ⊥) → length came ≡ 0 → receivedBlock inbox layout sender b ≡ replicate (length b) 0
+  unfolding receivedBlock
+  received-zeros s z = cond-no (eqb sender 0) b _ (ne-eqb sender 0 s) ∙ cond-yes (eqb (length came) 0) (replicate (length b) 0) _ (eq-eqb (length came) 0 z)
+
+  pub received-copy : (sender ≡ 0 → ⊥) → (length came ≡ 0 → ⊥) → receivedBlock inbox layout sender b ≡ copied came b
+  unfolding receivedBlock
+  received-copy s n = cond-no (eqb sender 0) b _ (ne-eqb sender 0 s) ∙ cond-no (eqb (length came) 0) (replicate (length b) 0) _ (ne-eqb (length came) 0 n)
+
+  pub received-message : (sender ≡ 0 → ⊥) → (length came ≡ 0 → ⊥) → length b ≡ layout .length → receivedBlock inbox layout sender b ≡ came
+  received-message s n e = received-copy s n ∙ copied-all came b (length-message inbox layout sender n ∙ sym e)
+
+  -- what holds in the three cases
+  by-cases : (P : List ℕ → Type 0) → P b → P (replicate (length b) 0) → ((length came ≡ 0 → ⊥) → P (copied came b)) → P (receivedBlock inbox layout sender b)
+  by-cases P kept zeros copy =
+      ⊎-elim
+      (λ (z : sender ≡ 0). subst P (sym (received-kept z)) kept)
+      (λ (s : sender ≡ 0 → ⊥).
+      ⊎-elim
+      (λ (z : length came ≡ 0). subst P (sym (received-zeros s z)) zeros)
+      (λ (n : length came ≡ 0 → ⊥). subst P (sym (received-copy s n)) (copy n))
+      (same-or-not (length came) 0))
+      (same-or-not sender 0)
 
   pub length-received : length (receivedBlock inbox layout sender b) ≡ length b
-  unfolding receivedBlock
-  length-received = go (eqb (length (messageOf inbox layout sender)) 0)
-    where
-      go : (x : Bool) → length (cond x (replicate (length b) 0) (copied (messageOf inbox layout sender) b)) ≡ length b
-      go true = length-replicate (length b) 0
-      go false = length-copied (messageOf inbox layout sender) b
+  length-received = by-cases (λ (l : List ℕ). length l ≡ length b) refl (length-replicate (length b) 0) (λ _. length-copied came b)
 
-  -- what holds of 0 and of every byte of the inbox holds of every byte of the block
-  pub received-all : (P : ℕ → Type 0) → P 0 → ((i : ℕ) → P (getD inbox i 0)) → length b ≡ layout .length → (i : ℕ)
+  -- what holds of 0, of every byte of the inbox and of every byte of the lent block holds of every byte of the block
+  pub received-all : (P : ℕ → Type 0) → P 0 → ((i : ℕ) → P (getD inbox i 0)) → ((i : ℕ) → P (getD b i 0)) → length b ≡ layout .length → (i : ℕ)
       → P (getD (receivedBlock inbox layout sender b) i 0)
-  unfolding receivedBlock
-  received-all P z h e i =
-      ⊎-elim
-      (λ (y : eqb (length (messageOf inbox layout sender)) 0 ≡ true).
-      subst (λ (l : List ℕ). P (getD l i 0))
-      (sym (cond-yes (eqb (length (messageOf inbox layout sender)) 0) (replicate (length b) 0) (copied (messageOf inbox layout sender) b) y))
-      (all-zeros P z (length b) i))
-      (λ (y : eqb (length (messageOf inbox layout sender)) 0 ≡ false).
-      subst (λ (l : List ℕ). P (getD l i 0))
-      (sym (received-message (λ q. true≢false (sym (eq-eqb (length (messageOf inbox layout sender)) 0 q) ∙ y)) e)) (message-all P z inbox layout sender h i))
-      (either (eqb (length (messageOf inbox layout sender)) 0))
+  received-all P z h lent e i =
+      by-cases (λ (l : List ℕ). P (getD l i 0)) (lent i) (all-zeros P z (length b) i)
+      (λ n. subst (λ (l : List ℕ). P (getD l i 0)) (sym (copied-all came b (length-message inbox layout sender n ∙ sym e)))
+      (message-all P z inbox layout sender h i))
 
 -- ---- within the settings
 module _ (n t k own : ℕ) (b : List ℕ) (v : Coded n t k) (w : Numbered n own) (size : length b ≡ blockLength k t) where

@@ -2,8 +2,8 @@
 --   Call 1
 --     sent-block, sent-silence   the sender's block in every slot; silence from everyone else
 --   Call 2
---     received-message                the block is the sender's message, if there is one
---     length-received, received-all   it keeps its length; what holds of every byte of the inbox holds of its bytes
+--     received-kept, received-message the block is the lent one without a sender, and the sender's message if there is one
+--     length-received, received-all   it keeps its length; what holds of every byte of the inbox and the lent block holds of its bytes
 --     sent-pieces, two-pieces-is      what is sent to each
 --   Call 3
 --     marks-set                   the marks as the set of those marked
@@ -11,5 +11,5 @@
 --     marked-self                 oneself always is
 --     length-marks, bytes-marks   the marks as a message
 --     sent-marks, row-of-marks    they are sent to all, and read back
-pub use Rattle.dispersal.proofs.Calls.{sent-block, sent-silence, received-message, length-received, received-all, sent-pieces, two-pieces-is}
+pub use Rattle.dispersal.proofs.Calls.{sent-block, sent-silence, received-kept, received-message, length-received, received-all, sent-pieces, two-pieces-is}
 pub use Rattle.dispersal.proofs.Calls.{marks-set, marked-yes, yes-marked, marked-self, length-marks, bytes-marks, sent-marks, row-of-marks}

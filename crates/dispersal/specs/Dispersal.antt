@@ -1,8 +1,8 @@
 -- Calls 1 to 3 (document 01, 'Rounds'): the sender's block, the pieces, the marks. Controllers are numbered from 1; own is
--- the caller's own number. The functions are total: outside the settings, or with a block or an outbox of another length, nothing is
+-- the caller's own number; sender 0 is none (document 02, U6), so that nobody sends in round 1. The functions are total: outside the settings, or with a block or an outbox of another length, nothing is
 -- written and nobody is marked.
 --   sentBlock layout n own sender b o    call 1: the sender's block to all; silence from everyone else
---   receivedBlock inbox layout sender b  call 2: the block is the sender's message, or zeros if absent
+--   receivedBlock inbox layout sender b  call 2: the block is the sender's message, or zeros if absent; without a sender the lent block is kept
 --   twoPieces k t own b j                round 2, to j: the own piece, then piece j of the own coding
 --   sentPieces n t k own b o             call 2: that to each j
 --   isMarked k t own inbox layout b j    call 3: j's slot is present, its first piece equals piece j of the own coding, and its second equals the own
@@ -28,7 +28,8 @@ sentBlock layout n own sender block outbox = cond (eqb own sender) (toAll layout
 
 unfoldable pub receivedBlock : List ℕ → Layout → ℕ → List ℕ → List ℕ
 receivedBlock inbox layout sender block =
-    cond (eqb (length (messageOf inbox layout sender)) 0) (replicate (length block) 0) (copied (messageOf inbox layout sender) block)
+    cond (eqb sender 0) block
+    (cond (eqb (length (messageOf inbox layout sender)) 0) (replicate (length block) 0) (copied (messageOf inbox layout sender) block))
 
 unfoldable pub twoPieces : (k t own : ℕ) → List ℕ → ℕ → Sent
 twoPieces k t own block j = bytes (pieceOf k t block own ++ pieceOf k t block j)

@@ -1,8 +1,8 @@
-// Calls 1 to 3 of a controller (document 01, 'Rounds'): the sender's block to all, the pieces, the marks.
+// Calls 1 to 3 of a controller (document 01, 'Rounds'; document 02, U6: sender 0 is none): the sender's block to all, the pieces, the marks.
 ghost use mathlib.Core.Path.{_≡_};
 ghost use mathlib.Core.Bool.{_&&_};
 ghost use mathlib.Core.List.{_++_};
-ghost use Prim.Native.Nat.{_+_, _*_, _/_, _%_, _≤_};
+ghost use Prim.Native.Nat.{_+_, _*_, _≤_};
 ghost use lib.ListN.{length, take, drop};
 ghost use Rattle.lists.specs.Same.{same};
 ghost use Rattle.bitset.specs.Set.{setOf};
@@ -13,8 +13,8 @@ ghost use Rattle.dispersal.specs.Dispersal.{sentBlock, receivedBlock, tw
 use wire::Layout;
 use wire::Round;
 
-// Call 1: the sender's block to all; silence from everyone else.
-// Shut out: everyone but the sender sends; as many slots as the own number.
+// Call 1: the sender's block to all; silence from everyone else, and so from all without a sender.
+// Shut out: everyone but the sender sends; as many slots as the own number; must-fail/no_sender_all_send.
 pub fn send_block(
     layout: Layout,
     n: usize,
@@ -32,11 +32,14 @@ pub fn send_block(
     wire::silence(outbox);
 }
 
-// Call 2: the block becomes the sender's message, or zeros if absent.
-// Shut out: the message of slot 1, whoever the sender is; the block kept where the message is absent.
+// Call 2: the block becomes the sender's message, or zeros if absent; without a sender it stays, whatever the inbox holds.
+// Shut out: the message of slot 1, whoever the sender is; the block kept where the message is absent; must-fail/no_sender_sets_zeros.
 pub fn receive_block(inbox: &[u8], layout: Layout, sender: usize, block: &mut [u8])
     ensures { λ _. ⌜ now (block .exit) ≡ receivedBlock (now (inbox .entry)) layout sender (now (block .entry)) ⌝ }
 {
+    if sender == 0 {
+        return;
+    }
     let m = wire::message(inbox, layout, sender);
     if m.len() == 0 {
         wire::silence(block);

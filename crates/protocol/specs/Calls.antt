@@ -53,11 +53,11 @@ coreOf rows n t = starOf rows n t .e
 abbrev pub matrixToAll : State → List ℕ → List ℕ → List ℕ
 matrixToAll s m o = toAll (outboxLayout s) (s .settings .n) (rowsOf (s .settings .n) m) o
 
--- call 1: the sender's block to all
+-- call 1: the sender's block to all; without a sender everyone is silent (document 02, U6)
 abbrev pub sendCall : State → List ℕ → List ℕ → Carried
 sendCall s b o = carried (advanced s Open) b (sentBlock (outboxLayout s) (s .settings .n) (s .own) (s .settings .sender) b o)
 
--- call 2: the block is the sender's message, zeros if absent; the own piece and piece j to each j
+-- call 2: the block is the sender's message, zeros if absent, and without a sender the lent one; the own piece and piece j to each j
 abbrev pub receiveCall : State → List ℕ → List ℕ → List ℕ → Carried
 receiveCall s b i o =
     let b′ = receivedBlock i (inboxLayout s) (s .settings .sender) b in

@@ -101,11 +101,9 @@ module _ (s : Settings) (i : ℕ) (fits : Bool) where
       let x = outside-no 1 (s .n) i a in
       record { least = x .0; most = x .1 }
 
-  sending : broken s i fits 5 ≡ false → Numbered (s .n) (s .sender)
+  sending : broken s i fits 5 ≡ false → s .sender ≤ s .n
   unfolding broken
-  sending a =
-      let x = outside-no 1 (s .n) (s .sender) a in
-      record { least = x .0; most = x .1 }
+  sending a = outside-no 0 (s .n) (s .sender) a .1
 
   fitting : broken s i fits 6 ≡ false → fits ≡ true
   unfolding broken
@@ -127,9 +125,9 @@ module _ (s : Settings) (i : ℕ) (fits : Bool) where
   unfolding broken
   four q = no-outside 1 (s .n) i (q .least) (q .most)
 
-  five : Numbered (s .n) (s .sender) → broken s i fits 5 ≡ false
+  five : s .sender ≤ s .n → broken s i fits 5 ≡ false
   unfolding broken
-  five q = no-outside 1 (s .n) (s .sender) (q .least) (q .most)
+  five q = no-outside 0 (s .n) (s .sender) (omega arith) q
 
   six : fits ≡ true → broken s i fits 6 ≡ false
   unfolding broken

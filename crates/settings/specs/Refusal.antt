@@ -1,4 +1,4 @@
--- The refusal table, rows 1 to 6 (document 01, 'Turned down').
+-- The refusal table, rows 1 to 6 (document 01, 'Turned down'; row 5 as document 02, U6, has it: sender 0 is a run without a sender).
 --   outside low high x    x is outside low .. high
 --   tooMany n t           row 2
 --   broken s i fits row   whether the settings s and a controller's number i (its own, or that of a piece) break the row; fits says that each lent
@@ -30,7 +30,7 @@ broken s i fits row =
     (cond (eqb row 2) (tooMany (s .n) (s .t))
     (cond (eqb row 3) (outside 1 128 (s .k))
     (cond (eqb row 4) (outside 1 (s .n) i)
-    (cond (eqb row 5) (outside 1 (s .n) (s .sender))
+    (cond (eqb row 5) (outside 0 (s .n) (s .sender))
     (cond (eqb row 6) (not fits)
     false)))))
 

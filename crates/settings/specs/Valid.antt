@@ -1,4 +1,5 @@
--- Settings that rows 1 to 5 let pass (document 01, 'The house': n 4 to 16; t at least 1, 3t + 1 at most n; k 1 to 128; numbers 1 to n).
+-- Settings that rows 1 to 5 let pass (document 01, 'The house': n 4 to 16; t at least 1, 3t + 1 at most n; k 1 to 128; numbers 1 to n; document 02,
+-- U6: the sender 0 to n, 0 for none).
 --   Quorum n t    rows 1 and 2
 --   Coded n t k   rows 1 to 3
 --   Numbered n i  i is a controller's number
@@ -24,4 +25,4 @@ pub record Numbered (n i : ℕ) : Type 0 where
 pub record Valid (s : Settings) (own : ℕ) : Type 0 where
   pub coded : Coded (s .n) (s .t) (s .k)
   pub number : Numbered (s .n) own
-  pub sender : Numbered (s .n) (s .sender)
+  pub sender : s .sender ≤ s .n

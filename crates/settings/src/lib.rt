@@ -1,4 +1,5 @@
-// The settings of a run, and which of them are refused with which number (document 01, 'Turned down', rows 1 to 6).
+// The settings of a run, and which of them are refused with which number (document 01, 'Turned down', rows 1 to 6; row 5 as document 02, U6,
+// has it).
 ghost use mathlib.Core.Path.{_≡_};
 ghost use mathlib.Core.List.{_++_};
 ghost use Prim.Native.Nat.{_-_};
@@ -6,7 +7,7 @@ ghost use lib.ListN.{length, replicate};
 ghost use Rattle.settings.specs.Refusal.{outside, tooMany, broken, tried, refusalOf};
 ghost use Rattle.settings.specs.Refusal.{partial, stateRefusal, encodingRefusal, decodingRefusal, lengthsRefusal, starRefusal};
 
-// What all controllers of a system share: n controllers of which at most t are faulty, k stripes, the sender.
+// What all controllers of a system share: n controllers of which at most t are faulty, k stripes, the sender; sender 0: none.
 pub struct Settings {
     pub n: usize,
     pub t: usize,
@@ -63,7 +64,7 @@ fn breaks(s: Settings, number: usize, fits: bool, row: u8) -> bool
         2 => too_many(s.n, s.t),
         3 => is_outside(1, 128, s.k),
         4 => is_outside(1, s.n, number),
-        5 => is_outside(1, s.n, s.sender),
+        5 => is_outside(0, s.n, s.sender),
         6 => !fits,
         _ => false,
     }
@@ -85,7 +86,7 @@ fn rows(entry: Entry) -> [u8; 6]
 
 // The number of the first row, of those that the entry point tries, that the settings, the number and the lent lengths break; 0 where they
 // break none.
-// Shut out: must-fail/largest_n; must-fail/rows_in_another_order; must-fail/start_always_refuses.
+// Shut out: must-fail/largest_n; must-fail/rows_in_another_order; must-fail/start_always_refuses; must-fail/sender_past_n.
 pub fn refusal(entry: Entry, s: Settings, number: usize, fits: bool) -> u8
     ensures { λ r. ⌜ r ≡ refusalOf entry s number fits ⌝ }
 {

@@ -19,11 +19,11 @@ use mathlib.Core.Path.{_≡_}
 use mathlib.Core.Bool.{Bool, cond}
 use mathlib.Core.List.{List, [], _∷_}
 use mathlib.Core.Logic.{_⊎_}
-use Prim.Native.Nat.{ℕ, zero, suc, _+_, _*_}
+use Prim.Native.Nat.{ℕ, zero, suc, _+_, _*_, _≤_}
 use lib.ListN.{length, replicate}
 use Rattle.lists.specs.Join.{joined}
 use Rattle.settings.specs.declared.Settings.{Settings}
-use Rattle.settings.specs.Valid.{Coded, Numbered}
+use Rattle.settings.specs.Valid.{Coded}
 use Rattle.polynomial.specs.Polynomial.{Bytes}
 use Rattle.wire.specs.Length.{blockLength, roundLayout, outboxLength}
 use Rattle.wire.specs.declared.slot.Layout.{Layout}
@@ -42,7 +42,7 @@ layoutAt F c = roundLayout (F .settings .n) (F .settings .t) (F .settings .k) c
 
 pub record Proper (F : Scenario) : Type 0 where
   pub coded : Coded (F .settings .n) (F .settings .t) (F .settings .k)
-  pub sender-number : Numbered (F .settings .n) (F .settings .sender)
+  pub sender-most : F .settings .sender ≤ F .settings .n
   pub block-length : length (F .block) ≡ blockLength (F .settings .k) (F .settings .t)
   pub block-bytes : Bytes (F .block)
   pub said-length : (r f j : ℕ) → (F .said r f j ≡ []) ⊎ (length (F .said r f j) ≡ layoutAt F r .length)

@@ -21,7 +21,7 @@ use Rattle.wire.specs.declared.Call.the-variants.{Send, Receive, Compare, Colle
 use Rattle.wire.specs.declared.Round.{Round}
 use Rattle.wire.specs.declared.Round.the-variants.{Block, Pieces, Marks, Forward, Rebuild}
 use Rattle.wire.specs.Round.{callKind, roundKind}
-use Rattle.wire.specs.Length.{blockLength, rowLength, kindLayout, messageLength, inboxLength, outboxLength}
+use Rattle.wire.specs.Length.{rowLength, kindLayout, messageLength, inboxLength}
 use Rattle.wire.specs.declared.slot.Layout.{Layout}
 use Rattle.wire.specs.Slot.{layoutWith, width, Sent, bytes, slots, toAll}
 use Rattle.wire.proofs.Laws.{kind-length-is, Fact, call-fact, message-length-is, length-pos, outbox-is, inbox-is, round-block, round-pieces, round-marks}
@@ -133,7 +133,7 @@ module _ (s : State) (b i o : List ℕ) (r : Ready s (length b) (length i) (leng
       record {
         size = length-received i (inboxLayout s) (s .settings .sender) b;
         bytes =
-            received-all i (inboxLayout s) (s .settings .sender) b Byte (lit< tt) inbox
+            received-all i (inboxLayout s) (s .settings .sender) b Byte (lit< tt) inbox block
             (r .block-length ∙ sym (ap (λ (c : ℕ). messageLength (s .settings .n) (s .settings .t) (s .settings .k) c) e
             ∙ row 1 Block (round-block (s .settings .t)) ∙ row-block (s .settings .n) (s .settings .t) (s .settings .k)));
       }

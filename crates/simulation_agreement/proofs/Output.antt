@@ -23,4 +23,5 @@ one-output input c e few =
           (results-alike (isFaulty (c .messages)) (isFaulty (c .messages)) (λ i. ended F i .state .outcome) (λ _. r .outcome) (λ i. ended F i .block)
           (λ _. r .block) (c .settings .n) (λ i l m. refl) (r .all));
       sender-agreed = r .sender-agreed;
+      alike-agreed = r .alike-agreed;
     }

@@ -1,11 +1,11 @@
 -- A simulated run with at most t faulty controllers has one result: `one-result`.
-use mathlib.Core.Path.{_≡_, sym, ap, _∙_}
+use mathlib.Core.Path.{_≡_, refl, sym, ap, _∙_}
 use mathlib.Core.Bool.{not}
 use Prim.Native.Nat.{ℕ, _+_}
 use native.Mathlib.Omega.{arith}
 use Rattle.lists.proofs.Sums.{count-not, count-member}
 use Rattle.protocol.specs.declared.State.{State}
-use Rattle.agreement.specs.Agreement.{Correct, outcomeOf, blockOf}
+use Rattle.agreement.specs.Agreement.{Correct, StartedAlike, outcomeOf, blockOf}
 use Rattle.agreement.proofs.Laws.{agreement}
 use Rattle.simulation.specs.Run.{Scenario, Proper, ended}
 use Rattle.simulation_agreement.specs.Simulation.{Tolerated, SimulationAgrees}
@@ -37,7 +37,10 @@ one-result F p few =
             shown i g .0 ∙ C .same-outcome i a g f ∙ sym (shown a f .0),
             shown i g .1 ∙ C .same-block i a g f ∙ sym (shown a f .1),
           );
-      sender-agreed = λ y.
-          let g : Correct S (F .settings .sender) = record { least = p .sender-number .least; most = p .sender-number .most; is = ap not y } in
+      sender-agreed = λ least y.
+          let g : Correct S (F .settings .sender) = record { least = least; most = p .sender-most; is = ap not y } in
           (shown a f .0 ∙ C .sender-outcome a g f, shown a f .1 ∙ C .sender-block a g f);
+      alike-agreed = λ z.
+          let g : StartedAlike S (F .block) = record { no-sender = z; alike = λ i h. refl } in
+          (shown a f .0 ∙ C .alike-outcome a (F .block) g f, shown a f .1 ∙ C .alike-block a (F .block) g f);
     }

@@ -15,7 +15,7 @@ use Rattle.lists.proofs.Fills.{length-tabulate, getD-tabulate}
 use Rattle.settings.specs.declared.Settings.{Settings}
 use Rattle.settings.specs.Valid.{Numbered, Valid}
 use Rattle.settings.proofs.Laws.{0-starting}
-use Rattle.wire.specs.Length.{blockLength, blockSize, messageLength, inboxLength, outboxLength}
+use Rattle.wire.specs.Length.{blockLength, blockSize, inboxLength, outboxLength}
 use Rattle.wire.specs.Slot.{slotOf}
 use Rattle.wire.proofs.Laws.{block-size-is}
 use Rattle.protocol.specs.declared.State.{State}
@@ -52,7 +52,7 @@ systemOf F p = record {
 -- ---- one correct controller
 module _ (F : Scenario) (p : Proper F) (i : ℕ) (v : Numbered (F .settings .n) i) (y : F .faulty i ≡ false) where
   valid : Valid (F .settings) i
-  valid = record { coded = p .coded; number = v; sender = p .sender-number }
+  valid = record { coded = p .coded; number = v; sender = p .sender-most }
 
   pub start-carried : startOf (F .settings) i (length (F .block)) .number ≡ 0
   start-carried =

@@ -1,7 +1,7 @@
 -- What demand 3 says of the simulator's output (document 01, 'The house program': who stands under `from` is faulty; one line for each of the
 -- others).
 --   OneOutput input c  for the file `input`, which says c: the lines of the correct controllers differ in their numbers only; if the sender is correct,
---                      they say agreed and the block that the file gives
+--                      or there is none (document 02, U6), they say agreed and the block that the file gives
 --   SimulatorAgrees    a file that has its form and has at most t faulty controllers has one output
 use mathlib.Core.Path.{_≡_}
 use mathlib.Core.Bool.{false}
@@ -18,7 +18,8 @@ pub record OneOutput (input : List ℕ) (c : Contents) : Type 0 where
   pub outcome : Outcome
   pub block : List ℕ
   pub lines : simulated input ≡ namesLine ++ results (isFaulty (c .messages)) (λ _. outcome) (λ _. block) (c .settings .n)
-  pub sender-agreed : isFaulty (c .messages) (c .settings .sender) ≡ false → (outcome ≡ Agreed) × (block ≡ c .block)
+  pub sender-agreed : 1 ≤ c .settings .sender → isFaulty (c .messages) (c .settings .sender) ≡ false → (outcome ≡ Agreed) × (block ≡ c .block)
+  pub alike-agreed : c .settings .sender ≡ 0 → (outcome ≡ Agreed) × (block ≡ c .block)
 
 abbrev pub SimulatorAgrees : Type 0
 SimulatorAgrees =

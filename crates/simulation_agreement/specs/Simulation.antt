@@ -1,6 +1,7 @@
 -- What demand 3 says of a simulated run (document 01, 'The house program': the others follow the steps).
 --   Tolerated F       at most t controllers are faulty
---   OneResult F       the correct controllers end with one outcome and one block; if the sender is correct, with agreed and its block
+--   OneResult F       the correct controllers end with one outcome and one block: with agreed and the block given, if the sender is correct or
+--                     there is none (document 02, U6: then every correct controller starts with it)
 --   SimulationAgrees  a run of a proper scenario with at most t faulty controllers has one result
 use mathlib.Core.Path.{_≡_}
 use mathlib.Core.Bool.{false}
@@ -19,8 +20,9 @@ pub record OneResult (F : Scenario) : Type 0 where
   pub block : List ℕ
   -- each correct controller ends with both
   pub all : (i : ℕ) → 1 ≤ i → i ≤ F .settings .n → F .faulty i ≡ false → (ended F i .state .outcome ≡ outcome) × (ended F i .block ≡ block)
-  -- a correct sender's block is agreed on
-  pub sender-agreed : F .faulty (F .settings .sender) ≡ false → (outcome ≡ Agreed) × (block ≡ F .block)
+  -- a correct sender's block is agreed on, and without a sender the one that all correct controllers start with
+  pub sender-agreed : 1 ≤ F .settings .sender → F .faulty (F .settings .sender) ≡ false → (outcome ≡ Agreed) × (block ≡ F .block)
+  pub alike-agreed : F .settings .sender ≡ 0 → (outcome ≡ Agreed) × (block ≡ F .block)
 
 abbrev pub SimulationAgrees : Type 0
 SimulationAgrees = (F : Scenario) → Proper F → Tolerated F → OneResult F

@@ -49,7 +49,7 @@ scenario-proper input c e =
     let q = read-right input c e in
     record {
       coded = q .coded;
-      sender-number = q .sender;
+      sender-most = q .sender;
       block-length = q .block-length;
       block-bytes = q .block-bytes;
       said-length = said-cases input c e;

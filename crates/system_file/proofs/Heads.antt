@@ -20,7 +20,7 @@ use Rattle.text.specs.Lines.{lineAt, isEnded, nextAt, isNames, rest, field, isN
 use Rattle.text.proofs.Laws.{number-range, number-is, number-in, length-bytes, line-part, ended-yes, next-is, held-ended, held-short, rest-le, rest-end}
 use Rattle.text.proofs.Laws.{NumbersFound, numbers-found, numbers-none, numbers-range, numbers-four}
 use Rattle.settings.specs.Refusal.{stateRefusal}
-use Rattle.settings.specs.Valid.{Coded, Numbered, Valid}
+use Rattle.settings.specs.Valid.{Coded, Valid}
 use Rattle.settings.proofs.Laws.{state-0, 0-state}
 use Rattle.wire.specs.Length.{blockLength, blockSize}
 use Rattle.wire.proofs.Laws.{block-length-is, block-size-is}
@@ -36,7 +36,7 @@ use Rattle.system_file.proofs.Reading.{read-all}
 -- ---- tests
 -- the ranges of n, t, k and the sender
 abbrev pub ranges : List ℕ
-ranges = 4 ∷ 16 ∷ 1 ∷ 5 ∷ 1 ∷ 32 ∷ 1 ∷ 16 ∷ []
+ranges = 4 ∷ 16 ∷ 1 ∷ 5 ∷ 1 ∷ 32 ∷ 0 ∷ 16 ∷ []
 
 -- what the tests say: numbers in these ranges, settings, and a block of their length
 pub record Settled (l : List ℕ) : Type 0 where
@@ -56,19 +56,18 @@ module _ (l : List ℕ) where
       let rn = number-range 4 16 (field 0 l) (and-left _ _ e) in
       let rt = number-range 1 n (field 1 l) (and-left _ _ e1) in
       let rk = number-range 1 32 (field 2 l) (and-left _ _ e3) in
-      let rs = number-range 1 n (field 3 l) (and-left _ _ e4) in
+      let rs = number-range 0 n (field 3 l) (and-left _ _ e4) in
       let q = leb-true (3 * valueOf (field 1 l) + 1) n (and-left _ _ e2) in
       let t = number-in 1 5 (field 1 l) (number-is _ _ _ (and-left _ _ e1)) (rt .0) (omega arith) in
-      let s = number-in 1 16 (field 3 l) (number-is _ _ _ (and-left _ _ e4)) (rs .0) (omega arith) in
-      let sender : Numbered n (valueOf (field 3 l)) = record { least = rs .0; most = rs .1 } in
+      let s = number-in 0 16 (field 3 l) (number-is _ _ _ (and-left _ _ e4)) (rs .0) (omega arith) in
       record {
         numbers = numbers-four ranges l refl ∙ rw (and-left (numberIn 4 16 (field 0 l)) _ e, t, and-left (numberIn 1 32 (field 2 l)) _ e3, s);
         valid = record {
           coded = record { quorum = record { n-least = rn .0; n-most = rn .1; t-least = rt .0; t-most = q }; k-least = rk .0; k-most = omega arith };
           number = record { least = omega arith; most = omega (arith, rn .0) };
-          sender = sender;
+          sender = rs .1;
         };
-        block = and-right (numberIn 1 n (field 3 l)) _ e4;
+        block = and-right (numberIn 0 n (field 3 l)) _ e4;
       }
 
   -- k is at most 32
@@ -84,7 +83,7 @@ module _ (l : List ℕ) where
       let q = p .valid .coded .quorum in
       let n = valueOf (field 0 l) in
       let t = number-in 1 n (field 1 l) (number-is _ _ _ (r 1 (omega arith))) (q .t-least) (omega (arith, q .t-most)) in
-      let s = number-in 1 n (field 3 l) (number-is _ _ _ (r 3 (omega arith))) (p .valid .sender .least) (p .valid .sender .most) in
+      let s = number-in 0 n (field 3 l) (number-is _ _ _ (r 3 (omega arith))) (omega arith) (p .valid .sender) in
       rw (r 0 (omega arith), t, le-leb (3 * valueOf (field 1 l) + 1) n (q .t-most), r 2 (omega arith), s, p .block)
 
 -- ---- the cases of the code

@@ -1,7 +1,8 @@
 -- The form of a system file, and what a file of that form says (document 01, 'The house program': it calls a system a house).
 --   fileLimit                     the most bytes that a file has
 --   settingsNames, messageNames   the two lines of names
---   isSettings l                  n 4 to 16; t at least 1, 3t + 1 at most n; k 1 to 32; the sender 1 to n; a block of k(t + 1) bytes
+--   isSettings l                  n 4 to 16; t at least 1, 3t + 1 at most n; k 1 to 32; the sender 0 to n, 0 for none (document 02, U6); a block of
+--                                 k(t + 1) bytes
 --   isMessage s l                 a round of the run; from 1 to n; to 0 to n; a message of its round's length
 --   Message                       one line: its round, from, to, and the byte of the file where its message starts
 --   messageAt input a             the message in the line at a
@@ -54,7 +55,7 @@ isSettings l =
     && (numberIn 1 n (field 1 l)
     && (leb (3 * t + 1) n
     && (numberIn 1 32 (field 2 l)
-    && (numberIn 1 n (field 3 l)
+    && (numberIn 0 n (field 3 l)
     && isBytes (blockLength k t) (rest 4 l)))))
 
 unfoldable pub isMessage : Settings → List ℕ → Bool

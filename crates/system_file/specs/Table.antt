@@ -78,7 +78,7 @@ fileOf (right c) = record {
 pub record Properly (input : List ℕ) (c : Contents) : Type 0 where
   pub coded : Coded (c .settings .n) (c .settings .t) (c .settings .k)
   pub stripes : c .settings .k ≤ 32
-  pub sender : Numbered (c .settings .n) (c .settings .sender)
+  pub sender : c .settings .sender ≤ c .settings .n
   pub block-length : length (c .block) ≡ blockLength (c .settings .k) (c .settings .t)
   pub block-bytes : (i : ℕ) → getD (c .block) i 0 < 256
   pub size : length input ≤ fileLimit

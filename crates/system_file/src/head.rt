@@ -34,7 +34,7 @@ fn settings_line(l: &[u8], at: usize) -> Head
     ensures { λ r. ⌜ r ≡ headIn (now (l .entry)) at ⌝ }
 {
     // n, t, k and the sender, each in its range
-    let numbers = lines::read_numbers(l, &[4, 16, 1, 5, 1, 32, 1, 16]);
+    let numbers = lines::read_numbers(l, &[4, 16, 1, 5, 1, 32, 0, 16]);
     if !numbers.found {
         return Head::Wrong;
     }

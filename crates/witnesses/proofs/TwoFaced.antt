@@ -2,7 +2,7 @@
 -- different controllers. The steps of 1, 2 and 3 contain refused ones before, between and after the calls. `two-faced-supposed`: what
 -- demand 3 supposes holds, computed; `two-faced-agreed`: by demand 3, agreed and 0a14; `two-faced-named`: whom 1, 2 and 3 name (document 02, U1).
 --   from4-1, from4-2, from4-3   the slots that 4 sends to 1, 2 and 3, round after round
---   stepsOf piece from4         the steps of the controller with that piece
+--   stepsOf first piece from4   the steps of the controller with that piece, where 1 sends it the slot `first` in round 1
 use mathlib.Core.Path.{_≡_, refl, ap, _∙_}
 use mathlib.Core.Bool.{Bool, true, false, cond, not}
 use mathlib.Core.List.{List, [], _∷_, _++_}
@@ -44,7 +44,7 @@ zeros = rows 0 0 0 0
 abbrev ones : List ℕ
 ones = rows 0x0f 0x0f 0x0f 0x0f
 
-from4-1 : List (List ℕ)
+unfoldable pub from4-1 : List (List ℕ)
 from4-1 =
     present (0x01 ∷ 0x02 ∷ [])
     ∷ (0x00 ∷ 0x5a ∷ 0x1e ∷ [])  -- the true pieces, but absent
@@ -59,7 +59,7 @@ from4-1 =
     ∷ present (0x5b ∷ [])
     ∷ []
 
-from4-2 : List (List ℕ)
+unfoldable pub from4-2 : List (List ℕ)
 from4-2 =
     present (0x07 ∷ 0x08 ∷ [])
     ∷ present (0x5a ∷ 0x22 ∷ [])  -- the true pieces
@@ -74,7 +74,7 @@ from4-2 =
     ∷ present (0x5a ∷ [])
     ∷ []
 
-from4-3 : List (List ℕ)
+unfoldable pub from4-3 : List (List ℕ)
 from4-3 =
     absent 2
     ∷ present (0x5a ∷ 0x37 ∷ [])  -- a false piece
@@ -89,15 +89,15 @@ from4-3 =
     ∷ present (0x00 ∷ [])
     ∷ []
 
-stepsOf : ℕ → List (List ℕ) → List Step
-stepsOf piece from4 =
+unfoldable pub stepsOf : List ℕ → ℕ → List (List ℕ) → List Step
+stepsOf first piece from4 =
     let x : ℕ → List ℕ = λ c. getD from4 (c - 1) [] in
     let p : List ℕ = present (piece ∷ []) in
     let m : List ℕ = present (rows 0x07 0x0f 0x07 0x00) in
     let s : List ℕ = present (rows 0x08 0x00 0x08 0x0f ++ rows 0x07 0x0f 0x07 0x00) in
     (0x07 ∷ [], 12)  -- refused with 6: call 1 has an inbox of length 0
     ∷ ([], 12)
-    ∷ (box (present (0x0a ∷ 0x14 ∷ [])) (absent 2) (absent 2) (x 1), 12)
+    ∷ (box first (absent 2) (absent 2) (x 1), 12)
     ∷ (box (present (0x1e ∷ piece ∷ [])) (present (0x22 ∷ piece ∷ [])) (present (0x36 ∷ piece ∷ [])) (x 2), 12)
     ∷ (box (present (0x07 ∷ 0x00 ∷ [])) (present (0x0f ∷ 0x00 ∷ [])) (present (0x07 ∷ 0x00 ∷ [])) (x 3), 36)
     ∷ (box (present (rows 0x07 0x0f 0x07 0x0f)) m m (x 4), 67)  -- refused with 6: the outbox is too short
@@ -113,15 +113,19 @@ stepsOf piece from4 =
     ∷ ([], 12)  -- refused with 8: the run is finished
     ∷ []
 
-small-1 : T (smalls (stepsOf 0x1e from4-1))
+-- the sender's slot in round 1
+abbrev sent : List ℕ
+sent = present (0x0a ∷ 0x14 ∷ [])
+
+small-1 : T (smalls (stepsOf sent 0x1e from4-1))
 unfolding smalls small stepsOf from4-1
 small-1 = tt
 
-small-2 : T (smalls (stepsOf 0x22 from4-2))
+small-2 : T (smalls (stepsOf sent 0x22 from4-2))
 unfolding smalls small stepsOf from4-2
 small-2 = tt
 
-small-3 : T (smalls (stepsOf 0x36 from4-3))
+small-3 : T (smalls (stepsOf sent 0x36 from4-3))
 unfolding smalls small stepsOf from4-3
 small-3 = tt
 
@@ -141,9 +145,9 @@ two-faced = record {
   block = λ i. blockFor (eqb i 1);
   block-bytes = λ i. blocks-bytes (eqb i 1);
   steps = λ i.
-      cond (eqb i 1) (lents (stepsOf 0x1e from4-1) small-1)
-      (cond (eqb i 2) (lents (stepsOf 0x22 from4-2) small-2)
-      (lents (stepsOf 0x36 from4-3) small-3));
+      cond (eqb i 1) (lents (stepsOf sent 0x1e from4-1) small-1)
+      (cond (eqb i 2) (lents (stepsOf sent 0x22 from4-2) small-2)
+      (lents (stepsOf sent 0x36 from4-3) small-3));
 }
 
 two-faced-meets : Meets two-faced

@@ -1,5 +1,5 @@
 //! The expected output of the program controller_cases. The refusals are written by hand from document 01's table ('Turned down'), not
-//! computed; the runs with silent inboxes follow its rounds ('Rounds'), with what silence makes of each rule; what the last calls set is written
+//! computed (row 5 as document 02, U6, has it); the runs with silent inboxes follow its rounds ('Rounds'), with what silence makes of each rule; what the last calls set is written
 //! by hand from its examples. The reference is compared with all of it.
 use reference::controller::{start, step, Outcome, State};
 use reference::wire::{block_length, box_length};
@@ -13,7 +13,7 @@ const MARKS: u16 = 0x8421;
 type Settings = [usize; 5];
 
 /// Settings, the block's length and the number: each row by itself, then two rows at once, of which the first counts.
-const STARTS: [(Settings, usize, u8); 45] = [
+const STARTS: [(Settings, usize, u8); 49] = [
     ([3, 1, 1, 1, 1], 2, 1),
     ([17, 1, 1, 1, 1], 2, 1),
     ([0, 1, 1, 1, 1], 2, 1),
@@ -30,40 +30,44 @@ const STARTS: [(Settings, usize, u8); 45] = [
     ([4, 1, 1, 0, 1], 2, 4),
     ([4, 1, 1, 5, 1], 2, 4),
     ([4, 1, 1, MAX, 1], 2, 4),
-    ([4, 1, 1, 1, 0], 2, 5),
+    ([4, 1, 1, 0, 0], 2, 4),
+    ([16, 5, 1, 1, 17], 6, 5),
     ([4, 1, 1, 1, 5], 2, 5),
     ([4, 1, 1, 1, MAX], 2, 5),
     ([4, 1, 1, 1, 1], 0, 6),
     ([4, 1, 1, 1, 1], 1, 6),
     ([4, 1, 1, 1, 1], 3, 6),
+    ([4, 1, 1, 1, 0], 3, 6),
     ([7, 2, 128, 7, 7], 383, 6),
     ([7, 2, 128, 7, 7], 385, 6),
     ([3, 0, 1, 1, 1], 1, 1),
     ([3, 1, 0, 1, 1], 0, 1),
     ([3, 1, 1, 0, 1], 2, 1),
-    ([3, 1, 1, 1, 0], 2, 1),
+    ([3, 1, 1, 1, 4], 2, 1),
     ([3, 1, 1, 1, 1], 3, 1),
     ([4, 0, 129, 1, 1], 129, 2),
     ([4, 0, 1, 0, 1], 1, 2),
-    ([4, 0, 1, 1, 0], 1, 2),
+    ([4, 0, 1, 1, 5], 1, 2),
     ([4, 0, 1, 1, 1], 2, 2),
     ([4, 1, 0, 0, 1], 0, 3),
-    ([4, 1, 0, 1, 0], 0, 3),
+    ([4, 1, 0, 1, 5], 0, 3),
     ([4, 1, 0, 1, 1], 1, 3),
-    ([4, 1, 1, 0, 0], 2, 4),
+    ([4, 1, 1, 0, 5], 2, 4),
     ([4, 1, 1, 0, 1], 3, 4),
-    ([4, 1, 1, 1, 0], 3, 5),
-    ([3, 0, 0, 0, 0], 9, 1),
+    ([4, 1, 1, 1, 5], 3, 5),
+    ([3, 0, 0, 0, 4], 9, 1),
     ([4, 1, 1, 1, 1], 2, 0),
     ([4, 1, 1, 4, 4], 2, 0),
     ([7, 2, 128, 7, 1], 384, 0),
     ([16, 1, 128, 16, 16], 256, 0),
     ([16, 5, 128, 1, 16], 768, 0),
+    ([4, 1, 1, 1, 0], 2, 0),
+    ([16, 5, 128, 16, 0], 768, 0),
 ];
 
 /// Settings and next call of the state, the lengths of block, inbox and outbox, and the number: the zero state; settings out of range; the
 /// next call out of range, or the run finished; two rows at once.
-const STEPS: [(Settings, usize, [usize; 3], u8); 41] = [
+const STEPS: [(Settings, usize, [usize; 3], u8); 44] = [
     ([0, 0, 0, 0, 0], 0, [0, 0, 0], 7),
     ([3, 1, 1, 1, 1], 1, [2, 0, 12], 7),
     ([17, 1, 1, 1, 1], 1, [2, 0, 12], 7),
@@ -77,7 +81,8 @@ const STEPS: [(Settings, usize, [usize; 3], u8); 41] = [
     ([4, 1, 1, 0, 1], 1, [2, 0, 12], 7),
     ([4, 1, 1, 5, 1], 1, [2, 0, 12], 7),
     ([4, 1, 1, MAX, 1], 1, [2, 0, 12], 7),
-    ([4, 1, 1, 1, 0], 1, [2, 0, 12], 7),
+    ([4, 1, 1, 0, 0], 1, [2, 0, 12], 7),
+    ([16, 5, 3, 1, 17], 1, [18, 0, 304], 7),
     ([4, 1, 1, 1, 5], 1, [2, 0, 12], 7),
     ([4, 1, 1, 1, MAX], 1, [2, 0, 12], 7),
     ([4, 1, 1, 1, 1], 0, [2, 0, 0], 7),
@@ -91,10 +96,12 @@ const STEPS: [(Settings, usize, [usize; 3], u8); 41] = [
     ([7, 2, 2, 7, 1], 16, [6, 0, 0], 8),
     ([16, 5, 3, 1, 16], 26, [18, 0, 0], 7),
     ([16, 5, 3, 1, 16], 25, [18, 0, 0], 8),
+    ([4, 1, 1, 1, 0], 14, [2, 0, 0], 7),
+    ([4, 1, 1, 1, 0], 13, [2, 0, 0], 8),
     ([3, 1, 1, 1, 1], 13, [2, 0, 0], 7),
     ([4, 1, 0, 1, 1], 13, [0, 0, 0], 7),
     ([4, 1, 1, 5, 1], 13, [2, 0, 0], 7),
-    ([4, 1, 1, 1, 0], 13, [2, 0, 0], 7),
+    ([4, 1, 1, 1, 5], 13, [2, 0, 0], 7),
     ([4, 0, 1, 1, 1], 10, [1, 0, 0], 7),
     ([3, 1, 1, 1, 1], 0, [2, 0, 0], 7),
     ([3, 1, 1, 1, 1], 1, [3, 1, 13], 7),
@@ -267,6 +274,9 @@ fn matrix(n: usize, row: u16) -> Vec<u8> {
     row.to_le_bytes().repeat(n)
 }
 
+/// The pieces of 0a14 with n 4, t 1 and k 1 (document 01, example c).
+const PIECES: [u8; 4] = [0x1e, 0x22, 0x36, 0x5a];
+
 /// What a controller sends in round c if nothing ever arrives, not even what it sends to itself.
 fn sent([n, t, k, own, sender]: Settings, block: &[u8], c: usize) -> Vec<u8> {
     let silence = vec![0; slots(n, t, k, c)];
@@ -277,6 +287,14 @@ fn sent([n, t, k, own, sender]: Settings, block: &[u8], c: usize) -> Vec<u8> {
         } else {
             silence
         };
+    }
+    if c == 2 && sender == 0 {
+        // the block is still the one that start was lent, 0a14: to each the own piece, then its own
+        assert_eq!(([n, t, k], block), ([4, 1, 1], &[10, 20][..]));
+        return PIECES
+            .iter()
+            .flat_map(|&p| [1, PIECES[own - 1], p])
+            .collect();
     }
     if c == 2 {
         // the block is zeros now, and zeros code to zeros
@@ -331,7 +349,8 @@ fn run(s: Settings, first: &[u8]) {
     println!("run{} {}", words(&s), hex(first));
     let mut reference = (start(n, t, k, own, sender, first).1, first.to_vec());
     for c in 1..=last {
-        let block = if c == 1 {
+        // silence from the sender sets the block to zeros; without a sender it is kept until the last call, which finds no core
+        let block = if c == 1 || sender == 0 && c < last {
             first.to_vec()
         } else {
             vec![0; first.len()]
@@ -407,5 +426,6 @@ fn main() {
     run([4, 1, 1, 1, 1], &[10, 20]);
     run([7, 2, 2, 2, 2], &[10, 20, 30, 40, 50, 60]);
     run([7, 2, 2, 4, 2], &[10, 20, 30, 40, 50, 60]);
+    run([4, 1, 1, 3, 0], &[10, 20]);
     LASTS.iter().for_each(last);
 }

@@ -354,6 +354,24 @@ fn false_pieces(files: &mut Files) {
     files.right("false_pieces", text(&system), &rows);
 }
 
+/// There is no sender (document 02, U6), and 2 and 5 are faulty from round 1 on: they send blocks, which nobody reads. In round 2 they support another
+/// block than the one that all correct controllers start with towards 6 and 7, and in rounds 3t + 7 and 3t + 8 towards all; in the votes they lie.
+fn without_sender(files: &mut Files) {
+    let system = with_choices(system(7, 2, 0, &BLOCK, &[2, 5]), |c| match c.kind {
+        1 => Some(if c.to < 4 { &BLOCK } else { &OTHER_BLOCK }.to_vec()),
+        2 if c.to < 6 => Some(c.by_block(&BLOCK)),
+        2 | 7 | 8 => Some(c.by_block(&OTHER_BLOCK)),
+        3 => Some(marks(if c.to < 6 {
+            &[1, 2, 3, 4, 5]
+        } else {
+            &[2, 5, 6, 7]
+        })),
+        6 => c.king().then(|| c.noise(6)),
+        _ => Some(c.noise(6)),
+    });
+    files.agreed("without_sender", text(&system), &[1, 3, 4, 6, 7], &BLOCK);
+}
+
 /// More than t are faulty, two of four: sender 1 sends 3 and 4 different blocks, king 2 of the last phase gives each a matrix with a core,
 /// and both send each the pieces of its own block. The two correct ones end with different blocks.
 fn beyond_t(files: &mut Files) {
@@ -525,6 +543,17 @@ fn edges(files: &mut Files) {
     );
     let lines = "11,3,4,00\n10,3,4,00\n";
     files.agreed("ok_last_rounds", small.clone() + lines, &[1, 2, 4], block);
+    // no sender (document 02, U6): nobody reads the blocks of round 1, and all correct controllers start with the file's; nobody faulty, and one
+    let unsent = small.replace("4,1,1,1,", "4,1,1,0,");
+    files.agreed("ok_no_sender", unsent.clone(), &[1, 2, 3, 4], block);
+    files.agreed(
+        "ok_no_sender_block_sent",
+        unsent + "1,4,0,0c14\n",
+        &[1, 2, 3],
+        block,
+    );
+    let unsent = EXAMPLE.replace("4,1,1,1,", "4,1,1,0,");
+    files.agreed("ok_no_sender_document_01", unsent, &[2, 3, 4], block);
     // a sender that sends nothing that is read: all others hold zeros
     files.agreed(
         "ok_silent_sender",
@@ -608,6 +637,7 @@ const LINES: &[(&str, usize, &str)] = &[
     ("settings_leading_zero_tolerance", 2, "4,01,1,1,0a14"),
     ("settings_leading_zero_stripes", 2, "4,1,01,1,0a14"),
     ("settings_leading_zero_sender", 2, "4,1,1,01,0a14"),
+    ("settings_sender_00", 2, "4,1,1,00,0a14"),
     ("settings_empty_controllers", 2, ",1,1,1,0a14"),
     ("settings_empty_sender", 2, "4,1,1,,0a14"),
     ("settings_empty_block", 2, "4,1,1,1,"),
@@ -631,8 +661,9 @@ const LINES: &[(&str, usize, &str)] = &[
     ("settings_tolerance_2_of_4", 2, "4,2,1,1,0a1414"),
     ("settings_tolerance_2_of_6", 2, "6,2,1,1,0a1414"),
     ("settings_stripes_0", 2, "4,1,0,1,"),
-    ("settings_sender_0", 2, "4,1,1,0,0a14"),
     ("settings_sender_5", 2, "4,1,1,5,0a14"),
+    ("settings_sender_17_of_16", 2, "16,1,1,17,0a14"),
+    ("settings_sender_minus_0", 2, "4,1,1,-0,0a14"),
     // 2 to the 64, which is 0 of 64 bits, and the numbers after it
     (
         "settings_huge_0_controllers",
@@ -840,6 +871,7 @@ fn main() {
     last_kings(&mut files);
     none(&mut files);
     false_pieces(&mut files);
+    without_sender(&mut files);
     beyond_t(&mut files);
     beyond_t_outcomes(&mut files);
     sixteen(&mut files);

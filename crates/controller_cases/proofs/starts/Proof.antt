@@ -5,10 +5,10 @@ use Rattle.controller_cases.proofs.starts.Statement.{statement}
 use Rattle.controller_cases.proofs.starts.Tie as tie
 
 abbrev Inv-loop : tie.InvT-loop
-Inv-loop i₀ i = i ≤ 45
+Inv-loop i₀ i = i ≤ 49
 
 abbrev μ-loop : tie.MeasureT-loop
-μ-loop i₀ i = 45 - i
+μ-loop i₀ i = 49 - i
 
 loop-holds : tie.Need-loop-holds Inv-loop μ-loop
 loop-holds c = search needs

@@ -5,10 +5,10 @@ use Rattle.controller_cases.proofs.steps.Statement.{statement}
 use Rattle.controller_cases.proofs.steps.Tie as tie
 
 abbrev Inv-loop : tie.InvT-loop
-Inv-loop i₀ i = i ≤ 40
+Inv-loop i₀ i = i ≤ 43
 
 abbrev μ-loop : tie.MeasureT-loop
-μ-loop i₀ i = 40 - i
+μ-loop i₀ i = 43 - i
 
 loop-holds : tie.Need-loop-holds Inv-loop μ-loop
 loop-holds c = search needs

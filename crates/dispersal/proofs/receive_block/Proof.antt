@@ -1,16 +1,18 @@
--- `receive_block` meets its contract.
-use Rattle.dispersal.specs.Dispersal.{receivedBlock}
-use Rattle.wire.specs.Slot.{messageOf, copied}
-use Rattle.lists.proofs.Tests.{cond-yes, cond-no}
-use lib.ListN.{length, replicate}
-use lib.Dec.{eqb}
-use borrow.Author.Tests.{eq-eqb, ne-eqb}
+-- `receive_block` meets its contract, case by case of what the block is.
+use Rattle.dispersal.proofs.Calls.{received-kept, received-zeros, received-copy}
+use Rattle.wire.specs.Slot.{copied}
+use lib.ListN.{length}
 use Prim.Native.Nat.{ℕ}
 use mathlib.Core.List.{List}
 use mathlib.Core.Path.{sym, ap, _∙_}
 use borrow.Author.Needs.{needs}
 use Rattle.dispersal.proofs.receive_block.Statement.{statement}
 use Rattle.dispersal.proofs.receive_block.Tie as tie
+
+returns : tie.Need-returns
+returns c =
+    let a = c .before .before .before .args in
+    sym (received-kept (a .inbox .now) (a .layout) (a .sender) (a .block .now) (c .if1 .taken))
 
 message-requires : tie.Need-message-requires
 message-requires c κs = search needs
@@ -21,15 +23,13 @@ silence-requires c κs = search needs
 same-length : tie.Need-same-length
 same-length c = search needs
 
-returns : tie.Need-returns
-unfolding receivedBlock
-returns c =
+returns-2 : tie.Need-returns-2
+returns-2 c =
     let M = c .before .before .before .before .before in
-    let a = M .before .before .before .args in
-    let m = messageOf (a .inbox .now) (a .layout) (a .sender) in
+    let a = M .before .before .before .before .args in
     c .before .before .silence .ensures
-    ∙ sym (cond-yes (eqb (length m) 0) (replicate (length (a .block .now)) 0) (copied m (a .block .now))
-    (eq-eqb (length m) 0 (sym (ap length (M .message .ensures)) ∙ c .before .before .before .before .if1 .taken)))
+    ∙ sym (received-zeros (a .inbox .now) (a .layout) (a .sender) (a .block .now) (M .before .if1 .left)
+    (sym (ap length (M .message .ensures)) ∙ c .before .before .before .before .if2 .taken))
 
 copy-requires : tie.Need-copy-requires
 copy-requires c κs = search needs
@@ -37,24 +37,23 @@ copy-requires c κs = search needs
 same-length-2 : tie.Need-same-length-2
 same-length-2 c = search needs
 
-returns-2 : tie.Need-returns-2
-unfolding receivedBlock
-returns-2 c =
+returns-3 : tie.Need-returns-3
+returns-3 c =
     let M = c .before .before .before .before .before in
-    let a = M .before .before .before .args in
-    let m = messageOf (a .inbox .now) (a .layout) (a .sender) in
+    let a = M .before .before .before .before .args in
     c .before .before .copy .ensures ∙ ap (λ (x : List ℕ). copied x (a .block .now)) (M .message .ensures)
-    ∙ sym (cond-no (eqb (length m) 0) (replicate (length (a .block .now)) 0) (copied m (a .block .now))
-    (ne-eqb (length m) 0 (λ e. c .before .before .before .before .if1 .left (ap length (M .message .ensures) ∙ e))))
+    ∙ sym (received-copy (a .inbox .now) (a .layout) (a .sender) (a .block .now) (M .before .if1 .left)
+    (λ e. c .before .before .before .before .if2 .left (ap length (M .message .ensures) ∙ e)))
 
 pub receive-block-spec : {M : Type 1} → statement M
 receive-block-spec =
     tie.close
     (tie.spec
+    returns
     message-requires
     silence-requires
     same-length
-    returns
+    returns-2
     copy-requires
     same-length-2
-    returns-2)
+    returns-3)
