@@ -1,12 +1,15 @@
 /* Four controllers in one process, of which controller 1 is two-faced: a faulty controller that shows different faces to different
  * controllers, in every round. Each face is a copy of the library with a block of its own, so that all that it sends is well formed and
- * agrees with all else that the same face sends. Three runs:
+ * agrees with all else that the same face sends. Five runs:
  *   1. The two-faced controller is the sender and shows 2 and 3 one block and 4 another. They agree on the block that 2 and 3 received.
  *   2. It is the sender and shows each of 2, 3 and 4 another block. They agree that there is none, and end with zeros.
  *   3. The sender is 2, which is correct; 1 says to 4 that it received another block. All end with the sender's block.
- * It prints what each correct controller received in round 1, what it ended with, and whom it names: those whose piece in the last round was
- * absent or false. The exit code is 0 if in every run all correct controllers have one outcome and one block (in run 3 the sender's) and none
- * names a correct one, and otherwise 1.
+ *   4. There is no sender; 2, 3 and 4 start with one block, and 1 says to 4 that it started with another. All end with that one block.
+ *   5. There is no sender, and each of 2, 3 and 4 starts with another block. They agree that there is none, and end with zeros; that accuses
+ *      nobody.
+ * It prints what each correct controller received in round 1, or started with, what it ended with, and whom it names: those whose piece in the
+ * last round was absent or false. The exit code is 0 if in every run all correct controllers have one outcome and one block (in run 3 the
+ * sender's, in run 4 the one that all started with) and none names a correct one, and otherwise 1.
  *
  * What a board needs is the first part, 'One controller': its buffers, its start, its calls. The rest takes the place of the bus and of the
  * faulty board. Nothing is allocated. */
@@ -42,7 +45,7 @@ struct controller {
 };
 
 /* The board's own number is set before, and never changes. The sender has put its block in `block`; the others leave there what they like.
- * Answers 0, or the number of the refusal. */
+ * Without a sender, sender 0, each has put the block there that it believes in. Answers 0, or the number of the refusal. */
 static uint8_t start(struct controller *a, size_t sender) {
     return potekawhi_start(N, T, K, a->own, sender, a->block, sizeof a->block, a->state, sizeof a->state);
 }
@@ -81,25 +84,32 @@ static void copy_slot(const struct controller *from, struct controller *to, size
 #define TWO_FACED 1
 #define FACES 3
 
-/* The block of each face. As sender it was started with it; otherwise it says that it received it from the sender. The sender of run 3 is
- * correct and has the block of face 0. The codings of no two of them have a piece in common. */
+/* The block of each face. As sender, or without a sender, it was started with it; otherwise it says that it received it from the sender. The
+ * sender of run 3 is correct and has the block of face 0. The codings of no two of them have a piece in common. */
 static const uint8_t BLOCKS[FACES][BLOCK_LENGTH] = {
     {0xa1, 0xa2, 0xa3, 0xa4, 0xa5, 0xa6, 0xa7, 0xa8},
     {0xb8, 0xb7, 0xb6, 0xb5, 0xb4, 0xb3, 0xb2, 0xb1},
     {0xc1, 0xc3, 0xc5, 0xc7, 0xc9, 0xcb, 0xcd, 0xcf},
 };
 
-/* A run: who sends, and which face controller 1 shows to controllers 2, 3 and 4. */
+#define NO_SENDER 0
+
+/* A run: who sends, which face controller 1 shows to controllers 2, 3 and 4, whose block each of these starts with if there is no sender, and
+ * whether all of them must end with the block of face 0. */
 struct run {
     const char *title;
     size_t sender;
     size_t shown[N + 1];
+    size_t held[N + 1];
+    bool first_block;
 };
 
 static const struct run RUNS[] = {
-    {"1: sender 1 is two-faced and shows 2 and 3 one block and 4 another", TWO_FACED, {0, 0, 0, 0, 1}},
-    {"2: sender 1 is two-faced and shows each of the others another block", TWO_FACED, {0, 0, 0, 1, 2}},
-    {"3: sender 2 is correct; 1 is two-faced and says to 4 that it received another block", 2, {0, 0, 0, 0, 1}},
+    {"1: sender 1 is two-faced and shows 2 and 3 one block and 4 another", TWO_FACED, {0, 0, 0, 0, 1}, {0}, false},
+    {"2: sender 1 is two-faced and shows each of the others another block", TWO_FACED, {0, 0, 0, 1, 2}, {0}, false},
+    {"3: sender 2 is correct; 1 is two-faced and says to 4 that it received another block", 2, {0, 0, 0, 0, 1}, {0}, true},
+    {"4: no sender; 2, 3 and 4 start with one block; 1 is two-faced and says to 4 that it started with another", NO_SENDER, {0, 0, 0, 0, 1}, {0}, true},
+    {"5: no sender; 2, 3 and 4 start with a block each; 1 is two-faced and shows each its own", NO_SENDER, {0, 0, 0, 1, 2}, {0, 0, 0, 1, 2}, false},
 };
 
 /* The faces of controller 1, and the correct controllers 2 to N, at their numbers. */
@@ -127,6 +137,9 @@ static bool start_all(const struct run *run) {
         correct[i].own = i;
         if (i == run->sender) {
             memcpy(correct[i].block, BLOCKS[0], BLOCK_LENGTH);
+        }
+        if (run->sender == NO_SENDER) {
+            memcpy(correct[i].block, BLOCKS[run->held[i]], BLOCK_LENGTH);
         }
         all = carried_out(&correct[i], 0, start(&correct[i], run->sender)) && all;
     }
@@ -160,7 +173,7 @@ static void deliver(const struct run *run, size_t c) {
         for (size_t i = 2; i <= N; i++) {
             copy_slot(&correct[i], &faces[f], c);
         }
-        if (c == 1 && run->sender != TWO_FACED) {
+        if (c == 1 && run->sender != TWO_FACED && run->sender != NO_SENDER) {
             /* the block that this face says it received, in place of the one that the sender sent */
             memcpy(faces[f].inbox + (run->sender - 1) * (1 + BLOCK_LENGTH) + 1, BLOCKS[f], BLOCK_LENGTH);
         }
@@ -204,9 +217,14 @@ static void print_marks(uint16_t marks) {
     }
 }
 
-/* What i received from the sender: read after round 1, before call 2. Here every sender sends; elsewhere the slot may be absent. */
+/* What i received from the sender: read after round 1, before call 2. Here every sender sends; elsewhere the slot may be absent. Without a sender
+ * it is the block that i started with, which call 2 keeps. */
 static bool keep_received(size_t i, size_t sender, uint8_t received[BLOCK_LENGTH]) {
     size_t offset = 0;
+    if (sender == NO_SENDER) {
+        memcpy(received, correct[i].block, BLOCK_LENGTH);
+        return true;
+    }
     size_t message_length = potekawhi_message_length(N, T, K, 1);
     size_t inbox_length = potekawhi_inbox_length(N, T, K, 2);
     if (potekawhi_message(correct[i].inbox, inbox_length, message_length, sender, &offset) != BLOCK_LENGTH) {
@@ -217,8 +235,8 @@ static bool keep_received(size_t i, size_t sender, uint8_t received[BLOCK_LENGTH
     return true;
 }
 
-/* One run to its end; whether all correct controllers have one outcome and one block, and the sender's if the sender is correct, and name nobody
- * but controller 1. */
+/* One run to its end; whether all correct controllers have one outcome and one block, that of face 0 where it must be, and name nobody but
+ * controller 1. */
 static bool play(const struct run *run) {
     static uint8_t received[N + 1][BLOCK_LENGTH];
     static uint8_t final_block[N + 1][BLOCK_LENGTH];
@@ -251,7 +269,7 @@ static bool play(const struct run *run) {
     for (size_t i = 2; i <= N; i++) {
         outcome[i] = potekawhi_final_block(correct[i].state, sizeof correct[i].state, correct[i].block, sizeof correct[i].block,
                                            final_block[i], sizeof final_block[i]);
-        printf("  controller %zu received ", i);
+        printf("  controller %zu %s ", i, run->sender == NO_SENDER ? "started with" : "received");
         print_bytes(received[i], BLOCK_LENGTH);
         printf(" and ended with %s ", outcome_name(outcome[i]));
         print_bytes(final_block[i], BLOCK_LENGTH);
@@ -262,9 +280,9 @@ static bool play(const struct run *run) {
 
         bool at_end = outcome[i] == POTEKAWHI_OUTCOME_AGREED || outcome[i] == POTEKAWHI_OUTCOME_NONE;
         bool as_first = outcome[i] == outcome[2] && memcmp(final_block[i], final_block[2], BLOCK_LENGTH) == 0;
-        bool as_sent = outcome[i] == POTEKAWHI_OUTCOME_AGREED && memcmp(final_block[i], BLOCKS[0], BLOCK_LENGTH) == 0;
+        bool as_due = outcome[i] == POTEKAWHI_OUTCOME_AGREED && memcmp(final_block[i], BLOCKS[0], BLOCK_LENGTH) == 0;
         bool none_correct = named == 0 || named == 1u << (TWO_FACED - 1);
-        all_right = all_right && at_end && as_first && (run->sender == TWO_FACED || as_sent) && none_correct;
+        all_right = all_right && at_end && as_first && (!run->first_block || as_due) && none_correct;
     }
     return all_right;
 }

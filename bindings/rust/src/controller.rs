@@ -9,7 +9,8 @@ pub enum Outcome {
     Open,
     /// The final block is the one agreed on.
     Agreed,
-    /// No core was found; the final block is zeros. If at most t controllers are faulty, the sender is one of them.
+    /// No core was found; the final block is zeros. If there is a sender and at most t controllers are faulty, the sender is one of them. Without a
+    /// sender it accuses nobody: the correct controllers did not all start with one block, or more than t are faulty.
     None,
     /// The pieces give no block, which takes more than t faulty controllers; the final block is zeros.
     Beyond,
@@ -25,7 +26,7 @@ pub struct Settings {
     pub t: usize,
     /// How many stripes a block has, 1 to 128.
     pub k: usize,
-    /// The number of the sender, 1 to n.
+    /// The number of the sender, 1 to n, or 0 if there is none: then the controllers compare the blocks that they start with.
     pub sender: usize,
 }
 
@@ -81,7 +82,7 @@ pub struct Controller<'b> {
 
 impl<'b> Controller<'b> {
     /// Begins the run of the controller with the number `own`. `block` is the sender's block; every other controller lends bytes of that
-    /// length, whatever they are. The calls overwrite it.
+    /// length, whatever they are. Without a sender it is the block that this controller holds. The calls overwrite it.
     pub fn start(
         settings: Settings,
         own: usize,

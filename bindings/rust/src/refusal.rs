@@ -14,7 +14,7 @@ pub enum Refusal {
     K = raw::BAD_K,
     /// The own number, or the number of a piece, is not 1 to n.
     Number = raw::BAD_NUMBER,
-    /// The sender is not 1 to n.
+    /// The sender is not 0 to n.
     Sender = raw::BAD_SENDER,
     /// A length is not the one stated.
     Length = raw::BAD_LENGTH,
@@ -63,7 +63,7 @@ impl fmt::Display for Refusal {
             Refusal::T => "t is 0, or 3t + 1 exceeds n",
             Refusal::K => "k is not 1 to 128",
             Refusal::Number => "the own number, or the number of a piece, is not 1 to n",
-            Refusal::Sender => "the sender is not 1 to n",
+            Refusal::Sender => "the sender is not 0 to n",
             Refusal::Length => "a length is not the one stated",
             Refusal::State => {
                 "the state has settings that are refused or a next call that there is not"

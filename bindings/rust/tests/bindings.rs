@@ -81,8 +81,10 @@ fn refused_starts() {
     assert_eq!(refused(SETTINGS, 0, 2), Refusal::Number);
     assert_eq!(refused(SETTINGS, 5, 2), Refusal::Number);
     let sender = |sender| Settings { sender, ..SETTINGS };
-    assert_eq!(refused(sender(0), 1, 2), Refusal::Sender);
     assert_eq!(refused(sender(5), 1, 2), Refusal::Sender);
+    assert_eq!(refused(sender(usize::MAX), 1, 2), Refusal::Sender);
+    assert_eq!(refused(sender(0), 0, 2), Refusal::Number);
+    assert_eq!(refused(sender(0), 1, 3), Refusal::Length);
     assert_eq!(refused(SETTINGS, 1, 1), Refusal::Length);
     assert_eq!(refused(SETTINGS, 1, 3), Refusal::Length);
     assert_eq!(refused(sender(5), 5, 3), Refusal::Number);
@@ -164,37 +166,79 @@ fn a_run_that_hears_nothing() {
     assert_eq!(block, [0, 0]);
 }
 
+/// Four controllers after their last call, each started with its block; `faulty` changes what arrives at each in a round.
+fn played(
+    settings: Settings,
+    blocks: &mut [[u8; 2]; 4],
+    faulty: impl Fn(usize, &mut [Vec<u8>]),
+) -> Vec<Controller<'_>> {
+    let mut controllers: Vec<Controller> = blocks
+        .iter_mut()
+        .zip(1..)
+        .map(|(block, own)| Controller::start(settings, own, block).unwrap())
+        .collect();
+    let mut inboxes = vec![Vec::new(); 4];
+    for call in 1..=12 {
+        let mut arriving = vec![vec![0; settings.inbox_length(call + 1)]; 4];
+        for from in 1..=4 {
+            let mut outbox = vec![9; settings.outbox_length(call)];
+            let controller = &mut controllers[from - 1];
+            assert!(controller.named().is_empty());
+            assert_eq!(controller.step(&inboxes[from - 1], &mut outbox), Ok(()));
+            for to in 1..=4 {
+                let slot = &outbox[settings.slot(call, to)];
+                arriving[to - 1][settings.slot(call, from)].copy_from_slice(slot);
+            }
+        }
+        faulty(call, &mut arriving);
+        inboxes = arriving;
+    }
+    controllers
+}
+
+/// Without a sender nobody sends in round 1, and controller 4, which is faulty, is not heard there. If 1, 2 and 3 start with one block they end with
+/// it; if each starts with another, they end with none.
+#[test]
+fn runs_without_a_sender() {
+    let settings = Settings {
+        sender: 0,
+        ..SETTINGS
+    };
+    let faulty = |call, arriving: &mut [Vec<u8>]| {
+        if call == 1 {
+            for (to, inbox) in arriving.iter_mut().enumerate() {
+                assert_eq!(*inbox, [0; 12]);
+                inbox[9..].copy_from_slice(&[1, 0x0b, to as u8]);
+            }
+        }
+    };
+    let mut blocks = [[0x0a, 0x14]; 4];
+    blocks[3] = [7; 2];
+    for controller in &played(settings, &mut blocks, faulty)[..3] {
+        assert_eq!(controller.outcome(), Outcome::Agreed);
+        assert_eq!(controller.final_block(), Some(&[0x0a, 0x14][..]));
+    }
+    let mut blocks = [[1, 2], [3, 5], [7, 11], [13, 17]];
+    for controller in &played(settings, &mut blocks, faulty)[..3] {
+        assert_eq!(controller.outcome(), Outcome::None);
+        assert_eq!(controller.final_block(), Some(&[0, 0][..]));
+        assert!(controller.named().is_empty());
+    }
+}
+
 /// Controller 4 is faulty: in the last round it sends its true piece to 1, a false one to 2 and none to 3. A step that is refused after the end
 /// leaves what each names.
 #[test]
 fn a_run_that_names_one() {
     let mut blocks = [[0x0a, 0x14], [7; 2], [7; 2], [7; 2]];
-    let mut controllers: Vec<Controller> = blocks
-        .iter_mut()
-        .zip(1..)
-        .map(|(block, own)| Controller::start(SETTINGS, own, block).unwrap())
-        .collect();
-    let mut inboxes = vec![Vec::new(); 4];
-    for call in 1..=12 {
-        let mut arriving = vec![vec![0; SETTINGS.inbox_length(call + 1)]; 4];
-        for from in 1..=4 {
-            let mut outbox = vec![9; SETTINGS.outbox_length(call)];
-            let controller = &mut controllers[from - 1];
-            assert!(controller.named().is_empty());
-            assert_eq!(controller.step(&inboxes[from - 1], &mut outbox), Ok(()));
-            for to in 1..=4 {
-                let slot = &outbox[SETTINGS.slot(call, to)];
-                arriving[to - 1][SETTINGS.slot(call, from)].copy_from_slice(slot);
-            }
-        }
+    let mut controllers = played(SETTINGS, &mut blocks, |call, arriving| {
         if call == 11 {
             let slot = SETTINGS.slot(11, 4);
             assert_eq!(arriving[0][slot.clone()], [1, 0x5a]);
             arriving[1][slot.clone()].copy_from_slice(&[1, 0x5b]);
             arriving[2][slot].copy_from_slice(&[0, 0x5a]);
         }
-        inboxes = arriving;
-    }
+    });
     let expected = [Marks(0), Marks(0b1000), Marks(0b1000)];
     for (controller, named) in controllers.iter_mut().zip(expected) {
         assert_eq!(controller.outcome(), Outcome::Agreed);

@@ -31,7 +31,7 @@ fn makes_a_call(state: &State) -> bool {
     } = *state;
     wire::settings_hold(n as u128, t as u128, k as u128)
         && (1..=n).contains(&own)
-        && (1..=n).contains(&sender)
+        && (0..=n).contains(&sender)
         && (1..=3 * t + 9).contains(&state.next)
 }
 
@@ -87,7 +87,7 @@ fn built(random: &mut Random) -> Vec<u8> {
         t,
         k,
         own: random.within(1, n),
-        sender: random.within(1, n),
+        sender: random.within(0, n),
         next,
         matrix,
         weak,

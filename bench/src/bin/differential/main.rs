@@ -90,12 +90,14 @@ fn main() -> ExitCode {
         systems::case(tally, random, &mut systems)
     });
     run.line(format!(
-        "systems: {}, of them {} with at most t faulty controllers and {} of these with a correct sender; runs of correct controllers: {}, \
-         agreed {}, none {}, beyond {}; calls {}, outside a core {}; refused steps {}; with at most t faulty, runs that name somebody {}, systems \
+        "systems: {}, of them {} with at most t faulty controllers: {} of these with a correct sender, {} without a sender and with one block at all \
+         starts, {} without a sender and with several; runs of correct controllers: {}, agreed {}, none {}, beyond {}; calls {}, outside a core {}; refused steps {}; with at most t faulty, runs that name somebody {}, systems \
          in which not all name the same {}; with more than t, runs that name a correct controller {}",
         systems.systems,
         systems.within_t,
         systems.correct_sender,
+        systems.alike,
+        systems.unlike,
         systems.runs,
         systems.agreed,
         systems.none,

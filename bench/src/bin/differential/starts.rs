@@ -24,8 +24,8 @@ pub fn case(tally: &mut Tally, random: &mut Random, number: u64, counts: &mut Co
     );
     // the edges, and mostly right settings
     for (n, t, k) in [edges, inputs::settings(random)] {
-        let own = of(random, n);
-        let sender = of(random, n);
+        let own = of(random, 1, n);
+        let sender = of(random, 0, n);
         let start = Start {
             n,
             t,
@@ -49,11 +49,11 @@ pub fn case(tally: &mut Tally, random: &mut Random, number: u64, counts: &mut Co
     Ok(())
 }
 
-/// A number mostly from 1 to n, or at one of the edges.
-fn of(random: &mut Random, n: usize) -> usize {
+/// A number mostly from `least` to n, or at one of the edges.
+fn of(random: &mut Random, least: usize, n: usize) -> usize {
     match random.below(8) {
         0 => random.pick(&EDGES),
         1 => n.wrapping_add(1),
-        _ => random.within(1, n.clamp(1, 16)),
+        _ => random.within(least, n.clamp(1, 16)),
     }
 }

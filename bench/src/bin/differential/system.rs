@@ -16,12 +16,13 @@ pub struct System {
     pub n: usize,
     pub t: usize,
     pub k: usize,
+    /// 0 if there is none.
     pub sender: usize,
     /// The faulty controllers, the bit worth 1 for controller 1.
     pub faulty: u16,
-    /// Blocks that faulty controllers speak of; the sender's comes first.
+    /// Blocks that faulty controllers speak of; the sender's comes first, and without a sender one that controllers start with.
     pub blocks: Vec<Vec<u8>>,
-    /// For each controller the block that a faulty sender has for it.
+    /// For each controller the block that a faulty sender has for it, or that it starts with where there is no sender.
     pub groups: Vec<usize>,
     pub controllers: Vec<Controller>,
     /// The outboxes of each round, one for each controller.
@@ -70,8 +71,15 @@ impl System {
             }
             blocks.push(block);
         }
+        if random.one_in(4) {
+            sender = 0;
+        }
         let mut groups = vec![0; n];
-        let others = random.pick(&[1, t, t, t + 1, n / 2]);
+        let mut others = random.pick(&[1, t, t, t + 1, n / 2]);
+        if sender == 0 && random.one_in(2) {
+            // all start with one block
+            others = 0;
+        }
         for i in &random.order(n)[..others] {
             groups[*i] = random.below(blocks.len());
         }
@@ -85,6 +93,17 @@ impl System {
             groups,
             controllers: Vec::new(),
             outboxes: Vec::new(),
+        }
+    }
+
+    /// The block that a controller starts with: that of the sender and, without one, that of its group; else any.
+    pub fn first_block(&self, random: &mut Random, own: usize) -> Vec<u8> {
+        if self.sender == 0 {
+            self.blocks[self.groups[own - 1]].clone()
+        } else if own == self.sender {
+            self.blocks[0].clone()
+        } else {
+            random.bytes(self.blocks[0].len())
         }
     }
 

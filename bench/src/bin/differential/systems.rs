@@ -21,6 +21,9 @@ pub struct Counts {
     pub systems: u64,
     pub within_t: u64,
     pub correct_sender: u64,
+    /// Within t, without a sender: systems whose correct controllers started with one block, and with several.
+    pub alike: u64,
+    pub unlike: u64,
     pub runs: u64,
     pub calls: u64,
     pub refused: u64,
@@ -100,11 +103,7 @@ impl Run {
 
     fn start(&mut self, tally: &mut Tally, random: &mut Random) -> Same<()> {
         for own in 1..=self.system.n {
-            let block = if own == self.system.sender {
-                self.system.blocks[0].clone()
-            } else {
-                random.bytes(self.system.blocks[0].len())
-            };
+            let block = self.system.first_block(random, own);
             let settings = Start {
                 n: self.system.n,
                 t: self.system.t,
@@ -236,8 +235,8 @@ impl Run {
         Ok(())
     }
 
-    /// With at most t faulty controllers all correct ones end with one outcome and one block, with a correct sender the sender's; and the marks in
-    /// the library's states are of faulty ones only.
+    /// With at most t faulty controllers all correct ones end with one outcome and one block: with a correct sender the sender's, without a sender
+    /// the one that all correct ones started with, if it was one; and the marks in the library's states are of faulty ones only.
     fn agreement(&self, tally: &mut Tally, counts: &mut Counts) -> Same<()> {
         let correct: Vec<&Controller> = (1..=self.system.n)
             .filter(|&i| !self.system.is_faulty(i))
@@ -272,13 +271,21 @@ impl Run {
             "an outcome within t",
             first.state.outcome != Outcome::Beyond,
         )?;
-        if !self.system.is_faulty(self.system.sender) {
+        let ends_with =
+            |block: &Vec<u8>| (first.state.outcome, &first.block) == (Outcome::Agreed, block);
+        if self.system.sender == 0 {
+            let mut started = correct
+                .iter()
+                .map(|c| &self.system.blocks[self.system.groups[c.state.own - 1]]);
+            let block = started.next().expect("a correct controller");
+            if started.all(|other| other == block) {
+                counts.alike += 1;
+                return tally.holds("the block that all started with", ends_with(block));
+            }
+            counts.unlike += 1;
+        } else if !self.system.is_faulty(self.system.sender) {
             counts.correct_sender += 1;
-            let senders = (Outcome::Agreed, &self.system.blocks[0]);
-            tally.holds(
-                "the sender's block",
-                (first.state.outcome, &first.block) == senders,
-            )?;
+            tally.holds("the sender's block", ends_with(&self.system.blocks[0]))?;
         }
         Ok(())
     }
