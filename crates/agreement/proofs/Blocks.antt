@@ -1,5 +1,6 @@
 -- Step 2. After call 2 each correct controller i holds a block B i (`is-block`): the sender's if the sender is correct (`sender-block`), its own
--- if there is no sender (`own-block`). The marks of i have a correct j exactly where the codings of B i and B j agree at both their places (`marks-agree`, `agree-marks`).
+-- if there is no sender (`own-block`). The marks of i have a correct j exactly where the codings of B i and B j agree at both their places
+-- (`marks-agree`, `agree-marks`).
 use mathlib.Core.Path.{_≡_, refl, sym, ap, subst, _∙_}
 use mathlib.Core.Bool.{true}
 use mathlib.Core.List.{List, _++_}

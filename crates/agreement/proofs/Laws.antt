@@ -15,7 +15,7 @@
 --     one-matrix, row-is-marks  the vote: one matrix, with each correct controller's row as it was sent
 --     one-core, enough-correct, one-block   one core; at least t + 1 of its members are correct; they hold one block
 --     piece-sent                with a core each correct controller sends its piece of that block in round 3t + 8
---     common-in-core              if all held one block then, every correct controller is in the core; sender-in-core: so it is with a correct sender
+--     common-in-core            if all held one block then, every correct controller is in the core; sender-in-core: so it is with a correct sender
 --   Demand 3
 --     agreement, one-plan       the theorem, and its corollary
 --   Beside demand 3

@@ -86,7 +86,7 @@ pub record Supposed (S : System) : Type 0 where
   -- n is at least 3t + 1, and at most t controllers are not correct
   pub tolerance : 3 * S .settings .t + 1 ≤ S .settings .n
   pub few : count (S .settings .n) (λ i. not (S .correct (i + 1))) ≤ S .settings .t
-  -- each correct controller's start, with the system's settings and its own number, is carried out
+  -- each correct controller's start, with the system's settings (the sender 0 to n) and its own number, is carried out
   pub started : (i : ℕ) → Correct S i → startOf (S .settings) i (length (S .block i)) .number ≡ 0
   -- all its 3t + 9 calls are carried out, whatever steps are refused before, between and after them
   pub finished : (i : ℕ) → Correct S i → length (callsOf S i) ≡ last S
@@ -131,7 +131,7 @@ pub record Concluded (S : System) : Type 0 where
   -- the outcomes are equal, and the blocks are equal byte for byte; without a sender too, whatever blocks the controllers were started with
   pub same-outcome : (i j : ℕ) → Correct S i → Correct S j → outcomeOf S i ≡ outcomeOf S j
   pub same-block : (i j : ℕ) → Correct S i → Correct S j → blockOf S i ≡ blockOf S j
-  -- if the sender is correct, every outcome is agreed, and every block is the one that the sender was started with
+  -- if the sender is correct, and so one of 1 .. n, every outcome is agreed, and every block is the one that the sender was started with
   pub sender-outcome : (i : ℕ) → Correct S (S .settings .sender) → Correct S i → outcomeOf S i ≡ Agreed
   pub sender-block : (i : ℕ) → Correct S (S .settings .sender) → Correct S i → blockOf S i ≡ S .block (S .settings .sender)
   -- if there is no sender and all correct controllers were started with one block, every outcome is agreed, and every block is that one

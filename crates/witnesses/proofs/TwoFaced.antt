@@ -2,7 +2,7 @@
 -- different controllers. The steps of 1, 2 and 3 contain refused ones before, between and after the calls. `two-faced-supposed`: what
 -- demand 3 supposes holds, computed; `two-faced-agreed`: by demand 3, agreed and 0a14; `two-faced-named`: whom 1, 2 and 3 name (document 02, U1).
 --   from4-1, from4-2, from4-3   the slots that 4 sends to 1, 2 and 3, round after round
---   stepsOf first piece from4   the steps of the controller with that piece, where 1 sends it the slot `first` in round 1
+--   stepsOf from1 piece from4   the steps of the controller with that piece; from1 is the slot that 1 sends it in round 1
 use mathlib.Core.Path.{_≡_, refl, ap, _∙_}
 use mathlib.Core.Bool.{Bool, true, false, cond, not}
 use mathlib.Core.List.{List, [], _∷_, _++_}
@@ -90,14 +90,14 @@ from4-3 =
     ∷ []
 
 unfoldable pub stepsOf : List ℕ → ℕ → List (List ℕ) → List Step
-stepsOf first piece from4 =
+stepsOf from1 piece from4 =
     let x : ℕ → List ℕ = λ c. getD from4 (c - 1) [] in
     let p : List ℕ = present (piece ∷ []) in
     let m : List ℕ = present (rows 0x07 0x0f 0x07 0x00) in
     let s : List ℕ = present (rows 0x08 0x00 0x08 0x0f ++ rows 0x07 0x0f 0x07 0x00) in
     (0x07 ∷ [], 12)  -- refused with 6: call 1 has an inbox of length 0
     ∷ ([], 12)
-    ∷ (box first (absent 2) (absent 2) (x 1), 12)
+    ∷ (box from1 (absent 2) (absent 2) (x 1), 12)
     ∷ (box (present (0x1e ∷ piece ∷ [])) (present (0x22 ∷ piece ∷ [])) (present (0x36 ∷ piece ∷ [])) (x 2), 12)
     ∷ (box (present (0x07 ∷ 0x00 ∷ [])) (present (0x0f ∷ 0x00 ∷ [])) (present (0x07 ∷ 0x00 ∷ [])) (x 3), 36)
     ∷ (box (present (rows 0x07 0x0f 0x07 0x0f)) m m (x 4), 67)  -- refused with 6: the outbox is too short

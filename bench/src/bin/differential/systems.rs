@@ -21,9 +21,10 @@ pub struct Counts {
     pub systems: u64,
     pub within_t: u64,
     pub correct_sender: u64,
-    /// Within t, without a sender: systems whose correct controllers started with one block, and with several.
+    /// Within t, without a sender: systems whose correct controllers started with one block, and with several; of the latter, those that agreed.
     pub alike: u64,
     pub unlike: u64,
+    pub unlike_agreed: u64,
     pub runs: u64,
     pub calls: u64,
     pub refused: u64,
@@ -283,6 +284,7 @@ impl Run {
                 return tally.holds("the block that all started with", ends_with(block));
             }
             counts.unlike += 1;
+            counts.unlike_agreed += u64::from(first.state.outcome == Outcome::Agreed);
         } else if !self.system.is_faulty(self.system.sender) {
             counts.correct_sender += 1;
             tally.holds("the sender's block", ends_with(&self.system.blocks[0]))?;
