@@ -21,8 +21,8 @@
  *   6  a lent length is not the one stated
  * that it tries, as said below; step has two more, 7 and 8. Refused, it changes no byte.
  *
- * Without a sender. Sender 0 starts a run in which the controllers compare the blocks that they hold: nobody sends in round 1, and its slots are
- * not read. If at most t controllers are faulty and all correct ones start with one block, all of them end with agreed and that block; if their blocks
+ * Without a sender. Sender 0 starts a run in which the controllers compare the blocks that they hold: nobody sends in round 1, and no slot of it
+ * is read. If at most t controllers are faulty and all correct ones start with one block, they end with agreed and that block; if their blocks
  * differ, they still end with one outcome and one block. All lengths are those of a run with a sender.
  *
  * Marks. A set of controllers is a number of 16 bits: the bit worth 1 is for controller 1, the bit worth 2 for controller 2, the bit worth 4 for
@@ -65,23 +65,22 @@ extern "C" {
 #define POTEKAWHI_BEYOND 255
 
 /* Outcomes: what potekawhi_outcome and potekawhi_final_block answer. With at most t faulty controllers all correct ones have the same one, agreed
- * or none. None means that no core was found. In a run with a sender and with at most t faulty controllers that says that the sender is faulty; with
- * sender 0 it accuses nobody, and says only that the correct controllers did not all start with one block. With more than t nothing is promised, and
- * none accuses nobody. */
+ * or none. None means that no core was found: with a sender, that the sender is faulty; with sender 0 it accuses nobody, the correct controllers did
+ * not all start with one block. With more than t faulty controllers nothing is promised, and none accuses nobody. */
 #define POTEKAWHI_OUTCOME_OPEN 0   /* the run is not at its end */
 #define POTEKAWHI_OUTCOME_AGREED 1 /* the final block is the one agreed on */
 #define POTEKAWHI_OUTCOME_NONE 2   /* no core was found; the final block is zeros */
 #define POTEKAWHI_OUTCOME_BEYOND 3 /* no block is close enough to the pieces: more than t controllers are faulty; the final block is zeros */
 
 /* Begins the run of one controller. `sender` is 1 to n, or 0 for none. `block` is the sender's block, k * (t + 1) bytes; every other controller
- * lends bytes of that length, whatever they are. With sender 0 it is the block that this controller holds. It is neither read nor changed here. `state` is POTEKAWHI_STATE_LENGTH bytes, whatever they are; the caller keeps it
- * for the whole run.
+ * lends bytes of that length, whatever they are. With sender 0 each lends the block that it holds. It is neither read nor changed here. `state` is
+ * POTEKAWHI_STATE_LENGTH bytes, whatever they are; the caller keeps it for the whole run.
  * Answers 6 if `state` has another length; else the first of 1 to 6, in order. Refused, it changes nothing, `state` included. */
 uint8_t potekawhi_start(size_t n, size_t t, size_t k, size_t own, size_t sender, const uint8_t *block, size_t block_length,
                         uint8_t *state, size_t state_length);
 
 /* Makes the next call of the run. `state` is what potekawhi_start or the step before wrote; `block` is the controller's block, which the
- * caller keeps for the whole run and which step overwrites in calls 2 (but with sender 0) and 3t + 9; `inbox` and `outbox` are as long as
+ * caller keeps for the whole run and which step overwrites in call 3t + 9 and, with a sender, in call 2; `inbox` and `outbox` are as long as
  * potekawhi_inbox_length and potekawhi_outbox_length say of the call, and all of `outbox` is written.
  * Answers 6 if `state` has another length than POTEKAWHI_STATE_LENGTH; else 7 if its settings or its own number are refused with one of 1 to
  * 5, or its next call is not 1 to 3t + 10; else 8 if the run is at its end; else 6 if another lent length is wrong. Refused, nothing changes,

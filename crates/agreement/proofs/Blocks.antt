@@ -1,6 +1,6 @@
--- Step 2. After call 2 each correct controller i holds a block B i (`is-block`): the sender's if the sender is correct (`sender-block`), its own
--- if there is no sender (`own-block`). The marks of i have a correct j exactly where the codings of B i and B j agree at both their places
--- (`marks-agree`, `agree-marks`).
+-- Step 2. After call 2 each correct controller i holds a block B i (`is-block`): the sender's if the sender is correct (`sender-block`); if there is
+-- no sender, round 1 is silent (`round-1-silent`) and B i is its own (`own-block`). The marks of i have a correct j exactly where the codings of B i and
+-- B j agree at both their places (`marks-agree`, `agree-marks`).
 use mathlib.Core.Path.{_≡_, refl, sym, ap, subst, _∙_}
 use mathlib.Core.Bool.{true}
 use mathlib.Core.List.{List, _++_}
@@ -9,7 +9,7 @@ use Prim.Native.Nat.{ℕ, _+_, _-_, _*_, _≤_, _<_}
 use native.Mathlib.Nat.{mul-pos}
 use native.Mathlib.Omega.{arith}
 use lib.Dec.{lit<}
-use lib.ListN.{length, length-append}
+use lib.ListN.{length, length-append, replicate}
 use Rattle.lists.proofs.Tests.{same-or-not}
 use Rattle.bitset.specs.Set.{member}
 use Rattle.bitset.proofs.Laws.{member-set, set-lt}
@@ -24,8 +24,8 @@ use Rattle.wire.proofs.Laws.{call-send, call-receive, call-compare, round-block
 use Rattle.wire.proofs.Laws.{Sized, sized-bytes}
 use Rattle.reed_solomon.specs.Encode.{pieceOf}
 use Rattle.dispersal.specs.Dispersal.{sentBlock, receivedBlock, twoPieces, sentPieces, isMarked, marksOf, marksMessage, sentMarks}
-use Rattle.dispersal.proofs.Laws.{sent-block, received-kept, received-message, length-received, received-all, sent-pieces, two-pieces-is, marks-set}
-use Rattle.dispersal.proofs.Laws.{marked-yes, yes-marked, sent-marks}
+use Rattle.dispersal.proofs.Laws.{sent-block, sent-silence, received-kept, received-message, length-received, received-all, sent-pieces, two-pieces-is}
+use Rattle.dispersal.proofs.Laws.{marks-set, marked-yes, yes-marked, sent-marks}
 use Rattle.protocol.specs.Calls.{Carried, sendCall, receiveCall, compareCall}
 use Rattle.protocol.proofs.Laws.{of-send, of-receive, of-compare}
 use Rattle.agreement.specs.Run.{Local}
@@ -52,8 +52,17 @@ module _ (S : System) (H : Supposed S) where
     pub len-3 : layoutOf S 3 .length ≡ 2
     len-3 = length-round S H i f 3 (round-marks (S .settings .t)) (row-marks (S .settings .n) (S .settings .t) (S .settings .k))
 
-    -- ---- call 2
-    -- it is lent the block that the controller was started with, since call 1 keeps it
+    -- ---- call 1
+    sends-1 : call S i 1 .sends ≡ sentBlock (layoutOf S 1) (S .settings .n) i (S .settings .sender) (S .block i) (call S i 1 .lent .outbox)
+    sends-1 =
+        let m = call S i 1 in
+        let F : Settings → ℕ → ℕ → List ℕ → List ℕ = λ s own next b.
+        sentBlock (roundLayout (s .n) (s .t) (s .k) next) (s .n) own (s .sender) b (m .lent .outbox) in
+        sends-by S H i f 1 (omega arith) (omega arith) Send (call-send (S .settings .t)) (λ s b _ o. sendCall s b o) of-send
+        (λ s own next. F s own next (m .before .block)) refl
+        ∙ ap (F (S .settings) i 1) (ap (λ (h : Local). h .block) (call-first S H i f))
+
+    -- it keeps the block, so that call 2 is lent the one that the controller was started with
     lent-2 : call S i 2 .before .block ≡ S .block i
     lent-2 =
         ap (λ (h : Local). h .block) (call-next S H i f 1 (omega arith) (omega arith))
@@ -62,6 +71,7 @@ module _ (S : System) (H : Supposed S) where
         (performs-kind S H i f 1 (omega arith) (omega arith) Send (call-send (S .settings .t)) (λ s b _ o. sendCall s b o) of-send)
         ∙ ap (λ (h : Local). h .block) (call-first S H i f)
 
+    -- ---- call 2
     received : heldBlock S i ≡ receivedBlock (call S i 2 .lent .inbox) (layoutOf S 1) (S .settings .sender) (S .block i)
     received =
         let m = call S i 2 in
@@ -145,13 +155,9 @@ module _ (S : System) (H : Supposed S) where
     sent : call S (S .settings .sender) 1 .sends ≡ slots (layoutOf S 1) (λ _. bytes (S .block (S .settings .sender))) (S .settings .n)
     sent =
         let i = S .settings .sender in
-        let m = call S i 1 in
-        let F : Settings → ℕ → ℕ → List ℕ → List ℕ = λ s own next b.
-        sentBlock (roundLayout (s .n) (s .t) (s .k) next) (s .n) own (s .sender) b (m .lent .outbox) in
-        sends-by S H i g 1 (omega arith) (omega arith) Send (call-send (S .settings .t)) (λ s b _ o. sendCall s b o) of-send
-        (λ s own next. F s own next (m .before .block)) refl
-        ∙ ap (F (S .settings) i 1) (ap (λ (h : Local). h .block) (call-first S H i g))
-        ∙ sent-block (layoutOf S 1) (S .settings .n) i i (S .block i) (m .lent .outbox) refl (long-2 i g) (outbox-long S H i g 1 (omega arith) (omega arith))
+        sends-1 i g
+        ∙ sent-block (layoutOf S 1) (S .settings .n) i i (S .block i) (call S i 1 .lent .outbox) refl (long-2 i g)
+        (outbox-long S H i g 1 (omega arith) (omega arith))
 
     pub sender-block : (i : ℕ) → Correct S i → heldBlock S i ≡ S .block (S .settings .sender)
     sender-block i f =
@@ -165,6 +171,12 @@ module _ (S : System) (H : Supposed S) where
         ∙ came
 
   -- ---- there is no sender
+  pub round-1-silent : S .settings .sender ≡ 0 → (i : ℕ) → Correct S i → call S i 1 .sends ≡ replicate (S .settings .n * width (layoutOf S 1)) 0
+  round-1-silent z i f =
+      sends-1 i f
+      ∙ sent-silence (layoutOf S 1) (S .settings .n) i (S .settings .sender) (S .block i) (call S i 1 .lent .outbox) (λ e. omega (arith, f .least, e, z))
+      ∙ ap (λ (x : ℕ). replicate x 0) (outbox-long S H i f 1 (omega arith) (omega arith))
+
   pub own-block : S .settings .sender ≡ 0 → (i : ℕ) → Correct S i → heldBlock S i ≡ S .block i
   own-block z i f = received i f ∙ received-kept (call S i 2 .lent .inbox) (layoutOf S 1) (S .settings .sender) (S .block i) z
 

@@ -12,6 +12,7 @@
 --     delivered                 what i sent to j in round c is what j's call c + 1 reads
 --   The steps of the proof
 --     heldBlock, is-block       the block held after call 2; sender-block: the sender's, if the sender is correct; own-block: without a sender the own
+--     round-1-silent            without a sender nobody sends in round 1
 --     one-matrix, row-is-marks  the vote: one matrix, with each correct controller's row as it was sent
 --     one-core, enough-correct, one-block   one core; at least t + 1 of its members are correct; they hold one block
 --     piece-sent                with a core each correct controller sends its piece of that block in round 3t + 8
@@ -22,7 +23,7 @@
 --     named-by-last             whom a correct controller names; no-correct-named: no correct one; named-by-many: whoever t + 1 name is not correct
 pub use Rattle.agreement.proofs.Run.{stepNumber, carried-out-yes, carried-out-no, chain, refused-away, At, step-at, valid-at, finished-step}
 pub use Rattle.agreement.proofs.System.{valid, coded, numbered, length-block, call-at, call-first, call-next, call-last, delivered}
-pub use Rattle.agreement.proofs.Blocks.{heldBlock, is-block, sender-block, own-block}
+pub use Rattle.agreement.proofs.Blocks.{heldBlock, is-block, sender-block, own-block, round-1-silent}
 pub use Rattle.agreement.proofs.Votes.{one-matrix, row-is-marks}
 pub use Rattle.agreement.proofs.Cores.{one-core, enough-correct, one-block}
 pub use Rattle.agreement.proofs.Pieces.{piece-sent}

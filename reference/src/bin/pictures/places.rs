@@ -71,7 +71,7 @@ pub const PLACES: &[Place] = &[
     ("state_bytes", Library, 7, [1, 1], &["the state as bytes"]),
     ("controller", Library, 7, [2, 2], &["start and step"]),
     ("simulation", NoCode, 7, [3, 3], &["the run of a system,", "as a definition"]),
-    ("witnesses", NoCode, 8, [0, 0], &["two computed systems,", "theorem applied"]),
+    ("witnesses", NoCode, 8, [0, 0], &["computed systems,", "theorem applied"]),
     ("boards", Library, 8, [1, 1], &["the functions that", "C calls"]),
     ("simulator", Library, 8, [3, 3], &["from a system file", "to the output"]),
     ("cases", Library, 8, [4, 4], &["random numbers,", "digests, printing"]),
