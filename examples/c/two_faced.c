@@ -108,7 +108,7 @@ static const struct run RUNS[] = {
     {"1: sender 1 is two-faced and shows 2 and 3 one block and 4 another", TWO_FACED, {0, 0, 0, 0, 1}, {0}, false},
     {"2: sender 1 is two-faced and shows each of the others another block", TWO_FACED, {0, 0, 0, 1, 2}, {0}, false},
     {"3: sender 2 is correct; 1 is two-faced and says to 4 that it received another block", 2, {0, 0, 0, 0, 1}, {0}, true},
-    {"4: no sender; 2, 3 and 4 start with one block; 1 is two-faced and says to 4 that it started with another", NO_SENDER, {0, 0, 0, 0, 1}, {0}, true},
+    {"4: no sender; 2, 3 and 4 start with one block; 1 is two-faced and shows 4 another", NO_SENDER, {0, 0, 0, 0, 1}, {0}, true},
     {"5: no sender; 2, 3 and 4 start with a block each; 1 is two-faced and shows each its own", NO_SENDER, {0, 0, 0, 1, 2}, {0, 0, 0, 1, 2}, false},
 };
 

@@ -64,7 +64,8 @@ module _ (inbox : List ℕ) (layout : Layout) (sender : ℕ) (b : List ℕ) wher
   received-message s n e = received-copy s n ∙ copied-all came b (length-message inbox layout sender n ∙ sym e)
 
   -- what holds in the three cases
-  by-cases : (P : List ℕ → Type 0) → P b → P (replicate (length b) 0) → ((length came ≡ 0 → ⊥) → P (copied came b)) → P (receivedBlock inbox layout sender b)
+  by-cases : (P : List ℕ → Type 0) → P b → P (replicate (length b) 0) → ((length came ≡ 0 → ⊥) → P (copied came b))
+      → P (receivedBlock inbox layout sender b)
   by-cases P kept zeros copy =
       ⊎-elim
       (λ (z : sender ≡ 0). subst P (sym (received-kept z)) kept)
@@ -79,8 +80,8 @@ module _ (inbox : List ℕ) (layout : Layout) (sender : ℕ) (b : List ℕ) wher
   length-received = by-cases (λ (l : List ℕ). length l ≡ length b) refl (length-replicate (length b) 0) (λ _. length-copied came b)
 
   -- what holds of 0, of every byte of the inbox and of every byte of the lent block holds of every byte of the block
-  pub received-all : (P : ℕ → Type 0) → P 0 → ((i : ℕ) → P (getD inbox i 0)) → ((i : ℕ) → P (getD b i 0)) → length b ≡ layout .length → (i : ℕ)
-      → P (getD (receivedBlock inbox layout sender b) i 0)
+  pub received-all : (P : ℕ → Type 0) → P 0 → ((i : ℕ) → P (getD inbox i 0)) → ((i : ℕ) → P (getD b i 0)) → length b ≡ layout .length
+      → (i : ℕ) → P (getD (receivedBlock inbox layout sender b) i 0)
   received-all P z h lent e i =
       by-cases (λ (l : List ℕ). P (getD l i 0)) (lent i) (all-zeros P z (length b) i)
       (λ n. subst (λ (l : List ℕ). P (getD l i 0)) (sym (copied-all came b (length-message inbox layout sender n ∙ sym e)))

@@ -1,6 +1,6 @@
--- Calls 1 to 3 (document 01, 'Rounds'): the sender's block, the pieces, the marks. Controllers are numbered from 1; own is
--- the caller's own number; sender 0 is none (document 02, U6), so that nobody sends in round 1. The functions are total: outside the settings, or with a block or an outbox of another length, nothing is
--- written and nobody is marked.
+-- Calls 1 to 3 (document 01, 'Rounds'): the sender's block, the pieces, the marks. Controllers are numbered from 1; own is the caller's own
+-- number. Sender 0 is none (document 02, U6), so that nobody sends in round 1. The functions are total: outside the settings, or with a block or
+-- an outbox of another length, nothing is written and nobody is marked.
 --   sentBlock layout n own sender b o    call 1: the sender's block to all; silence from everyone else
 --   receivedBlock inbox layout sender b  call 2: the block is the sender's message, or zeros if absent; without a sender the lent block is kept
 --   twoPieces k t own b j                round 2, to j: the own piece, then piece j of the own coding

@@ -1,6 +1,6 @@
-//! The expected output of the program controller_cases. The refusals are written by hand from document 01's table ('Turned down'), not
-//! computed (row 5 as document 02, U6, has it); the runs with silent inboxes follow its rounds ('Rounds'), with what silence makes of each rule; what the last calls set is written
-//! by hand from its examples. The reference is compared with all of it.
+//! The expected output of the program controller_cases. The refusals are written by hand from document 01's table ('Turned down'; row 5 as
+//! document 02, U6, has it), not computed; the runs with silent inboxes follow its rounds ('Rounds'), with what silence makes of each rule; what
+//! the last calls set is written by hand from its examples. The reference is compared with all of it.
 use reference::controller::{start, step, Outcome, State};
 use reference::wire::{block_length, box_length};
 

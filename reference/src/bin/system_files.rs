@@ -354,8 +354,9 @@ fn false_pieces(files: &mut Files) {
     files.right("false_pieces", text(&system), &rows);
 }
 
-/// There is no sender (document 02, U6), and 2 and 5 are faulty from round 1 on: they send blocks, which nobody reads. In round 2 they support another
-/// block than the one that all correct controllers start with towards 6 and 7, and in rounds 3t + 7 and 3t + 8 towards all; in the votes they lie.
+/// There is no sender (document 02, U6), and 2 and 5 are faulty from round 1 on: they send blocks, which nobody reads. In round 2 they support
+/// another block than the one that all correct controllers start with towards 6 and 7, and in rounds 3t + 7 and 3t + 8 towards all; in the votes
+/// they lie.
 fn without_sender(files: &mut Files) {
     let system = with_choices(system(7, 2, 0, &BLOCK, &[2, 5]), |c| match c.kind {
         1 => Some(if c.to < 4 { &BLOCK } else { &OTHER_BLOCK }.to_vec()),
