@@ -1,5 +1,5 @@
-// Drives `controller::start` and `controller::step` through every refusal of document 01 ('Turned down'), one controller alone, with silent
-// inboxes, through whole runs, and some through their last call.
+// Drives `controller::start` and `controller::step` through every refusal of document 01 ('Turned down'; row 5 as document 02, U6, has it), one
+// controller alone, with silent inboxes, through whole runs, and some through their last call.
 // A line `start n t k own sender length: number state block`: the lent length, the number answered, whether the state answered is the zero
 // state or the one of a run that begins, and whether the lent block is the same.
 // A line `step n t k own sender next block inbox outbox: number state block outbox`: the settings and the next call of the state given, the lent
