@@ -1,23 +1,27 @@
 -- Demand 3: `agreement`. From the laws of the code and of the star (`concluded`), and with them. Its corollary for readers: `one-plan`. Beside it, whom
--- correct controllers name (document 02, U1): `named-by-last`, `no-correct-named` and `named-by-many`.
-use mathlib.Core.Path.{sym, ap, _∙_}
+-- correct controllers name (document 02, U1): `named-by-last`, `no-correct-named` and `named-by-many`; and who held the block that is agreed on
+-- (document 02, U14): `held-by-many`, `held-on` and `all-in-core`.
+use mathlib.Core.Path.{_≡_, sym, ap, _∙_}
 use mathlib.Core.Bool.{not}
 use mathlib.Core.List.{List}
-use Prim.Native.Nat.{ℕ, _+_, _-_}
+use mathlib.Core.Logic.{⊎-elim}
+use Prim.Native.Nat.{ℕ, _+_, _-_, _≤_, _<_}
 use native.Mathlib.Omega.{arith}
 use Rattle.lists.proofs.Sums.{count-mono}
-use Rattle.lists.proofs.Tests.{true≢false, fails}
+use Rattle.lists.proofs.Tests.{true≢false, fails, lt-or-le}
 use Rattle.bitset.specs.Set.{member}
 use Rattle.settings.specs.Valid.{Quorum, Coded}
-use Rattle.agreement.specs.Agreement.{Correct, Agreement, OnePlan}
+use Rattle.agreement.specs.Run.{Local}
+use Rattle.agreement.specs.Agreement.{System, Correct, Supposed, Agreement, OnePlan, call, last}
 use Rattle.agreement.specs.Named.{NamedByLast, NoCorrectNamed, NamedByMany}
-use Rattle.agreement.proofs.System.{coded, later}
+use Rattle.agreement.specs.Held.{HeldByMany, HeldOn, AllInCore}
+use Rattle.agreement.proofs.System.{coded, call-next, call-last, block-from, later}
 use Rattle.agreement.proofs.Coding.{Code, code-laws}
 use Rattle.agreement.proofs.Graph.{Graph, graph-laws}
 use Rattle.agreement.proofs.Votes.{by-index}
-use Rattle.agreement.proofs.Cores.{lastMatrix}
+use Rattle.agreement.proofs.Cores.{lastMatrix, core-from}
 use Rattle.agreement.proofs.Ends.{set-by-last, named-at-end}
-use Rattle.agreement.proofs.Verdict.{verdict, sender-verdict, alike-verdict}
+use Rattle.agreement.proofs.Verdict.{verdict, agreed-held, sender-in-core, sender-verdict, alike-verdict}
 
 module _ (code : (n t k : ℕ) → Coded n t k → Code n t k) (graph : (n t : ℕ) → Quorum n t → (rows : List ℕ) → Graph rows n t) where
   pub concluded : Agreement
@@ -41,6 +45,14 @@ module _ (code : (n t k : ℕ) → Coded n t k → Code n t k) (graph : (n t : �
 pub agreement : Agreement
 agreement = concluded code-laws graph-laws
 
+-- the laws that the verdict of a correct controller stands on
+module _ (S : System) (H : Supposed S) (i : ℕ) (f : Correct S i) where
+  codeAt : Code (S .settings .n) (S .settings .t) (S .settings .k)
+  codeAt = code-laws (S .settings .n) (S .settings .t) (S .settings .k) (coded S H i f)
+
+  graphAt : Graph (lastMatrix S i) (S .settings .n) (S .settings .t)
+  graphAt = graph-laws (S .settings .n) (S .settings .t) (coded S H i f .quorum) (lastMatrix S i)
+
 -- no two correct controllers hold different blocks
 pub one-plan : OnePlan
 one-plan S H i j f g A B a b = sym (a .1) ∙ agreement S H .same-block i j f g ∙ b .1
@@ -51,10 +63,7 @@ named-by-last = named-at-end
 
 -- no correct controller names a correct one
 pub no-correct-named : NoCorrectNamed
-no-correct-named S H i j f g =
-    let v = coded S H i f in
-    verdict S H i f (code-laws (S .settings .n) (S .settings .t) (S .settings .k) v) (graph-laws (S .settings .n) (S .settings .t) (v .quorum) (lastMatrix S i))
-    .2 .unnamed i j f g
+no-correct-named S H i j f g = verdict S H i f (codeAt S H i f) (graphAt S H i f) .2 .unnamed i j f g
 
 -- whoever is named by t + 1 is not correct: those who name a correct one are not correct, and they are at most t
 pub named-by-many : NamedByMany
@@ -67,3 +76,28 @@ named-by-many S H shown true-marks j many g =
           let f = by-index S x (l, c) in
           true≢false (sym m ∙ ap (λ (r : ℕ). member r (j - 1)) (true-marks (x + 1) f) ∙ no-correct-named S H (x + 1) j f g)))),
     )
+
+-- a block that is agreed on was held by t + 1 correct controllers after call 2
+pub held-by-many : HeldByMany
+held-by-many S H i B f = agreed-held S H i f (codeAt S H i f) (graphAt S H i f) i B f
+
+-- and by whoever held it then after every later call: no call but the last writes it, and that one writes what is agreed on
+pub held-on : HeldOn
+held-on S H i j B f g a e c least most =
+    ⊎-elim
+    (λ (l : c < last S).
+    sym (ap (λ (h : Local). h .block) (call-next S H j g c (omega arith) (omega arith)))
+    ∙ block-from S H j g (c + 1) (omega arith) (omega arith)
+    ∙ e)
+    (λ (l : last S ≤ c).
+    let is : c ≡ last S = omega arith in
+    ap (λ (x : ℕ). call S j x .after .block) is
+    ∙ ap (λ (h : Local). h .block) (call-last S H j g)
+    ∙ agreement S H .same-block j i g f
+    ∙ a .1)
+    (lt-or-le c (last S))
+
+-- with a correct sender every correct controller is in the core
+pub all-in-core : AllInCore
+all-in-core S H g i j fi fj c least most =
+    ap (λ (s : ℕ). member s (j - 1)) (core-from S H i fi c least most) ∙ sender-in-core S H i fi (codeAt S H i fi) (graphAt S H i fi) g j fj

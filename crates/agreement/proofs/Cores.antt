@@ -1,4 +1,4 @@
--- Step 4. All correct controllers have one core (`one-core`); where it is not empty it has at least t + 1 correct members (`enough-correct`), and
+-- Step 4. All correct controllers have one core (`one-core`), which stays to the end (`core-from`); where it is not empty it has at least t + 1 correct members (`enough-correct`), and
 -- the correct ones among its members hold one block (`one-block`).
 use mathlib.Core.Path.{_≡_, refl, sym, ap, ap₂, _∙_}
 use mathlib.Core.Bool.{Bool, true, not, _&&_}
@@ -10,26 +10,27 @@ use lib.ListN.{getD}
 use Rattle.lists.specs.Sum.{count}
 use Rattle.lists.specs.Same.{same}
 use Rattle.lists.proofs.Sums.{count-mono, count-split, count-all}
-use Rattle.lists.proofs.Tests.{and-right}
+use Rattle.lists.proofs.Tests.{and-right, lt-or-le}
 use Rattle.lists.proofs.Sames.{eq-same}
 use Rattle.bitset.specs.Set.{member}
-use Rattle.wire.specs.declared.Call.the-variants.{Core, Choose}
-use Rattle.wire.proofs.Laws.{call-core, call-choose}
+use Rattle.wire.specs.declared.Call.the-variants.{Core, Choose, Finish}
+use Rattle.wire.proofs.Laws.{call-core, call-choose, call-finish}
 use Rattle.reed_solomon.specs.Encode.{pieceOf}
 use Rattle.graph.specs.Neighbour.{neighbour}
 use Rattle.protocol.specs.Calls.{coreOf}
 use Rattle.protocol.specs.declared.State.{State}
-use Rattle.protocol.specs.Calls.{Carried, coreCall, chooseCall}
-use Rattle.protocol.proofs.Laws.{of-core, of-choose}
+use Rattle.protocol.specs.Calls.{coreCall, chooseCall, finishCall}
+use Rattle.protocol.proofs.Laws.{of-core, of-choose, of-finish}
 use Rattle.agreement.specs.Run.{Local}
 use Rattle.agreement.specs.Agreement.{System, Correct, Supposed, last, call}
-use Rattle.agreement.proofs.System.{coded, call-at, call-next, performs-kind}
+use Rattle.agreement.specs.Held.{heldBlock, coreAfter}
+use Rattle.agreement.proofs.System.{coded, call-at, call-next, state-by}
 use Rattle.agreement.proofs.Coding.{Code}
 use Rattle.agreement.proofs.Graph.{Graph}
-use Rattle.agreement.proofs.Blocks.{heldBlock, is-block, marks, marks-agree}
+use Rattle.agreement.proofs.Blocks.{is-block, marks, marks-agree}
 use Rattle.agreement.proofs.Votes.{correctAt, by-index, to-index, one-matrix, row-is-marks}
 
--- the matrix after the vote, and the core, of controller i
+-- the matrix of controller i after the vote
 abbrev pub lastMatrix : System → ℕ → List ℕ
 lastMatrix S i = call S i (3 * S .settings .t + 7) .after .state .matrix
 
@@ -38,20 +39,17 @@ module _ (S : System) (H : Supposed S) where
     few-rows : S .settings .n ≤ 16
     few-rows = coded S H i f .quorum .n-most
 
-    pub core-of : call S i (3 * S .settings .t + 7) .after .state .core ≡ coreOf (lastMatrix S i) (S .settings .n) (S .settings .t)
+    pub core-of : coreAfter S i (3 * S .settings .t + 7) ≡ coreOf (lastMatrix S i) (S .settings .n) (S .settings .t)
     core-of =
         let m = call S i (3 * S .settings .t + 7) in
-        let r = call-at S H i f (3 * S .settings .t + 7) (omega arith) (omega arith) in
-        let a = r .before-at in
-        let is = performs-kind S H i f (3 * S .settings .t + 7) (omega arith) (omega arith) Core (call-core (S .settings .t)) coreCall of-core in
-        ap (λ (s : State). s .core) (r .state-is)
-        ∙ ap (λ (x : Carried). x .state .core) is
+        let a = call-at S H i f (3 * S .settings .t + 7) (omega arith) (omega arith) .before-at in
+        let is = state-by S H i f (3 * S .settings .t + 7) (omega arith) (omega arith) Core (call-core (S .settings .t)) coreCall of-core in
+        ap (λ (s : State). s .core) is
         ∙ (λ x. coreOf (coreCall (m .before .state) (m .before .block) (m .lent .inbox) (m .lent .outbox) .state .matrix) (a .settings-is x .n)
         (a .settings-is x .t))
-        ∙ ap (λ (x : List ℕ). coreOf x (S .settings .n) (S .settings .t))
-        (sym (ap (λ (s : State). s .matrix) (r .state-is) ∙ ap (λ (x : Carried). x .state .matrix) is))
+        ∙ ap (λ (x : List ℕ). coreOf x (S .settings .n) (S .settings .t)) (sym (ap (λ (s : State). s .matrix) is))
 
-    -- the core at the two calls after it
+    -- the two calls after it are made on that core and keep it
     pub core-choose : call S i (3 * S .settings .t + 8) .before .state .core ≡ coreOf (lastMatrix S i) (S .settings .n) (S .settings .t)
     core-choose =
         let e : 3 * S .settings .t + 8 ≡ 3 * S .settings .t + 7 + 1 = omega arith in
@@ -59,16 +57,34 @@ module _ (S : System) (H : Supposed S) where
         ∙ ap (λ (h : Local). h .state .core) (call-next S H i f (3 * S .settings .t + 7) (omega arith) (omega arith))
         ∙ core-of
 
+    core-chosen : coreAfter S i (3 * S .settings .t + 8) ≡ coreOf (lastMatrix S i) (S .settings .n) (S .settings .t)
+    core-chosen =
+        ap (λ (s : State). s .core)
+        (state-by S H i f (3 * S .settings .t + 8) (omega arith) (omega arith) Choose (call-choose (S .settings .t)) chooseCall of-choose)
+        ∙ core-choose
+
     pub core-last : call S i (last S) .before .state .core ≡ coreOf (lastMatrix S i) (S .settings .n) (S .settings .t)
     core-last =
         let e : last S ≡ 3 * S .settings .t + 8 + 1 = omega arith in
-        let r = call-at S H i f (3 * S .settings .t + 8) (omega arith) (omega arith) in
         ap (λ (c : ℕ). call S i c .before .state .core) e
         ∙ ap (λ (h : Local). h .state .core) (call-next S H i f (3 * S .settings .t + 8) (omega arith) (omega arith))
-        ∙ ap (λ (s : State). s .core) (r .state-is)
-        ∙ ap (λ (x : Carried). x .state .core)
-        (performs-kind S H i f (3 * S .settings .t + 8) (omega arith) (omega arith) Choose (call-choose (S .settings .t)) chooseCall of-choose)
-        ∙ core-choose
+        ∙ core-chosen
+
+    core-end : coreAfter S i (last S) ≡ coreOf (lastMatrix S i) (S .settings .n) (S .settings .t)
+    core-end =
+        ap (λ (s : State). s .core) (state-by S H i f (last S) (omega arith) (omega arith) Finish (call-finish (S .settings .t)) finishCall of-finish)
+        ∙ core-last
+
+    pub core-from : (c : ℕ) → 3 * S .settings .t + 7 ≤ c → c ≤ last S → coreAfter S i c ≡ coreOf (lastMatrix S i) (S .settings .n) (S .settings .t)
+    core-from c least most =
+        ⊎-elim
+        (λ (l : c < 3 * S .settings .t + 8). let e : c ≡ 3 * S .settings .t + 7 = omega arith in ap (coreAfter S i) e ∙ core-of)
+        (λ (l : 3 * S .settings .t + 8 ≤ c).
+        ⊎-elim
+        (λ (l′ : c < last S). let e : c ≡ 3 * S .settings .t + 8 = omega arith in ap (coreAfter S i) e ∙ core-chosen)
+        (λ (l′ : last S ≤ c). let e : c ≡ last S = omega arith in ap (coreAfter S i) e ∙ core-end)
+        (lt-or-le c (last S)))
+        (lt-or-le c (3 * S .settings .t + 8))
 
   -- all correct controllers have one core
   pub one-core : (i j : ℕ) → Correct S i → Correct S j

@@ -1,5 +1,5 @@
 -- Step 7. One core for all: with none all say none and zeros; else its correct members hold one block, and all end with agreed and that block;
--- either way they name no correct controller (`verdict`). If all held one block after call 2, the correct controllers are a clique of at least n - t,
+-- either way they name no correct controller (`verdict`). So a block that is agreed on was held by those members (`agreed-held`). If all held one block after call 2, the correct controllers are a clique of at least n - t,
 -- so that the core holds them all (`common-in-core`) and the block is that one (`common-verdict`): with a correct sender the sender's (`sender-in-core`,
 -- `sender-verdict`), without a sender the one that all were started with (`alike-verdict`).
 use mathlib.Core.Path.{_≡_, sym, ap, ap₂, subst, _∙_}
@@ -10,8 +10,10 @@ use Prim.Native.Nat.{ℕ, _+_, _-_, _^_, _≤_, _<_}
 use native.Mathlib.Omega.{arith}
 use lib.Dec.{lit<}
 use lib.ListN.{getD, replicate}
-use Rattle.lists.proofs.Tests.{true≢false, same-or-not, and-left, and-right}
-use Rattle.lists.proofs.Sums.{count-member}
+use Rattle.lists.specs.Same.{same}
+use Rattle.lists.proofs.Tests.{true≢false, same-or-not, and-left, and-right, and-both}
+use Rattle.lists.proofs.Sums.{count-member, count-mono}
+use Rattle.lists.proofs.Sames.{eq-same}
 use Rattle.bitset.specs.Set.{member, restricted}
 use Rattle.bitset.proofs.Laws.{restrict-below, member-over}
 use Rattle.wire.specs.Length.{blockLength}
@@ -19,12 +21,14 @@ use Rattle.reed_solomon.specs.Encode.{pieceOf}
 use Rattle.protocol.specs.Calls.{coreOf}
 use Rattle.reconstruction.specs.declared.Outcome.{Outcome}
 use Rattle.reconstruction.specs.declared.Outcome.the-variants.{Agreed, None}
-use Rattle.agreement.specs.Agreement.{System, Correct, Supposed, StartedAlike, outcomeOf, blockOf}
+use Rattle.reconstruction.specs.Outcomes.{outcomeNumber}
+use Rattle.agreement.specs.Agreement.{System, Correct, Supposed, StartedAlike, outcomeOf, blockOf, Holds}
 use Rattle.agreement.specs.Named.{namedBy}
+use Rattle.agreement.specs.Held.{heldBlock, holders}
 use Rattle.agreement.proofs.System.{coded}
 use Rattle.agreement.proofs.Coding.{IsBlock, Code}
 use Rattle.agreement.proofs.Graph.{Graph}
-use Rattle.agreement.proofs.Blocks.{heldBlock, is-block, agree-marks, sender-block, own-block}
+use Rattle.agreement.proofs.Blocks.{is-block, agree-marks, sender-block, own-block}
 use Rattle.agreement.proofs.Votes.{correctAt, by-index, to-index, most-correct, row-is-marks}
 use Rattle.agreement.proofs.Cores.{lastMatrix, one-core, one-block, enough-correct}
 use Rattle.agreement.proofs.Ends.{ends-none, none-unnamed, ends-agreed, ends-unnamed}
@@ -75,22 +79,44 @@ module _ (S : System) (H : Supposed S) (w : ℕ) (f : Correct S w) (C : Code (S 
             (r .2),
       )
 
-  -- the common block, held by that member after call 2
-  pub held-by : (coreSet ≡ 0 → ⊥) → (c : ℕ) × Verdict Agreed (heldBlock S (c + 1))
-  held-by z =
+  -- the common block is the one that this member held after call 2, and with it all correct members, at least t + 1
+  held : (coreSet ≡ 0 → ⊥) → (B : List ℕ) × Verdict Agreed B × (S .settings .t + 1 ≤ holders S B)
+  held z =
       let h = heart z in
       let c = h .0 in
-      let b : c + 1 - 1 ≡ c = omega arith in (
-        c,
-        with z (heldBlock S (c + 1)) (is-block S H (c + 1) (h .1))
-            (λ i g m. one-block S H w f C G i (c + 1) g (h .1) m (ap (member coreSet) b ∙ h .2)),
+      let B = heldBlock S (c + 1) in
+      let at : (x : ℕ) → x + 1 - 1 ≡ x = λ x. omega arith in
+      let holds : (i : ℕ) → Correct S i → member coreSet (i - 1) ≡ true → heldBlock S i ≡ B = λ i g m.
+      one-block S H w f C G i (c + 1) g (h .1) m (ap (member coreSet) (at c) ∙ h .2) in (
+        B,
+        with z B (is-block S H (c + 1) (h .1)) holds,
+        omega (
+          arith,
+          enough-correct S H w f C G z,
+          count-mono (S .settings .n) (λ x. member coreSet x && correctAt S x) (λ x. correctAt S x && same (heldBlock S (x + 1)) B)
+              (λ x l y.
+              let m = and-left (member coreSet x) (correctAt S x) y in
+              let g = and-right (member coreSet x) (correctAt S x) y in
+              and-both (correctAt S x) (same (heldBlock S (x + 1)) B) g
+              (eq-same (heldBlock S (x + 1)) B (holds (x + 1) (by-index S x (l, g)) (ap (member coreSet) (at x) ∙ m)))),
+        ),
       )
 
   pub verdict : (o : Outcome) × (b : List ℕ) × Verdict o b
   verdict =
       ⊎-elim
       (λ (z : coreSet ≡ 0). (None, replicate (blockLength (S .settings .k) (S .settings .t)) 0, without z))
-      (λ (z : coreSet ≡ 0 → ⊥). let r = held-by z in (Agreed, heldBlock S (r .0 + 1), r .1))
+      (λ (z : coreSet ≡ 0 → ⊥). let r = held z in (Agreed, r .0, r .1))
+      (same-or-not coreSet 0)
+
+  -- without a core nothing is agreed
+  pub agreed-held : (i : ℕ) (B : List ℕ) → Correct S i → Holds S i B → S .settings .t + 1 ≤ holders S B
+  agreed-held i B g a =
+      ⊎-elim
+      (λ (z : coreSet ≡ 0). absurd (omega (arith, ap outcomeNumber (sym (a .0) ∙ without z .all i g .0))))
+      (λ (z : coreSet ≡ 0 → ⊥).
+      let r = held z in
+      subst (λ (A : List ℕ). S .settings .t + 1 ≤ holders S A) (sym (r .1 .all i g .1) ∙ a .1) (r .2))
       (same-or-not coreSet 0)
 
   -- ---- all held one block after call 2

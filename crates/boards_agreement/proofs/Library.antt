@@ -1,26 +1,39 @@
 -- Demand 3 for runs that are made through the exported functions. The main laws: `library-runs` (they are the runs of `agreement`, with the state
--- as bytes), `library-agrees` (one outcome, one block and one final block) and `library-names` (whom correct controllers name).
+-- as bytes), `library-agrees` (one outcome, one block and one final block), `library-names` (whom correct controllers name) and `library-held` (who
+-- held the block that is agreed on).
 use mathlib.Core.Path.{_≡_, refl, sym, ap, ap₂, subst, _∙_}
+use mathlib.Core.Bool.{Bool, true, false, cond, _&&_}
 use mathlib.Core.List.{List, [], _∷_}
-use Prim.Native.Nat.{ℕ, _+_, _-_}
+use Prim.Native.Nat.{ℕ, zero, suc, _+_, _-_, _≤_, _<_}
+use native.Mathlib.Nat.{not-suc-le-zero, le-of-suc-le-suc}
 use native.Mathlib.Omega.{arith}
-use lib.ListN.{length}
+use lib.Dec.{eqb}
+use lib.ListN.{length, getD}
+use Rattle.lists.specs.Same.{same}
+use Rattle.lists.proofs.Tests.{and-left}
+use Rattle.lists.proofs.Sums.{count-mono}
 use Rattle.settings.specs.declared.Settings.{Settings}
 use Rattle.wire.specs.Length.{blockLength, blockSize}
 use Rattle.wire.proofs.Laws.{block-size-is}
+use Rattle.protocol.specs.declared.State.{State}
 use Rattle.protocol.specs.Step.{startOf}
 use Rattle.protocol.proofs.Laws.{step-refused, step-number}
-use Rattle.agreement.specs.Run.{Lent, Local, stepped, left, leftAfter, begun}
-use Rattle.agreement.specs.Agreement.{System, Correct, Supposed, Holds, atStart, atEnd, last, lastInbox}
+use Rattle.agreement.specs.Run.{Lent, Local, Made, stepped, left, carriedOut, leftAfter, made, calls, begun}
+use Rattle.agreement.specs.Agreement.{System, Correct, Supposed, Holds, atStart, callsOf, atEnd, last, noCall, call, lastInbox}
+use Rattle.agreement.specs.Held.{heldBlock, coreAfter}
 use Rattle.agreement.proofs.Laws.{At, coded, length-block, call-at, call-last, agreement, named-by-last, no-correct-named, named-by-many}
-use Rattle.state_bytes.specs.State.{stateLength, stateBytes, Words}
+use Rattle.agreement.proofs.Laws.{held-by-many, held-on, all-in-core}
+use Rattle.state_bytes.specs.State.{stateLength, stateBytes, stateOf, Words}
+use Rattle.state_bytes.proofs.Laws.{read-written}
 use Rattle.bitset.specs.Set.{member}
 use Rattle.reed_solomon.specs.Decode.{namedOf}
+use Rattle.reconstruction.specs.declared.Outcome.the-variants.{Agreed}
 use Rattle.reconstruction.specs.Outcomes.{outcomeNumber}
 use Rattle.reconstruction.proofs.Laws.{agreed-number}
 use Rattle.boards.specs.Boards.{ReturnedStep, returnedStep, stepAsBytes, returned, Returned, outcomeIn, namedIn, finalBytes}
 use Rattle.boards.proofs.Laws.{start-bytes, step-bytes, outcome-bytes, named-bytes, final-bytes, final-same}
 use Rattle.boards_agreement.specs.Library.{Kept, makes, kept, keptAfter, keptFrom, LibraryRuns, keptAt, SetByLastCall, LibraryAgrees, LibraryNames}
+use Rattle.boards_agreement.specs.Library.{callsKept, noneKept, keptAfterCall, LibraryHeld}
 use Rattle.boards_agreement.proofs.Bounds.{start-words, step-words}
 
 -- what is held, with the state as bytes
@@ -47,6 +60,28 @@ after-same : (h : Local) (ls : List Lent) → Words (h .state) → keptAfter (as
 after-same h [] w = refl
 after-same h (l ∷ ls) w = ap (λ (c : Kept). keptAfter c ls) (kept-same h w l) ∙ after-same (left h l) ls (left-words h l w)
 
+-- ---- call by call
+-- after each call the library keeps what the run holds, and that is within its bounds
+abbrev SameCalls : List Kept → List Made → Type 0
+SameCalls ks ms =
+    (m : ℕ) → m < length ms → (getD ks m noneKept ≡ asKept (getD ms m noCall .after)) × Words (getD ms m noCall .after .state)
+
+calls-same : (h : Local) (ls : List Lent) → Words (h .state) → SameCalls (callsKept (asKept h) ls) (calls h ls)
+calls-same h [] w = λ m lt. absurd (not-suc-le-zero lt)
+calls-same h (l ∷ ls) w =
+    let r : Kept = asKept (left h l) in
+    let both : callsKept (asKept h) (l ∷ ls) ≡ cond (carriedOut h l) (r ∷ callsKept r ls) (callsKept r ls) = λ x.
+    let k = kept-same h w l x in
+    cond (eqb (makes-same h w l x .number) 0) (k ∷ callsKept k ls) (callsKept k ls) in
+    subst (λ (ks : List Kept). SameCalls ks (calls h (l ∷ ls))) (sym both) (go (carriedOut h l) (calls-same (left h l) ls (left-words h l w)))
+  where
+    go : (b : Bool) → SameCalls (callsKept (asKept (left h l)) ls) (calls (left h l) ls)
+        → SameCalls (cond b (asKept (left h l) ∷ callsKept (asKept (left h l)) ls) (callsKept (asKept (left h l)) ls))
+        (cond b (made h l ∷ calls (left h l) ls) (calls (left h l) ls))
+    go true q zero lt = (refl, left-words h l w)
+    go true q (suc m) lt = q m (le-of-suc-le-suc lt)
+    go false q m lt = q m lt
+
 -- ---- from the start
 module _ (s : Settings) (own : ℕ) (b buffer : List ℕ) (size : length buffer ≡ stateLength) (started : startOf s own (length b) .number ≡ 0) where
   from-same : keptFrom s own b buffer ≡ asKept (begun s own b)
@@ -58,6 +93,10 @@ module _ (s : Settings) (own : ℕ) (b buffer : List ℕ) (size : length buffer 
 
   run-same : (ls : List Lent) → keptAfter (keptFrom s own b buffer) ls ≡ asKept (leftAfter (begun s own b) ls)
   run-same ls = ap (λ (c : Kept). keptAfter c ls) from-same ∙ after-same (begun s own b) ls begun-words
+
+  run-calls : (ls : List Lent) → SameCalls (callsKept (keptFrom s own b buffer) ls) (calls (begun s own b) ls)
+  run-calls ls =
+      subst (λ (c : Kept). SameCalls (callsKept c ls) (calls (begun s own b) ls)) (sym from-same) (calls-same (begun s own b) ls begun-words)
 
 pub library-runs : LibraryRuns
 library-runs s own b buffer size ls l started =
@@ -84,6 +123,27 @@ module _ (S : System) (supposed : Supposed S) (buffers : ℕ → List ℕ) (size
   named-at : (i : ℕ) → Correct S i → namedIn (keptAt S buffers i .state) ≡ atEnd S i .state .named
   unfolding asKept
   named-at i c = ap (λ (x : Kept). namedIn (x .state)) (at i c) ∙ named-bytes (atEnd S i .state) (end-words i)
+
+  -- what is kept after call c
+  call-kept : (i : ℕ) → Correct S i → (c : ℕ) → 1 ≤ c → c ≤ last S
+      → (keptAfterCall S buffers i c ≡ asKept (call S i c .after)) × Words (call S i c .after .state)
+  call-kept i f c least most =
+      run-calls (S .settings) i (S .block i) (buffers i) (sizes i) (supposed .started i f) (S .steps i) (c - 1)
+      (let all : length (callsOf S i) ≡ last S = supposed .finished i f in omega arith)
+
+  block-after : (i : ℕ) → Correct S i → (c : ℕ) → 1 ≤ c → c ≤ last S → keptAfterCall S buffers i c .block ≡ call S i c .after .block
+  unfolding asKept
+  block-after i f c least most = ap (λ (x : Kept). x .block) (call-kept i f c least most .0)
+
+  core-after : (i : ℕ) → Correct S i → (c : ℕ) → 1 ≤ c → c ≤ last S → stateOf (keptAfterCall S buffers i c .state) .core ≡ coreAfter S i c
+  unfolding asKept
+  core-after i f c least most =
+      let q = call-kept i f c least most in
+      ap (λ (x : Kept). stateOf (x .state) .core) (q .0) ∙ ap (λ (s : State). s .core) (read-written (call S i c .after .state) (q .1))
+
+  -- an outcome agreed
+  holds-at : (i : ℕ) → Correct S i → outcomeIn (keptAt S buffers i .state) ≡ outcomeNumber Agreed → Holds S i (keptAt S buffers i .block)
+  holds-at i c e = (agreed-number (atEnd S i .state .outcome) (sym (outcome-at i c) ∙ e), sym (block-at i c))
 
   set-by-last : (i : ℕ) → Correct S i → SetByLastCall S buffers i
   set-by-last i c =
@@ -170,4 +230,29 @@ library-names S supposed buffers sizes =
       other = λ i c n. named i c ∙ named-by-last S supposed i c .other (λ e. n (outcome i c ∙ ap outcomeNumber e));
       no-correct = λ i j c d. ap (λ (m : ℕ). member m (j - 1)) (named i c) ∙ no-correct-named S supposed i j c d;
       by-many = λ shown marks. named-by-many S supposed shown (λ i c. marks i c ∙ named i c);
+    }
+
+pub library-held : LibraryHeld
+library-held S supposed buffers sizes =
+    let after = block-after S supposed buffers sizes in
+    let holds = holds-at S supposed buffers sizes in
+    record {
+      held-by-many = λ i c e.
+          omega (
+            arith,
+            held-by-many S supposed i (keptAt S buffers i .block) c (holds i c e),
+            count-mono (S .settings .n) (λ x. S .correct (x + 1) && same (heldBlock S (x + 1)) (keptAt S buffers i .block))
+                (λ x. S .correct (x + 1) && same (keptAfterCall S buffers (x + 1) 2 .block) (keptAt S buffers i .block))
+                (λ x l y.
+                let r = and-left (S .correct (x + 1)) (same (heldBlock S (x + 1)) (keptAt S buffers i .block)) y in
+                ap (λ (b : List ℕ). S .correct (x + 1) && same b (keptAt S buffers i .block))
+                (after (x + 1) (record { least = omega arith; most = omega (arith, l); is = r }) 2 (omega arith) (omega arith))
+                ∙ y),
+          );
+      held-on = λ i j c d e h x least most.
+          after j d x (omega (arith, least)) most
+          ∙ held-on S supposed i j (keptAt S buffers i .block) c d (holds i c e) (sym (after j d 2 (omega arith) (omega arith)) ∙ h) x least most;
+      all-in-core = λ s i j c d x least most.
+          ap (λ (m : ℕ). member m (j - 1)) (core-after S supposed buffers sizes i c x (omega (arith, least)) most)
+          ∙ all-in-core S supposed s i j c d x least most;
     }

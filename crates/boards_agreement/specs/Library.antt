@@ -18,11 +18,20 @@
 --                            not, byte for byte, their piece of its block; with any other outcome nobody; and no correct controller in any case. So
 --                            whoever is named by t + 1 is not correct, whatever marks those show who are not correct themselves
 --   LibraryNames             that holds of every such system
+--   callsKept c ls           what is kept after each call among a list of steps: each step that answers 0
+--   noneKept                 nothing
+--   keptAfterCall ..         what controller i keeps after its call c; past its calls `noneKept`
+--   NotInvented S buffers    document 02, U14: if a correct controller's outcome is agreed, at least t + 1 correct ones kept its block, byte for byte,
+--                            after call 2, and whoever did so keeps it after every later call; if the sender is correct, every correct controller is
+--                            in the core, in the state that each keeps, from call 3t + 7 on
+--   LibraryHeld              that holds of every such system
 use mathlib.Core.Path.{_≡_}
-use mathlib.Core.Bool.{false}
+use mathlib.Core.Bool.{true, false, cond, _&&_}
 use mathlib.Core.List.{List, [], _∷_}
-use Prim.Native.Nat.{ℕ, _+_, _-_, _≤_}
-use lib.ListN.{length, replicate}
+use Prim.Native.Nat.{ℕ, _+_, _-_, _*_, _≤_}
+use lib.Dec.{eqb}
+use lib.ListN.{length, getD, replicate}
+use Rattle.lists.specs.Same.{same}
 use Rattle.lists.specs.Sum.{count}
 use Rattle.settings.specs.declared.Settings.{Settings}
 use Rattle.bitset.specs.Set.{member, restricted}
@@ -31,8 +40,8 @@ use Rattle.reconstruction.specs.declared.Outcome.the-variants.{Agreed, None, Be
 use Rattle.reconstruction.specs.Outcomes.{outcomeNumber}
 use Rattle.protocol.specs.Step.{startOf}
 use Rattle.agreement.specs.Run.{Lent, stepped, leftAfter, begun}
-use Rattle.agreement.specs.Agreement.{System, Correct, Supposed, StartedAlike, lastCore, lastInbox}
-use Rattle.state_bytes.specs.State.{stateLength}
+use Rattle.agreement.specs.Agreement.{System, Correct, Supposed, StartedAlike, last, lastCore, lastInbox}
+use Rattle.state_bytes.specs.State.{stateLength, stateOf}
 use Rattle.boards.specs.Boards.{ReturnedStep, returnedStep, stepAsBytes, startBytes, stepBytes, outcomeIn, namedIn, finalBytes, returned}
 
 pub record Kept : Type 0 where
@@ -101,3 +110,27 @@ pub record NamedRight (S : System) (buffers : ℕ → List ℕ) : Type 0 where
 
 abbrev pub LibraryNames : Type 0
 LibraryNames = (S : System) → Supposed S → (buffers : ℕ → List ℕ) → ((i : ℕ) → length (buffers i) ≡ stateLength) → NamedRight S buffers
+
+abbrev pub callsKept : Kept → List Lent → List Kept
+callsKept c [] = []
+callsKept c (l ∷ ls) = cond (eqb (makes c l .number) 0) (kept c l ∷ callsKept (kept c l) ls) (callsKept (kept c l) ls)
+
+abbrev pub noneKept : Kept
+noneKept = record { state = []; block = [] }
+
+abbrev pub keptAfterCall : System → (ℕ → List ℕ) → (i c : ℕ) → Kept
+keptAfterCall S buffers i c = getD (callsKept (keptFrom (S .settings) i (S .block i) (buffers i)) (S .steps i)) (c - 1) noneKept
+
+pub record NotInvented (S : System) (buffers : ℕ → List ℕ) : Type 0 where
+  -- runs without a sender, sender 0, are covered: there call 2 keeps the block that the controller was started with
+  pub held-by-many : (i : ℕ) → Correct S i → outcomeIn (keptAt S buffers i .state) ≡ outcomeNumber Agreed
+      → S .settings .t + 1
+      ≤ count (S .settings .n) (λ x. S .correct (x + 1) && same (keptAfterCall S buffers (x + 1) 2 .block) (keptAt S buffers i .block))
+  pub held-on : (i j : ℕ) → Correct S i → Correct S j → outcomeIn (keptAt S buffers i .state) ≡ outcomeNumber Agreed
+      → keptAfterCall S buffers j 2 .block ≡ keptAt S buffers i .block
+      → (c : ℕ) → 2 ≤ c → c ≤ last S → keptAfterCall S buffers j c .block ≡ keptAt S buffers i .block
+  pub all-in-core : Correct S (S .settings .sender) → (i j : ℕ) → Correct S i → Correct S j
+      → (c : ℕ) → 3 * S .settings .t + 7 ≤ c → c ≤ last S → member (stateOf (keptAfterCall S buffers i c .state) .core) (j - 1) ≡ true
+
+abbrev pub LibraryHeld : Type 0
+LibraryHeld = (S : System) → Supposed S → (buffers : ℕ → List ℕ) → ((i : ℕ) → length (buffers i) ≡ stateLength) → NotInvented S buffers

@@ -4,13 +4,12 @@
 -- gives the rest.
 --   stepsOf piece block pieces other   the steps of the controller with that piece of 0a14, to which 1 sends the slot `block` in round 1 and
 --                                      `pieces` in round 2; other is its piece of 0b14, which 4 received
-use mathlib.Core.Path.{_≡_, refl}
-use mathlib.Core.Bool.{true, false, cond, not}
+use mathlib.Core.Path.{_≡_, refl, ap}
+use mathlib.Core.Bool.{cond, not, _&&_}
 use mathlib.Core.List.{List, [], _∷_, _++_}
-use Prim.Native.Nat.{ℕ}
+use Prim.Native.Nat.{ℕ, _+_}
 use native.Mathlib.Omega.{arith}
-use borrow.Author.Tests.{eqb-false}
-use lib.Dec.{T, eqb}
+use lib.Dec.{T, eqb, eqb→eq}
 use Rattle.lists.specs.Join.{joined, part}
 use Rattle.lists.specs.Fill.{tabulate, filled}
 use Rattle.lists.specs.Sum.{sum, count}
@@ -37,9 +36,10 @@ use Rattle.star.specs.Star.{struck, setC, lacks, setD, atLeast, setF, setE, set
 use Rattle.reconstruction.specs.Reconstruction.{inCore, forwarded, votes, isChosen, chosenPiece, ownPiece, sentPiece, shared}
 use Rattle.protocol.specs.Calls.{callOf}
 use Rattle.protocol.specs.Step.{startRefusal, startOf, lengthsFit, stepRefusal, stepOf}
-use Rattle.agreement.specs.Agreement.{System, Correct, Supposed, lastCore, lastInbox, Holds}
+use Rattle.agreement.specs.Agreement.{System, Correct, Supposed, call, lastCore, lastInbox, Holds}
+use Rattle.agreement.specs.Held.{holders}
 use Rattle.agreement.proofs.Laws.{agreement}
-use Rattle.witnesses.proofs.Test.{Meets, meets-supposed, Step, small, small-bytes, smalls, lents, present, absent, rows, box}
+use Rattle.witnesses.proofs.Test.{given, each, passed, at-correct, Meets, meets-supposed, Step, small, small-bytes, smalls, lents, present, absent, rows, box}
 
 stepsOf : ℕ → List ℕ → List ℕ → ℕ → List Step
 stepsOf piece block pieces other =
@@ -88,36 +88,19 @@ faulty-sender = record {
       (lents (stepsOf 0x5a (present (0x0b ∷ 0x14 ∷ [])) (absent 2) 0x5b) small-4));
 }
 
-faulty-sender-meets : Meets faulty-sender
-unfolding faulty-sender stepsOf lents tabulate filled sum count same gadd gmul gpow polyMul reduce member setOf sizeOf restricted first
-    wordAt rowOf rowByte rowsOf outside tooMany broken refusalOf stateRefusal lengthsRefusal starRefusal encodingRefusal blockLength rowLength inSettings
-    kindLength boxLength inboxLength
-    outboxLength roundKind callKind phaseOf width slotOf part holds isPresent messageOf written slots joined copied gsum evaluate stripe pieceOf isReady
-    sentBlock receivedBlock twoPieces sentPieces isMarked marksOf marksMessage sentMarks zeroSeen oneSeen held support weak settled matrixOf
-    said kingSays firstMatrix zerosOf onesOf heldOf weakOf settledOf seenMessage sentByKing neighbour matched firstFound ofSize upTo matchingOf struck
-    setC lacks setD atLeast setF setE setsFrom noSets isLarge starFrom refusalFor starOf inCore forwarded votes isChosen
-    chosenPiece ownPiece sentPiece shared callOf startRefusal startOf lengthsFit stepRefusal stepOf
-faulty-sender-meets = record { tolerance = tt; few = tt; started = tt; finished = tt; arrives = tt }
+-- how many correct controllers have the block 0a14 after call c
+abbrev pub holdersAfter : ℕ → ℕ
+holdersAfter c = count 4 (λ x. faulty-sender .correct (x + 1) && same (call faulty-sender (x + 1) c .after .block) (0x0a ∷ 0x14 ∷ []))
 
-pub faulty-sender-supposed : Supposed faulty-sender
-faulty-sender-supposed = meets-supposed faulty-sender faulty-sender-meets
+-- what is computed: of the correct controllers each has the core 1, 2 and 3, and what it is lent to the last call meets decoding's rule for 0a14
+record Computed : Type 0 where
+  supposed : Meets faulty-sender
+  core : T (each 4 (λ i. given (faulty-sender .correct i) (eqb (lastCore faulty-sender i) 7)))
+  rule : T (each 4 (λ i. given (faulty-sender .correct i) (meets 4 1 1 (lastInbox faulty-sender i) (0x0a ∷ 0x14 ∷ []))))
+  holders-1 : holdersAfter 1 ≡ 0
+  holders-2 : holders faulty-sender (0x0a ∷ 0x14 ∷ []) ≡ 2
 
--- the last call finds a core, and 0a14 meets decoding's rule: its code agrees with the pieces of 2, 3 and 4
-block-bytes : Bytes (0x0a ∷ 0x14 ∷ [])
-unfolding small
-block-bytes = small-bytes (0x0a ∷ 0x14 ∷ []) tt
-
-module _ (i : ℕ) (f : Correct faulty-sender i) (core : eqb (restricted (lastCore faulty-sender i) 4) 0 ≡ false)
-    (rule : meets 4 1 1 (lastInbox faulty-sender i) (0x0a ∷ 0x14 ∷ []) ≡ true) where
-  ends : Holds faulty-sender i (0x0a ∷ 0x14 ∷ [])
-  unfolding faulty-sender blockLength
-  ends =
-      agreement faulty-sender faulty-sender-supposed .set i f .agreed (eqb-false (restricted (lastCore faulty-sender i) 4) 0 core) (0x0a ∷ 0x14 ∷ [])
-      (meets-decodes 4 1 1 (lastInbox faulty-sender i) (0x0a ∷ 0x14 ∷ []) refl block-bytes rule)
-
-pub faulty-sender-agreed :
-    Holds faulty-sender 2 (0x0a ∷ 0x14 ∷ [])
-    × (Holds faulty-sender 3 (0x0a ∷ 0x14 ∷ []) × Holds faulty-sender 4 (0x0a ∷ 0x14 ∷ []))
+computed : Computed
 unfolding faulty-sender stepsOf lents tabulate filled sum count same gadd gmul gpow polyMul reduce member setOf sizeOf restricted first
     wordAt rowOf rowByte rowsOf outside tooMany broken refusalOf stateRefusal lengthsRefusal starRefusal encodingRefusal blockLength rowLength inSettings
     kindLength boxLength inboxLength
@@ -126,11 +109,35 @@ unfolding faulty-sender stepsOf lents tabulate filled sum count same gadd gmul g
     said kingSays firstMatrix zerosOf onesOf heldOf weakOf settledOf seenMessage sentByKing neighbour matched firstFound ofSize upTo matchingOf struck
     setC lacks setD atLeast setF setE setsFrom noSets isLarge starFrom refusalFor starOf inCore forwarded votes isChosen
     chosenPiece ownPiece sentPiece shared callOf startRefusal startOf lengthsFit stepRefusal stepOf decodingRefusal hasPiece received presentCount differing meets
-faulty-sender-agreed = (
-  ends 2 (record { least = omega arith; most = omega arith; is = refl }) refl refl,
-  (
-    ends 3 (record { least = omega arith; most = omega arith; is = refl }) refl refl,
-    ends 4
-        (record { least = omega arith; most = omega arith; is = refl }) refl refl,
-  ),
-)
+computed = record {
+  supposed = record { tolerance = tt; few = tt; started = tt; finished = tt; arrives = tt };
+  core = tt;
+  rule = tt;
+  holders-1 = refl;
+  holders-2 = refl;
+}
+
+pub faulty-sender-supposed : Supposed faulty-sender
+faulty-sender-supposed = meets-supposed faulty-sender (computed .supposed)
+
+block-bytes : Bytes (0x0a ∷ 0x14 ∷ [])
+unfolding small
+block-bytes = small-bytes (0x0a ∷ 0x14 ∷ []) tt
+
+-- 4, which held another block, is not in the core: for `all-in-core` the sender must be correct
+pub faulty-sender-core : (i : ℕ) → Correct faulty-sender i → lastCore faulty-sender i ≡ 7
+unfolding faulty-sender
+faulty-sender-core i f = eqb→eq (lastCore faulty-sender i) 7 (at-correct faulty-sender (λ i. eqb (lastCore faulty-sender i) 7) (computed .core) i f)
+
+pub faulty-sender-agreed : (i : ℕ) → Correct faulty-sender i → Holds faulty-sender i (0x0a ∷ 0x14 ∷ [])
+unfolding faulty-sender blockLength restricted member setOf sum
+faulty-sender-agreed i f =
+    let some : restricted (lastCore faulty-sender i) 4 ≡ 7 = ap (λ (x : ℕ). restricted x 4) (faulty-sender-core i f) in
+    agreement faulty-sender faulty-sender-supposed .set i f .agreed (λ z. omega (arith, z, some)) (0x0a ∷ 0x14 ∷ [])
+    (meets-decodes 4 1 1 (lastInbox faulty-sender i) (0x0a ∷ 0x14 ∷ []) refl block-bytes
+    (passed (meets 4 1 1 (lastInbox faulty-sender i) (0x0a ∷ 0x14 ∷ []))
+    (at-correct faulty-sender (λ i. meets 4 1 1 (lastInbox faulty-sender i) (0x0a ∷ 0x14 ∷ [])) (computed .rule) i f)))
+
+-- 0a14 was held by t + 1 correct controllers after call 2 and by no more: the bound of `held-by-many` is reached; and by none after call 1
+pub faulty-sender-held : (holders faulty-sender (0x0a ∷ 0x14 ∷ []) ≡ 2) × (holdersAfter 1 ≡ 0)
+faulty-sender-held = (computed .holders-2, computed .holders-1)

@@ -22,7 +22,7 @@ use Rattle.wire.specs.Length.{roundLayout}
 use Rattle.wire.specs.Slot.{slotOf}
 use Rattle.protocol.specs.Step.{startOf}
 use Rattle.agreement.specs.Run.{Lent, Local, Made, stepped, left}
-use Rattle.agreement.specs.Agreement.{System, Supposed, callsOf, call, last, noCall}
+use Rattle.agreement.specs.Agreement.{System, Correct, Supposed, callsOf, call, last, noCall}
 
 -- the test b, where a holds
 abbrev pub given : Bool → Bool → Bool
@@ -41,9 +41,14 @@ each-at : (n : ℕ) (p : ℕ → Bool) → T (each n p) → (i : ℕ) → 1 ≤ 
 each-at n p t zero least most = absurd (omega arith)
 each-at n p t (suc m) least most = below-at n (λ m. p (suc m)) t m most
 
-passed : (b : Bool) → T b → b ≡ true
+pub passed : (b : Bool) → T b → b ≡ true
 passed true t = refl
 passed false t = absurd t
+
+-- the test p at each correct controller
+pub at-correct : (S : System) (p : ℕ → Bool) → T (each (S .settings .n) (λ i. given (S .correct i) (p i))) → (i : ℕ) → Correct S i → T (p i)
+at-correct S p t i f =
+    given-at (S .correct i) (p i) (each-at (S .settings .n) (λ i. given (S .correct i) (p i)) t i (f .least) (f .most)) (f .is)
 
 abbrev pub starts : System → ℕ → Bool
 starts S i = eqb (startOf (S .settings) i (length (S .block i)) .number) 0
@@ -77,14 +82,8 @@ pub meets-supposed : (S : System) → Meets S → Supposed S
 meets-supposed S M = record {
   tolerance = leb→le (3 * S .settings .t + 1) (S .settings .n) (M .tolerance);
   few = leb→le (count (S .settings .n) (λ i. not (S .correct (i + 1)))) (S .settings .t) (M .few);
-  started = λ i f.
-      eqb→eq (startOf (S .settings) i (length (S .block i)) .number) 0
-      (given-at (S .correct i) (starts S i)
-      (each-at (S .settings .n) (λ i. given (S .correct i) (starts S i)) (M .started) i (f .least) (f .most)) (f .is));
-  finished = λ i f.
-      eqb→eq (length (callsOf S i)) (last S)
-      (given-at (S .correct i) (finishes S i)
-      (each-at (S .settings .n) (λ i. given (S .correct i) (finishes S i)) (M .finished) i (f .least) (f .most)) (f .is));
+  started = λ i f. eqb→eq (startOf (S .settings) i (length (S .block i)) .number) 0 (at-correct S (starts S) (M .started) i f);
+  finished = λ i f. eqb→eq (length (callsOf S i)) (last S) (at-correct S (finishes S) (M .finished) i f);
   arrives = λ i j c f g least most.
       same-eq (slotOf (call S j (c + 1) .lent .inbox) (roundLayout (S .settings .n) (S .settings .t) (S .settings .k) c) i)
       (slotOf (call S i c .sends) (roundLayout (S .settings .n) (S .settings .t) (S .settings .k) c) j)
