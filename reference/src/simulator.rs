@@ -307,6 +307,26 @@ mod tests {
         assert_eq!(names(&start), [0; 4]);
     }
 
+    /// Of the example 2 and 3, t + 1 controllers, hold the block after call 2; 4 was sent another, and is not in the core. If all are correct, all are.
+    #[test]
+    fn who_held_the_block() {
+        let system = read(EXAMPLE.as_bytes()).unwrap();
+        let mut run = Run::new(&system, 2..=4);
+        for c in 1..=system.rounds() + 1 {
+            run.call(&system, c);
+            let block = |own| hex(&run.controller(own).block);
+            if c >= 2 {
+                let other = if c <= system.rounds() { "0b14" } else { "0a14" };
+                assert_eq!([block(2), block(3), block(4)], ["0a14", "0a14", other]);
+            }
+            let core = if c >= 3 * system.t + 7 { 0b0111 } else { 0 };
+            assert!(run.controllers.iter().all(|r| r.state.core == core), "{c}");
+        }
+        let start: String = EXAMPLE.split_inclusive('\n').take(3).collect();
+        let correct = read(start.as_bytes()).unwrap().play();
+        assert!(correct.iter().all(|c| c.state.core == 0b1111));
+    }
+
     #[test]
     fn all_correct_or_all_faulty() {
         let start: String = EXAMPLE.split_inclusive('\n').take(3).collect();

@@ -92,8 +92,9 @@ fn main() -> ExitCode {
     run.line(format!(
         "systems: {}, of them {} with at most t faulty controllers: {} of these with a correct sender, {} without a sender and with one block at all \
          starts, {} without a sender and with several, of which {} agreed; runs of correct controllers: {}, agreed {}, none {}, beyond {}; calls {}, \
-         outside a core {}; refused steps {}; with at most t faulty, runs that name somebody {}, systems in which not all name the same {}; with \
-         more than t, runs that name a correct controller {}",
+         outside a core {}; refused steps {}; with at most t faulty, runs that name somebody {}, systems in which not all name the same {}, that agreed \
+         on a block held by t + 1 after call 2 and no more {}, with a correct controller outside the core {}; with more than t, runs that name a \
+         correct controller {}",
         systems.systems,
         systems.within_t,
         systems.correct_sender,
@@ -109,6 +110,8 @@ fn main() -> ExitCode {
         systems.refused,
         systems.naming,
         systems.naming_apart,
+        systems.fewest_holders,
+        systems.correct_outside,
         systems.naming_correct
     ));
 

@@ -38,6 +38,10 @@ pub struct Counts {
     pub naming_apart: u64,
     /// Beyond t: runs of correct controllers that name a correct one.
     pub naming_correct: u64,
+    /// Within t: systems that agreed on a block which t + 1 correct controllers held after call 2, and no more.
+    pub fewest_holders: u64,
+    /// Within t, with a core: systems in which some correct controller is not in it.
+    pub correct_outside: u64,
     pub snapshots: Vec<Snapshot>,
 }
 
@@ -61,6 +65,8 @@ struct Run {
     system: System,
     /// How each controller behaves if it is faulty.
     behaviours: Vec<Behaviour>,
+    /// The block of each controller after call 2.
+    held: Vec<Vec<u8>>,
 }
 
 impl Run {
@@ -75,7 +81,11 @@ impl Run {
         let behaviours = (0..system.n)
             .map(|_| Behaviour::new(random, first))
             .collect();
-        Run { system, behaviours }
+        Run {
+            system,
+            behaviours,
+            held: Vec::new(),
+        }
     }
 
     /// The inbox of each controller after a round.
@@ -210,7 +220,42 @@ impl Run {
             outboxes.push(after.outbox);
         }
         self.system.outboxes.push(outboxes);
+        if c == 2 {
+            let blocks = self.system.controllers.iter().map(|c| c.block.clone());
+            self.held = blocks.collect();
+        }
+        if c >= 3 * self.system.t + 7 && self.within_t() {
+            self.cores(tally, counts, c)?;
+        }
         Ok(())
+    }
+
+    fn within_t(&self) -> bool {
+        self.system.faulty.count_ones() as usize <= self.system.t
+    }
+
+    /// If the sender is correct, every correct controller is in the core of each, from call 3t + 7 on.
+    fn cores(&self, tally: &mut Tally, counts: &mut Counts, c: usize) -> Same<()> {
+        let System { n, sender, .. } = self.system;
+        let correct = u16::MAX >> (16 - n) & !self.system.faulty;
+        let mut outside = false;
+        for i in (1..=n).filter(|&i| !self.system.is_faulty(i)) {
+            let core = self.system.state(i).core;
+            if sender != 0 && !self.system.is_faulty(sender) {
+                tally.holds("all correct controllers in the core", correct & !core == 0)?;
+            }
+            outside |= core != 0 && correct & !core != 0;
+        }
+        counts.correct_outside += u64::from(outside && c == 3 * self.system.t + 9);
+        Ok(())
+    }
+
+    /// A block that is agreed on was held by at least t + 1 correct controllers after call 2.
+    fn holders(&self, tally: &mut Tally, counts: &mut Counts, agreed: &[u8]) -> Same<()> {
+        let held = |i: &usize| !self.system.is_faulty(*i) && self.held[i - 1] == agreed;
+        let holders = (1..=self.system.n).filter(held).count();
+        counts.fewest_holders += u64::from(holders == self.system.t + 1);
+        tally.holds("a block held by t + 1", holders > self.system.t)
     }
 
     /// A step after the last one is refused with 8, whatever is lent.
@@ -237,7 +282,8 @@ impl Run {
     }
 
     /// With at most t faulty controllers all correct ones end with one outcome and one block: with a correct sender the sender's, without a sender
-    /// the one that all correct ones started with, if it was one; and the marks in the library's states are of faulty ones only.
+    /// the one that all correct ones started with, if it was one; the marks in the library's states are of faulty ones only; and a block that is agreed
+    /// on was held.
     fn agreement(&self, tally: &mut Tally, counts: &mut Counts) -> Same<()> {
         let correct: Vec<&Controller> = (1..=self.system.n)
             .filter(|&i| !self.system.is_faulty(i))
@@ -255,7 +301,7 @@ impl Run {
         let named: Vec<u16> = correct.iter().map(|c| raw::named(&c.bytes)).collect();
         let names_correct = |&&row: &&u16| row & !self.system.faulty != 0;
         let naming_correct = named.iter().filter(names_correct).count();
-        if self.system.faulty.count_ones() as usize > self.system.t {
+        if !self.within_t() {
             counts.naming_correct += naming_correct as u64;
             return Ok(());
         }
@@ -272,6 +318,9 @@ impl Run {
             "an outcome within t",
             first.state.outcome != Outcome::Beyond,
         )?;
+        if first.state.outcome == Outcome::Agreed {
+            self.holders(tally, counts, &first.block)?;
+        }
         let ends_with =
             |block: &Vec<u8>| (first.state.outcome, &first.block) == (Outcome::Agreed, block);
         if self.system.sender == 0 {
