@@ -12,9 +12,9 @@ use Rattle.lists.proofs.Tests.{true≢false, fails, lt-or-le}
 use Rattle.bitset.specs.Set.{member}
 use Rattle.settings.specs.Valid.{Quorum, Coded}
 use Rattle.agreement.specs.Run.{Local}
-use Rattle.agreement.specs.Agreement.{System, Correct, Supposed, Agreement, OnePlan, call, last}
+use Rattle.agreement.specs.Agreement.{System, Correct, Supposed, Agreement, OnePlan, last}
 use Rattle.agreement.specs.Named.{NamedByLast, NoCorrectNamed, NamedByMany}
-use Rattle.agreement.specs.Held.{HeldByMany, HeldOn, AllInCore}
+use Rattle.agreement.specs.Held.{blockAfter, HeldByMany, HeldOn, AllInCore}
 use Rattle.agreement.proofs.System.{coded, call-next, call-last, block-from, later}
 use Rattle.agreement.proofs.Coding.{Code, code-laws}
 use Rattle.agreement.proofs.Graph.{Graph, graph-laws}
@@ -81,7 +81,7 @@ named-by-many S H shown true-marks j many g =
 pub held-by-many : HeldByMany
 held-by-many S H i B f = agreed-held S H i f (codeAt S H i f) (graphAt S H i f) i B f
 
--- and by whoever held it then after every later call: no call but the last writes it, and that one writes what is agreed on
+-- and whoever held it then holds it after every later call: up to the last one they keep the block, and that one leaves the block agreed on
 pub held-on : HeldOn
 held-on S H i j B f g a e c least most =
     ⊎-elim
@@ -91,7 +91,7 @@ held-on S H i j B f g a e c least most =
     ∙ e)
     (λ (l : last S ≤ c).
     let is : c ≡ last S = omega arith in
-    ap (λ (x : ℕ). call S j x .after .block) is
+    ap (blockAfter S j) is
     ∙ ap (λ (h : Local). h .block) (call-last S H j g)
     ∙ agreement S H .same-block j i g f
     ∙ a .1)

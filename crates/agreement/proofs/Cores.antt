@@ -1,5 +1,5 @@
--- Step 4. All correct controllers have one core (`one-core`), which stays to the end (`core-from`); where it is not empty it has at least t + 1 correct members (`enough-correct`), and
--- the correct ones among its members hold one block (`one-block`).
+-- Step 4. All correct controllers have one core (`one-core`), which stays to the end (`core-from`). Where it is not empty it has at least t + 1 correct
+-- members (`enough-correct`), and these hold one block (`one-block`).
 use mathlib.Core.Path.{_≡_, refl, sym, ap, ap₂, _∙_}
 use mathlib.Core.Bool.{Bool, true, not, _&&_}
 use mathlib.Core.List.{List}
@@ -23,11 +23,11 @@ use Rattle.protocol.specs.Calls.{coreCall, chooseCall, finishCall}
 use Rattle.protocol.proofs.Laws.{of-core, of-choose, of-finish}
 use Rattle.agreement.specs.Run.{Local}
 use Rattle.agreement.specs.Agreement.{System, Correct, Supposed, last, call}
-use Rattle.agreement.specs.Held.{heldBlock, coreAfter}
+use Rattle.agreement.specs.Held.{coreAfter}
 use Rattle.agreement.proofs.System.{coded, call-at, call-next, state-by}
 use Rattle.agreement.proofs.Coding.{Code}
 use Rattle.agreement.proofs.Graph.{Graph}
-use Rattle.agreement.proofs.Blocks.{is-block, marks, marks-agree}
+use Rattle.agreement.proofs.Blocks.{heldBlock, is-block, marks, marks-agree}
 use Rattle.agreement.proofs.Votes.{correctAt, by-index, to-index, one-matrix, row-is-marks}
 
 -- the matrix of controller i after the vote

@@ -35,9 +35,9 @@ use Rattle.protocol.proofs.Laws.{of-finish}
 use Rattle.agreement.specs.Run.{Local}
 use Rattle.agreement.specs.Agreement.{System, Correct, Supposed, last, call, lastCore, lastInbox, outcomeOf, blockOf, SetByLast}
 use Rattle.agreement.specs.Named.{namedBy, NamedAtEnd}
-use Rattle.agreement.specs.Held.{heldBlock}
 use Rattle.agreement.proofs.System.{coded, length-block, call-at, call-last, inbox-long, block-long, performs-kind}
 use Rattle.agreement.proofs.Coding.{IsBlock, Code}
+use Rattle.agreement.proofs.Blocks.{heldBlock}
 use Rattle.agreement.proofs.Votes.{correctAt, by-index, most-correct}
 use Rattle.agreement.proofs.Cores.{lastMatrix, core-last}
 use Rattle.agreement.proofs.Pieces.{len-rebuild, piece-read}

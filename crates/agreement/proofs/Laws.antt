@@ -11,7 +11,7 @@
 --     call-first, call-next, call-last   what calls are made on and leave
 --     delivered                 what i sent to j in round c is what j's call c + 1 reads
 --   The steps of the proof
---     is-block                  the block held after call 2; sender-block: the sender's, if the sender is correct; own-block: without a sender the own
+--     heldBlock, is-block       the block held after call 2; sender-block: the sender's, if the sender is correct; own-block: without a sender the own
 --     round-1-silent            without a sender nobody sends in round 1
 --     one-matrix, row-is-marks  the vote: one matrix, with each correct controller's row as it was sent
 --     one-core, enough-correct, one-block   one core; at least t + 1 of its members are correct; they hold one block
@@ -25,9 +25,10 @@
 --     all-in-core               with a correct sender every correct controller is in the core, from call 3t + 7 on
 pub use Rattle.agreement.proofs.Run.{stepNumber, carried-out-yes, carried-out-no, chain, refused-away, At, step-at, valid-at, finished-step}
 pub use Rattle.agreement.proofs.System.{valid, coded, numbered, length-block, call-at, call-first, call-next, call-last, delivered}
-pub use Rattle.agreement.proofs.Blocks.{is-block, sender-block, own-block, round-1-silent}
+pub use Rattle.agreement.proofs.Blocks.{heldBlock, is-block, sender-block, own-block, round-1-silent}
 pub use Rattle.agreement.proofs.Votes.{one-matrix, row-is-marks}
 pub use Rattle.agreement.proofs.Cores.{one-core, enough-correct, one-block}
 pub use Rattle.agreement.proofs.Pieces.{piece-sent}
 pub use Rattle.agreement.proofs.Verdict.{common-in-core, sender-in-core}
-pub use Rattle.agreement.proofs.Agreement.{agreement, one-plan, named-by-last, no-correct-named, named-by-many, held-by-many, held-on, all-in-core}
+pub use Rattle.agreement.proofs.Agreement.{agreement, one-plan, named-by-last, no-correct-named, named-by-many}
+pub use Rattle.agreement.proofs.Agreement.{held-by-many, held-on, all-in-core}

@@ -25,10 +25,9 @@ use Rattle.protocol.specs.declared.State.{State}
 use Rattle.protocol.specs.Calls.{Carried, coreCall, chooseCall}
 use Rattle.protocol.proofs.Laws.{of-core, of-choose}
 use Rattle.agreement.specs.Agreement.{System, Correct, Supposed, last, call, layoutOf}
-use Rattle.agreement.specs.Held.{heldBlock}
 use Rattle.agreement.proofs.System.{coded, numbered, call-at, length-round, outbox-long, sends-by, state-by, block-from, delivered}
 use Rattle.agreement.proofs.Coding.{Code}
-use Rattle.agreement.proofs.Blocks.{is-block}
+use Rattle.agreement.proofs.Blocks.{heldBlock, is-block}
 use Rattle.agreement.proofs.Votes.{correctAt, by-index}
 use Rattle.agreement.proofs.Cores.{lastMatrix, core-of, core-choose}
 

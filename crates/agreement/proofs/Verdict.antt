@@ -1,7 +1,8 @@
 -- Step 7. One core for all: with none all say none and zeros; else its correct members hold one block, and all end with agreed and that block;
--- either way they name no correct controller (`verdict`). So a block that is agreed on was held by those members (`agreed-held`). If all held one block after call 2, the correct controllers are a clique of at least n - t,
--- so that the core holds them all (`common-in-core`) and the block is that one (`common-verdict`): with a correct sender the sender's (`sender-in-core`,
--- `sender-verdict`), without a sender the one that all were started with (`alike-verdict`).
+-- either way they name no correct controller (`verdict`). So a block that is agreed on was held by t + 1 of them (`agreed-held`). If all held one block
+-- after call 2, the correct controllers are a clique of at least n - t, so that the core holds them all (`common-in-core`) and the block is that one
+-- (`common-verdict`): with a correct sender the sender's (`sender-in-core`, `sender-verdict`), without a sender the one that all were started with
+-- (`alike-verdict`).
 use mathlib.Core.Path.{_≡_, sym, ap, ap₂, subst, _∙_}
 use mathlib.Core.Bool.{true, false, _&&_}
 use mathlib.Core.List.{List}
@@ -24,11 +25,11 @@ use Rattle.reconstruction.specs.declared.Outcome.the-variants.{Agreed, None}
 use Rattle.reconstruction.specs.Outcomes.{outcomeNumber}
 use Rattle.agreement.specs.Agreement.{System, Correct, Supposed, StartedAlike, outcomeOf, blockOf, Holds}
 use Rattle.agreement.specs.Named.{namedBy}
-use Rattle.agreement.specs.Held.{heldBlock, holders}
+use Rattle.agreement.specs.Held.{holders}
 use Rattle.agreement.proofs.System.{coded}
 use Rattle.agreement.proofs.Coding.{IsBlock, Code}
 use Rattle.agreement.proofs.Graph.{Graph}
-use Rattle.agreement.proofs.Blocks.{is-block, agree-marks, sender-block, own-block}
+use Rattle.agreement.proofs.Blocks.{heldBlock, is-block, agree-marks, sender-block, own-block}
 use Rattle.agreement.proofs.Votes.{correctAt, by-index, to-index, most-correct, row-is-marks}
 use Rattle.agreement.proofs.Cores.{lastMatrix, one-core, one-block, enough-correct}
 use Rattle.agreement.proofs.Ends.{ends-none, none-unnamed, ends-agreed, ends-unnamed}
@@ -80,8 +81,8 @@ module _ (S : System) (H : Supposed S) (w : ℕ) (f : Correct S w) (C : Code (S 
       )
 
   -- the common block is the one that this member held after call 2, and with it all correct members, at least t + 1
-  held : (coreSet ≡ 0 → ⊥) → (B : List ℕ) × Verdict Agreed B × (S .settings .t + 1 ≤ holders S B)
-  held z =
+  held-by : (coreSet ≡ 0 → ⊥) → (B : List ℕ) × Verdict Agreed B × (S .settings .t + 1 ≤ holders S 2 B)
+  held-by z =
       let h = heart z in
       let c = h .0 in
       let B = heldBlock S (c + 1) in
@@ -106,17 +107,17 @@ module _ (S : System) (H : Supposed S) (w : ℕ) (f : Correct S w) (C : Code (S 
   verdict =
       ⊎-elim
       (λ (z : coreSet ≡ 0). (None, replicate (blockLength (S .settings .k) (S .settings .t)) 0, without z))
-      (λ (z : coreSet ≡ 0 → ⊥). let r = held z in (Agreed, r .0, r .1))
+      (λ (z : coreSet ≡ 0 → ⊥). let r = held-by z in (Agreed, r .0, r .1))
       (same-or-not coreSet 0)
 
   -- without a core nothing is agreed
-  pub agreed-held : (i : ℕ) (B : List ℕ) → Correct S i → Holds S i B → S .settings .t + 1 ≤ holders S B
+  pub agreed-held : (i : ℕ) (B : List ℕ) → Correct S i → Holds S i B → S .settings .t + 1 ≤ holders S 2 B
   agreed-held i B g a =
       ⊎-elim
       (λ (z : coreSet ≡ 0). absurd (omega (arith, ap outcomeNumber (sym (a .0) ∙ without z .all i g .0))))
       (λ (z : coreSet ≡ 0 → ⊥).
-      let r = held z in
-      subst (λ (A : List ℕ). S .settings .t + 1 ≤ holders S A) (sym (r .1 .all i g .1) ∙ a .1) (r .2))
+      let r = held-by z in
+      subst (λ (A : List ℕ). S .settings .t + 1 ≤ holders S 2 A) (sym (r .1 .all i g .1) ∙ a .1) (r .2))
       (same-or-not coreSet 0)
 
   -- ---- all held one block after call 2

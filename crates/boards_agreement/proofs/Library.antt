@@ -20,7 +20,7 @@ use Rattle.protocol.specs.Step.{startOf}
 use Rattle.protocol.proofs.Laws.{step-refused, step-number}
 use Rattle.agreement.specs.Run.{Lent, Local, Made, stepped, left, carriedOut, leftAfter, made, calls, begun}
 use Rattle.agreement.specs.Agreement.{System, Correct, Supposed, Holds, atStart, callsOf, atEnd, last, noCall, call, lastInbox}
-use Rattle.agreement.specs.Held.{heldBlock, coreAfter}
+use Rattle.agreement.specs.Held.{blockAfter, coreAfter}
 use Rattle.agreement.proofs.Laws.{At, coded, length-block, call-at, call-last, agreement, named-by-last, no-correct-named, named-by-many}
 use Rattle.agreement.proofs.Laws.{held-by-many, held-on, all-in-core}
 use Rattle.state_bytes.specs.State.{stateLength, stateBytes, stateOf, Words}
@@ -131,7 +131,7 @@ module _ (S : System) (supposed : Supposed S) (buffers : ℕ → List ℕ) (size
       run-calls (S .settings) i (S .block i) (buffers i) (sizes i) (supposed .started i f) (S .steps i) (c - 1)
       (let all : length (callsOf S i) ≡ last S = supposed .finished i f in omega arith)
 
-  block-after : (i : ℕ) → Correct S i → (c : ℕ) → 1 ≤ c → c ≤ last S → keptAfterCall S buffers i c .block ≡ call S i c .after .block
+  block-after : (i : ℕ) → Correct S i → (c : ℕ) → 1 ≤ c → c ≤ last S → keptAfterCall S buffers i c .block ≡ blockAfter S i c
   unfolding asKept
   block-after i f c least most = ap (λ (x : Kept). x .block) (call-kept i f c least most .0)
 
@@ -141,7 +141,7 @@ module _ (S : System) (supposed : Supposed S) (buffers : ℕ → List ℕ) (size
       let q = call-kept i f c least most in
       ap (λ (x : Kept). stateOf (x .state) .core) (q .0) ∙ ap (λ (s : State). s .core) (read-written (call S i c .after .state) (q .1))
 
-  -- an outcome agreed
+  -- an outcome agreed, and the block that is kept
   holds-at : (i : ℕ) → Correct S i → outcomeIn (keptAt S buffers i .state) ≡ outcomeNumber Agreed → Holds S i (keptAt S buffers i .block)
   holds-at i c e = (agreed-number (atEnd S i .state .outcome) (sym (outcome-at i c) ∙ e), sym (block-at i c))
 
@@ -241,10 +241,10 @@ library-held S supposed buffers sizes =
           omega (
             arith,
             held-by-many S supposed i (keptAt S buffers i .block) c (holds i c e),
-            count-mono (S .settings .n) (λ x. S .correct (x + 1) && same (heldBlock S (x + 1)) (keptAt S buffers i .block))
+            count-mono (S .settings .n) (λ x. S .correct (x + 1) && same (blockAfter S (x + 1) 2) (keptAt S buffers i .block))
                 (λ x. S .correct (x + 1) && same (keptAfterCall S buffers (x + 1) 2 .block) (keptAt S buffers i .block))
                 (λ x l y.
-                let r = and-left (S .correct (x + 1)) (same (heldBlock S (x + 1)) (keptAt S buffers i .block)) y in
+                let r = and-left (S .correct (x + 1)) (same (blockAfter S (x + 1) 2) (keptAt S buffers i .block)) y in
                 ap (λ (b : List ℕ). S .correct (x + 1) && same b (keptAt S buffers i .block))
                 (after (x + 1) (record { least = omega arith; most = omega (arith, l); is = r }) 2 (omega arith) (omega arith))
                 ∙ y),

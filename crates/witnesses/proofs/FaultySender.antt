@@ -1,13 +1,13 @@
 -- The system of document 01, 'The house program': four controllers, t 1, k 1, block 0a14, and a faulty sender, 1, that sends the lines of
 -- the example and nothing else. `faulty-sender-supposed`: what demand 3 supposes holds; `faulty-sender-agreed`: 2, 3 and 4 end with agreed
--- and 0a14, as document 01 prints. Both are computed: of the second the core and the counts of decoding's rule for 0a14, from which `agreement`
--- gives the rest.
+-- and 0a14, as document 01 prints; `faulty-sender-core`, `faulty-sender-held`: who is in the core, and how many held 0a14 (document 02, U14). They
+-- are computed: of the second the core and the counts of decoding's rule for 0a14, from which `agreement` gives the rest.
 --   stepsOf piece block pieces other   the steps of the controller with that piece of 0a14, to which 1 sends the slot `block` in round 1 and
 --                                      `pieces` in round 2; other is its piece of 0b14, which 4 received
 use mathlib.Core.Path.{_≡_, refl, ap}
-use mathlib.Core.Bool.{cond, not, _&&_}
+use mathlib.Core.Bool.{cond, not}
 use mathlib.Core.List.{List, [], _∷_, _++_}
-use Prim.Native.Nat.{ℕ, _+_}
+use Prim.Native.Nat.{ℕ}
 use native.Mathlib.Omega.{arith}
 use lib.Dec.{T, eqb, eqb→eq}
 use Rattle.lists.specs.Join.{joined, part}
@@ -36,10 +36,11 @@ use Rattle.star.specs.Star.{struck, setC, lacks, setD, atLeast, setF, setE, set
 use Rattle.reconstruction.specs.Reconstruction.{inCore, forwarded, votes, isChosen, chosenPiece, ownPiece, sentPiece, shared}
 use Rattle.protocol.specs.Calls.{callOf}
 use Rattle.protocol.specs.Step.{startRefusal, startOf, lengthsFit, stepRefusal, stepOf}
-use Rattle.agreement.specs.Agreement.{System, Correct, Supposed, call, lastCore, lastInbox, Holds}
+use Rattle.agreement.specs.Agreement.{System, Correct, Supposed, lastCore, lastInbox, Holds}
 use Rattle.agreement.specs.Held.{holders}
 use Rattle.agreement.proofs.Laws.{agreement}
-use Rattle.witnesses.proofs.Test.{given, each, passed, at-correct, Meets, meets-supposed, Step, small, small-bytes, smalls, lents, present, absent, rows, box}
+use Rattle.witnesses.proofs.Test.{given, each, passed, at-correct, Meets, meets-supposed}
+use Rattle.witnesses.proofs.Test.{Step, small, small-bytes, smalls, lents, present, absent, rows, box}
 
 stepsOf : ℕ → List ℕ → List ℕ → ℕ → List Step
 stepsOf piece block pieces other =
@@ -88,17 +89,13 @@ faulty-sender = record {
       (lents (stepsOf 0x5a (present (0x0b ∷ 0x14 ∷ [])) (absent 2) 0x5b) small-4));
 }
 
--- how many correct controllers have the block 0a14 after call c
-abbrev pub holdersAfter : ℕ → ℕ
-holdersAfter c = count 4 (λ x. faulty-sender .correct (x + 1) && same (call faulty-sender (x + 1) c .after .block) (0x0a ∷ 0x14 ∷ []))
-
--- what is computed: of the correct controllers each has the core 1, 2 and 3, and what it is lent to the last call meets decoding's rule for 0a14
+-- what is computed. Each correct controller has the core 1, 2 and 3, and what it is lent to the last call meets decoding's rule for 0a14
 record Computed : Type 0 where
   supposed : Meets faulty-sender
   core : T (each 4 (λ i. given (faulty-sender .correct i) (eqb (lastCore faulty-sender i) 7)))
   rule : T (each 4 (λ i. given (faulty-sender .correct i) (meets 4 1 1 (lastInbox faulty-sender i) (0x0a ∷ 0x14 ∷ []))))
-  holders-1 : holdersAfter 1 ≡ 0
-  holders-2 : holders faulty-sender (0x0a ∷ 0x14 ∷ []) ≡ 2
+  none-held : holders faulty-sender 1 (0x0a ∷ 0x14 ∷ []) ≡ 0
+  two-held : holders faulty-sender 2 (0x0a ∷ 0x14 ∷ []) ≡ 2
 
 computed : Computed
 unfolding faulty-sender stepsOf lents tabulate filled sum count same gadd gmul gpow polyMul reduce member setOf sizeOf restricted first
@@ -113,8 +110,8 @@ computed = record {
   supposed = record { tolerance = tt; few = tt; started = tt; finished = tt; arrives = tt };
   core = tt;
   rule = tt;
-  holders-1 = refl;
-  holders-2 = refl;
+  none-held = refl;
+  two-held = refl;
 }
 
 pub faulty-sender-supposed : Supposed faulty-sender
@@ -124,7 +121,7 @@ block-bytes : Bytes (0x0a ∷ 0x14 ∷ [])
 unfolding small
 block-bytes = small-bytes (0x0a ∷ 0x14 ∷ []) tt
 
--- 4, which held another block, is not in the core: for `all-in-core` the sender must be correct
+-- 4, to which the sender sent another block, is correct and not in the core: `all-in-core` needs a correct sender
 pub faulty-sender-core : (i : ℕ) → Correct faulty-sender i → lastCore faulty-sender i ≡ 7
 unfolding faulty-sender
 faulty-sender-core i f = eqb→eq (lastCore faulty-sender i) 7 (at-correct faulty-sender (λ i. eqb (lastCore faulty-sender i) 7) (computed .core) i f)
@@ -138,6 +135,7 @@ faulty-sender-agreed i f =
     (passed (meets 4 1 1 (lastInbox faulty-sender i) (0x0a ∷ 0x14 ∷ []))
     (at-correct faulty-sender (λ i. meets 4 1 1 (lastInbox faulty-sender i) (0x0a ∷ 0x14 ∷ [])) (computed .rule) i f)))
 
--- 0a14 was held by t + 1 correct controllers after call 2 and by no more: the bound of `held-by-many` is reached; and by none after call 1
-pub faulty-sender-held : (holders faulty-sender (0x0a ∷ 0x14 ∷ []) ≡ 2) × (holdersAfter 1 ≡ 0)
-faulty-sender-held = (computed .holders-2, computed .holders-1)
+-- after call 2 two correct controllers held 0a14, t + 1 and no more, and after call 1 none: of `held-by-many` neither the number nor the call can be
+-- another
+pub faulty-sender-held : (holders faulty-sender 2 (0x0a ∷ 0x14 ∷ []) ≡ 2) × (holders faulty-sender 1 (0x0a ∷ 0x14 ∷ []) ≡ 0)
+faulty-sender-held = (computed .two-held, computed .none-held)
