@@ -7,7 +7,7 @@ use core::ops::Range;
 pub enum Outcome {
     /// The run is not at its end.
     Open,
-    /// The final block is the one agreed on.
+    /// The final block is the one agreed on. If at most t controllers are faulty, at least t + 1 correct ones have held it since call 2.
     Agreed,
     /// No core was found; the final block is zeros. If there is a sender and at most t controllers are faulty, the sender is one of them. Without a
     /// sender it accuses nobody: the correct controllers did not all start with one block, or more than t are faulty.
