@@ -30,13 +30,14 @@ use Rattle.protocol.specs.Calls.{Carried, sendCall, receiveCall, compareCall}
 use Rattle.protocol.proofs.Laws.{of-send, of-receive, of-compare}
 use Rattle.agreement.specs.Run.{Local}
 use Rattle.agreement.specs.Agreement.{System, Correct, Supposed, call, layoutOf}
+use Rattle.agreement.specs.Held.{blockAfter}
 use Rattle.agreement.proofs.System.{coded, numbered, length-block, call-at, call-first, call-next, length-round, outbox-long, performs-kind, sends-by}
 use Rattle.agreement.proofs.System.{block-from, delivered}
 use Rattle.agreement.proofs.Coding.{IsBlock, Code}
 
 -- the block of i after call 2
 abbrev pub heldBlock : System → ℕ → List ℕ
-heldBlock S i = call S i 2 .after .block
+heldBlock S i = blockAfter S i 2
 
 module _ (S : System) (H : Supposed S) where
   module _ (i : ℕ) (f : Correct S i) where
