@@ -1,16 +1,14 @@
--- Demand 3: `agreement`. From the laws of the code and of the star (`concluded`), and with them. Its corollary for readers: `one-plan`. Beside it, whom
--- correct controllers name (document 02, U1): `named-by-last`, `no-correct-named` and `named-by-many`; and who held the block that is agreed on
--- (document 02, U14): `held-by-many`, `held-on` and `all-in-core`.
+-- Demand 3: `agreement`. Its corollary for readers: `one-plan`. Beside it, whom correct controllers name (document 02, U1): `named-by-last`,
+-- `no-correct-named` and `named-by-many`; who held the block that is agreed on, and who is in the core (document 02, U14): `held-by-many`, `held-on` and
+-- `all-in-core`.
 use mathlib.Core.Path.{_≡_, sym, ap, _∙_}
 use mathlib.Core.Bool.{not}
-use mathlib.Core.List.{List}
 use mathlib.Core.Logic.{⊎-elim}
 use Prim.Native.Nat.{ℕ, _+_, _-_, _≤_, _<_}
 use native.Mathlib.Omega.{arith}
 use Rattle.lists.proofs.Sums.{count-mono}
 use Rattle.lists.proofs.Tests.{true≢false, fails, lt-or-le}
 use Rattle.bitset.specs.Set.{member}
-use Rattle.settings.specs.Valid.{Quorum, Coded}
 use Rattle.agreement.specs.Run.{Local}
 use Rattle.agreement.specs.Agreement.{System, Correct, Supposed, Agreement, OnePlan, last}
 use Rattle.agreement.specs.Named.{NamedByLast, NoCorrectNamed, NamedByMany}
@@ -23,35 +21,26 @@ use Rattle.agreement.proofs.Cores.{lastMatrix, core-from}
 use Rattle.agreement.proofs.Ends.{set-by-last, named-at-end}
 use Rattle.agreement.proofs.Verdict.{verdict, agreed-held, sender-in-core, sender-verdict, alike-verdict}
 
-module _ (code : (n t k : ℕ) → Coded n t k → Code n t k) (graph : (n t : ℕ) → Quorum n t → (rows : List ℕ) → Graph rows n t) where
-  pub concluded : Agreement
-  concluded S H =
-      let C : (i : ℕ) (f : Correct S i) → Code (S .settings .n) (S .settings .t) (S .settings .k) = λ i f. code (S .settings .n) (S .settings .t)
-      (S .settings .k) (coded S H i f) in
-      let G : (i : ℕ) (f : Correct S i) → Graph (lastMatrix S i) (S .settings .n) (S .settings .t) = λ i f. graph (S .settings .n) (S .settings .t)
-      (coded S H i f .quorum) (lastMatrix S i) in
-      record {
-        set = λ i f. set-by-last S H i f;
-        later = later S H;
-        same-outcome = λ i j f g. let v = verdict S H i f (C i f) (G i f) .2 in v .all i f .0 ∙ sym (v .all j g .0);
-        same-block = λ i j f g. let v = verdict S H i f (C i f) (G i f) .2 in v .all i f .1 ∙ sym (v .all j g .1);
-        sender-outcome = λ i g f. sender-verdict S H i f (C i f) (G i f) g .all i f .0;
-        sender-block = λ i g f. sender-verdict S H i f (C i f) (G i f) g .all i f .1;
-        alike-outcome = λ i B a f. alike-verdict S H i f (C i f) (G i f) B a .all i f .0;
-        alike-block = λ i B a f. alike-verdict S H i f (C i f) (G i f) B a .all i f .1;
-      }
-
--- demand 3
-pub agreement : Agreement
-agreement = concluded code-laws graph-laws
-
--- the laws that the verdict of a correct controller stands on
+-- the laws of the code and of the star, for the settings and the matrix of a correct controller
 module _ (S : System) (H : Supposed S) (i : ℕ) (f : Correct S i) where
   codeAt : Code (S .settings .n) (S .settings .t) (S .settings .k)
   codeAt = code-laws (S .settings .n) (S .settings .t) (S .settings .k) (coded S H i f)
 
   graphAt : Graph (lastMatrix S i) (S .settings .n) (S .settings .t)
   graphAt = graph-laws (S .settings .n) (S .settings .t) (coded S H i f .quorum) (lastMatrix S i)
+
+-- demand 3
+pub agreement : Agreement
+agreement S H = record {
+  set = set-by-last S H;
+  later = later S H;
+  same-outcome = λ i j f g. let v = verdict S H i f (codeAt S H i f) (graphAt S H i f) .2 in v .all i f .0 ∙ sym (v .all j g .0);
+  same-block = λ i j f g. let v = verdict S H i f (codeAt S H i f) (graphAt S H i f) .2 in v .all i f .1 ∙ sym (v .all j g .1);
+  sender-outcome = λ i g f. sender-verdict S H i f (codeAt S H i f) (graphAt S H i f) g .all i f .0;
+  sender-block = λ i g f. sender-verdict S H i f (codeAt S H i f) (graphAt S H i f) g .all i f .1;
+  alike-outcome = λ i B a f. alike-verdict S H i f (codeAt S H i f) (graphAt S H i f) B a .all i f .0;
+  alike-block = λ i B a f. alike-verdict S H i f (codeAt S H i f) (graphAt S H i f) B a .all i f .1;
+}
 
 -- no two correct controllers hold different blocks
 pub one-plan : OnePlan

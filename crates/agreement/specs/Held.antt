@@ -1,5 +1,5 @@
 -- No block is invented (document 02, U14), under what demand 3 supposes; demand 3 itself is in Agreement. A block that is agreed on was held by at
--- least t + 1 correct controllers from the second call on: faulty ones, the sender among them, cannot bring in a block that no correct one had.
+-- least t + 1 correct controllers from the second call on: faulty ones, the sender among them, cannot bring in a block that no correct one held.
 --   blockAfter S i c  the block of controller i as its call c left it
 --   holders S c B     how many correct controllers, of 1 .. n, held the block B after call c, byte for byte
 --   HeldByMany        whatever block a correct controller ends with as agreed, at least t + 1 correct ones held that very block after call 2
