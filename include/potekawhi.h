@@ -65,8 +65,10 @@ extern "C" {
 #define POTEKAWHI_BEYOND 255
 
 /* Outcomes: what potekawhi_outcome and potekawhi_final_block answer. With at most t faulty controllers all correct ones have the same one, agreed
- * or none. With agreed, at least t + 1 correct controllers have held the final block since call 2: faulty ones cannot bring in another. None means that no core was found: with a sender, that the sender is faulty; with sender 0 it accuses nobody, the correct controllers did
- * not all start with one block. With more than t faulty controllers nothing is promised, and none accuses nobody. */
+ * or none. Agreed means that at least t + 1 correct controllers have held the final block since call 2, so that faulty ones cannot bring in a block
+ * that no correct one held; a controller to which nothing came from the sender holds zeros. None means that no core was found: with a sender, that
+ * the sender is faulty; with sender 0 it accuses nobody, the correct controllers did not all start with one block. With more than t faulty
+ * controllers nothing is promised, and none accuses nobody. */
 #define POTEKAWHI_OUTCOME_OPEN 0   /* the run is not at its end */
 #define POTEKAWHI_OUTCOME_AGREED 1 /* the final block is the one agreed on */
 #define POTEKAWHI_OUTCOME_NONE 2   /* no core was found; the final block is zeros */
