@@ -98,14 +98,14 @@ record Computed : Type 0 where
   two-held : holders faulty-sender 2 (0x0a ∷ 0x14 ∷ []) ≡ 2
 
 computed : Computed
-unfolding faulty-sender stepsOf lents tabulate filled sum count same gadd gmul gpow polyMul reduce member setOf sizeOf restricted first
-    wordAt rowOf rowByte rowsOf outside tooMany broken refusalOf stateRefusal lengthsRefusal starRefusal encodingRefusal blockLength rowLength inSettings
-    kindLength boxLength inboxLength
-    outboxLength roundKind callKind phaseOf width slotOf part holds isPresent messageOf written slots joined copied gsum evaluate stripe pieceOf isReady
-    sentBlock receivedBlock twoPieces sentPieces isMarked marksOf marksMessage sentMarks zeroSeen oneSeen held support weak settled matrixOf
-    said kingSays firstMatrix zerosOf onesOf heldOf weakOf settledOf seenMessage sentByKing neighbour matched firstFound ofSize upTo matchingOf struck
-    setC lacks setD atLeast setF setE setsFrom noSets isLarge starFrom refusalFor starOf inCore forwarded votes isChosen
-    chosenPiece ownPiece sentPiece shared callOf startRefusal startOf lengthsFit stepRefusal stepOf decodingRefusal hasPiece received presentCount differing meets
+unfolding faulty-sender stepsOf lents tabulate filled sum count same gadd gmul gpow polyMul reduce member setOf sizeOf restricted first wordAt rowOf
+    rowByte rowsOf outside tooMany broken refusalOf stateRefusal lengthsRefusal starRefusal encodingRefusal blockLength rowLength inSettings
+    kindLength boxLength inboxLength outboxLength roundKind callKind phaseOf width slotOf part holds isPresent messageOf written slots joined copied
+    gsum evaluate stripe pieceOf isReady sentBlock receivedBlock twoPieces sentPieces isMarked marksOf marksMessage sentMarks zeroSeen oneSeen held
+    support weak settled matrixOf said kingSays firstMatrix zerosOf onesOf heldOf weakOf settledOf seenMessage sentByKing neighbour matched
+    firstFound ofSize upTo matchingOf struck setC lacks setD atLeast setF setE setsFrom noSets isLarge starFrom refusalFor starOf inCore forwarded
+    votes isChosen chosenPiece ownPiece sentPiece shared callOf startRefusal startOf lengthsFit stepRefusal stepOf decodingRefusal hasPiece received
+    presentCount differing meets
 computed = record {
   supposed = record { tolerance = tt; few = tt; started = tt; finished = tt; arrives = tt };
   core = tt;
@@ -135,7 +135,7 @@ faulty-sender-agreed i f =
     (passed (meets 4 1 1 (lastInbox faulty-sender i) (0x0a ∷ 0x14 ∷ []))
     (at-correct faulty-sender (λ i. meets 4 1 1 (lastInbox faulty-sender i) (0x0a ∷ 0x14 ∷ [])) (computed .rule) i f)))
 
--- after call 2 two correct controllers held 0a14, t + 1 and no more, and after call 1 none: of `held-by-many` neither the number nor the call can be
--- another
+-- after call 2 two correct controllers held 0a14, t + 1 and no more, and after call 1 none: `held-by-many` is true of no larger number, and of no
+-- earlier call
 pub faulty-sender-held : (holders faulty-sender 2 (0x0a ∷ 0x14 ∷ []) ≡ 2) × (holders faulty-sender 1 (0x0a ∷ 0x14 ∷ []) ≡ 0)
 faulty-sender-held = (computed .two-held, computed .none-held)
