@@ -6,6 +6,7 @@
 --     valid-at                  its settings and own number are valid
 --     finished-step             after the last call every step is refused with 8 and leaves everything
 --   A correct controller in a system
+--     by-index                  index x, below n, is that of a correct one
 --     valid, coded, numbered    its settings and number are in range; length-block: its block has the stated length
 --     call-at                   call c is made on a state whose next call is c
 --     call-first, call-next, call-last   what calls are made on and leave
@@ -26,7 +27,7 @@
 pub use Rattle.agreement.proofs.Run.{stepNumber, carried-out-yes, carried-out-no, chain, refused-away, At, step-at, valid-at, finished-step}
 pub use Rattle.agreement.proofs.System.{valid, coded, numbered, length-block, call-at, call-first, call-next, call-last, delivered}
 pub use Rattle.agreement.proofs.Blocks.{heldBlock, is-block, sender-block, own-block, round-1-silent}
-pub use Rattle.agreement.proofs.Votes.{one-matrix, row-is-marks}
+pub use Rattle.agreement.proofs.Votes.{by-index, one-matrix, row-is-marks}
 pub use Rattle.agreement.proofs.Cores.{one-core, enough-correct, one-block}
 pub use Rattle.agreement.proofs.Pieces.{piece-sent}
 pub use Rattle.agreement.proofs.Verdict.{common-in-core, sender-in-core}

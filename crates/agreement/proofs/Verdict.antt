@@ -110,7 +110,7 @@ module _ (S : System) (H : Supposed S) (w : ℕ) (f : Correct S w) (C : Code (S 
       (λ (z : coreSet ≡ 0 → ⊥). let r = held-by z in (Agreed, r .0, r .1))
       (same-or-not coreSet 0)
 
-  -- without a core nothing is agreed
+  -- so t + 1 held whatever is agreed on: without a core nothing is
   pub agreed-held : (i : ℕ) (B : List ℕ) → Correct S i → Holds S i B → S .settings .t + 1 ≤ holders S 2 B
   agreed-held i B g a =
       ⊎-elim

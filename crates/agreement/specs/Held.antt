@@ -1,5 +1,5 @@
--- No block is invented (document 02, U14), under what demand 3 supposes; demand 3 itself is in Agreement. A block that is agreed on was held by at
--- least t + 1 correct controllers from the second call on: faulty ones, the sender among them, cannot bring in a block that no correct one held.
+-- Who held the block that is agreed on, and who is in the core (document 02, U14), under what demand 3 supposes; demand 3 itself is in Agreement. At
+-- least t + 1 correct controllers held it from the second call on: faulty ones, the sender among them, cannot bring in a block that no correct one held.
 --   blockAfter S i c  the block of controller i as its call c left it
 --   holders S c B     how many correct controllers, of 1 .. n, held the block B after call c, byte for byte
 --   HeldByMany        whatever block a correct controller ends with as agreed, at least t + 1 correct ones held that very block after call 2
@@ -21,8 +21,8 @@ blockAfter S i c = call S i c .after .block
 abbrev pub holders : System → (c : ℕ) → List ℕ → ℕ
 holders S c B = count (S .settings .n) (λ x. S .correct (x + 1) && same (blockAfter S (x + 1) c) B)
 
--- what call 2 leaves is the sender's message, zeros where it is absent; runs without a sender, sender 0, are covered: there call 2 keeps the block, so
--- that t + 1 correct controllers were started with B
+-- what call 2 leaves is the sender's message, zeros where it is absent; runs without a sender, sender 0, are covered: there it is the block that the
+-- controller was started with
 abbrev pub HeldByMany : Type 0
 HeldByMany = (S : System) → Supposed S → (i : ℕ) (B : List ℕ) → Correct S i → Holds S i B → S .settings .t + 1 ≤ holders S 2 B
 

@@ -22,7 +22,7 @@ use Rattle.agreement.specs.Run.{Lent, Local, Made, stepped, left, carriedOut, l
 use Rattle.agreement.specs.Agreement.{System, Correct, Supposed, Holds, atStart, callsOf, atEnd, last, noCall, call, lastInbox}
 use Rattle.agreement.specs.Held.{blockAfter, coreAfter}
 use Rattle.agreement.proofs.Laws.{At, coded, length-block, call-at, call-last, agreement, named-by-last, no-correct-named, named-by-many}
-use Rattle.agreement.proofs.Laws.{held-by-many, held-on, all-in-core}
+use Rattle.agreement.proofs.Laws.{by-index, held-by-many, held-on, all-in-core}
 use Rattle.state_bytes.specs.State.{stateLength, stateBytes, stateOf, Words}
 use Rattle.state_bytes.proofs.Laws.{read-written}
 use Rattle.bitset.specs.Set.{member}
@@ -244,9 +244,9 @@ library-held S supposed buffers sizes =
             count-mono (S .settings .n) (λ x. S .correct (x + 1) && same (blockAfter S (x + 1) 2) (keptAt S buffers i .block))
                 (λ x. S .correct (x + 1) && same (keptAfterCall S buffers (x + 1) 2 .block) (keptAt S buffers i .block))
                 (λ x l y.
-                let r = and-left (S .correct (x + 1)) (same (blockAfter S (x + 1) 2) (keptAt S buffers i .block)) y in
+                let f = by-index S x (l, and-left (S .correct (x + 1)) (same (blockAfter S (x + 1) 2) (keptAt S buffers i .block)) y) in
                 ap (λ (b : List ℕ). S .correct (x + 1) && same b (keptAt S buffers i .block))
-                (after (x + 1) (record { least = omega arith; most = omega (arith, l); is = r }) 2 (omega arith) (omega arith))
+                (after (x + 1) f 2 (omega arith) (omega arith))
                 ∙ y),
           );
       held-on = λ i j c d e h x least most.

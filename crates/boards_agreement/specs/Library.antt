@@ -21,7 +21,7 @@
 --   callsKept c ls           what is kept after each call among a list of steps: each step that answers 0
 --   noneKept                 nothing
 --   keptAfterCall ..         what controller i keeps after its call c; past its calls `noneKept`
---   NotInvented S buffers    document 02, U14: if a correct controller's outcome is agreed, at least t + 1 correct ones kept its block, byte for byte,
+--   HeldBefore S buffers     document 02, U14: if a correct controller's outcome is agreed, at least t + 1 correct ones kept its block, byte for byte,
 --                            after call 2, and whoever did so keeps it after every later call; if the sender is correct, every correct controller is
 --                            in the core, in the state that each keeps, from call 3t + 7 on
 --   LibraryHeld              that holds of every such system
@@ -121,7 +121,7 @@ noneKept = record { state = []; block = [] }
 abbrev pub keptAfterCall : System → (ℕ → List ℕ) → (i c : ℕ) → Kept
 keptAfterCall S buffers i c = getD (callsKept (keptFrom (S .settings) i (S .block i) (buffers i)) (S .steps i)) (c - 1) noneKept
 
-pub record NotInvented (S : System) (buffers : ℕ → List ℕ) : Type 0 where
+pub record HeldBefore (S : System) (buffers : ℕ → List ℕ) : Type 0 where
   -- runs without a sender, sender 0, are covered: there call 2 keeps the block that the controller was started with
   pub held-by-many : (i : ℕ) → Correct S i → outcomeIn (keptAt S buffers i .state) ≡ outcomeNumber Agreed
       → S .settings .t + 1
@@ -133,4 +133,4 @@ pub record NotInvented (S : System) (buffers : ℕ → List ℕ) : Type 0 where
       → (c : ℕ) → 3 * S .settings .t + 7 ≤ c → c ≤ last S → member (stateOf (keptAfterCall S buffers i c .state) .core) (j - 1) ≡ true
 
 abbrev pub LibraryHeld : Type 0
-LibraryHeld = (S : System) → Supposed S → (buffers : ℕ → List ℕ) → ((i : ℕ) → length (buffers i) ≡ stateLength) → NotInvented S buffers
+LibraryHeld = (S : System) → Supposed S → (buffers : ℕ → List ℕ) → ((i : ℕ) → length (buffers i) ≡ stateLength) → HeldBefore S buffers

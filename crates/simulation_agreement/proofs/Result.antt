@@ -6,7 +6,7 @@ use native.Mathlib.Omega.{arith}
 use Rattle.lists.proofs.Sums.{count-not, count-member}
 use Rattle.protocol.specs.declared.State.{State}
 use Rattle.agreement.specs.Agreement.{Correct, StartedAlike, outcomeOf, blockOf}
-use Rattle.agreement.proofs.Laws.{agreement}
+use Rattle.agreement.proofs.Laws.{by-index, agreement}
 use Rattle.simulation.specs.Run.{Scenario, Proper, ended}
 use Rattle.simulation_agreement.specs.Simulation.{Tolerated, SimulationAgrees}
 use Rattle.simulation_agreement.proofs.Run.{systemOf, number-of, not-faulty, run-supposed, run-ends}
@@ -16,7 +16,7 @@ some-correct : (F : Scenario) (p : Proper F) → Tolerated F → (x : ℕ) × Co
 some-correct F p few =
     let q = p .coded .quorum .t-most in
     let r = count-member (F .settings .n) (λ i. not (F .faulty (i + 1))) (omega (arith, few, count-not (F .settings .n) (λ i. F .faulty (i + 1)))) in
-    (r .0, record { least = omega arith; most = omega (arith, r .1); is = r .2 })
+    (r .0, by-index (systemOf F p) (r .0) (r .1, r .2))
 
 pub one-result : SimulationAgrees
 one-result F p few =
