@@ -1,6 +1,7 @@
-//! The code (document 01, 'Field and code'; decoding by document 02, U1 and U2): coding by powers, decoding by trying sets of t + 1 present
+//! The code (document 01, 'Field and code'; decoding by document 02, U1, U2 and U11): coding by powers, decoding by trying sets of t + 1 present
 //! slots, the row of marks for the slots that differ from the block, and the refusals of both.
 use crate::field;
+use crate::wire::{in_slot, FRONT};
 use std::sync::OnceLock;
 
 /// The products and inverses of `field`, looked up.
@@ -128,13 +129,16 @@ pub fn encode(n: u64, t: u64, k: u64, number: u64, block: &[u8], piece: &mut [u8
 
 /// Document 02, U1: the marks, the bit worth 1 for controller 1, of the slots whose piece is absent or differs, in any stripe, from the code of
 /// the block.
-fn named(slots: &[u8], t: usize, k: usize, block: &[u8]) -> u16 {
-    let is_named = |&(i, slot): &(u8, &[u8])| {
-        let mut stripes = block.chunks(t + 1).zip(&slot[1..]);
-        slot[0] != 1 || stripes.any(|(m, &received)| value(m, i) != received)
+fn named(pieces: &[Option<&[u8]>], t: usize, block: &[u8]) -> u16 {
+    let is_named = |&(i, piece): &(u8, &Option<&[u8]>)| match piece {
+        Some(piece) => block
+            .chunks(t + 1)
+            .zip(*piece)
+            .any(|(m, &received)| value(m, i) != received),
+        None => true,
     };
     (1..)
-        .zip(slots.chunks(1 + k))
+        .zip(pieces)
         .filter(is_named)
         .map(|(i, _)| 1 << (i - 1))
         .sum()
@@ -148,23 +152,26 @@ pub enum Decoded {
     Refused(u8),
 }
 
-/// What decoding leaves in the block, and its answer: it tries 1, 2, 3, 6.
-pub fn decode(n: u64, t: u64, k: u64, slots: &[u8], block: &mut [u8]) -> Decoded {
+/// What decoding leaves in the block, and its answer: it tries 1, 2, 3, 6. A slot of another run is absent.
+pub fn decode(n: u64, t: u64, k: u64, run: u16, slots: &[u8], block: &mut [u8]) -> Decoded {
     let (n, t, k) = (n.into(), t.into(), k.into());
     let first = settings_refusal(n, t, k);
     if first != 0 {
         return Decoded::Refused(first);
     }
-    if slots.len() as u128 != n * (1 + k) || block.len() as u128 != k * (t + 1) {
+    if slots.len() as u128 != n * (FRONT as u128 + k) || block.len() as u128 != k * (t + 1) {
         return Decoded::Refused(6);
     }
     let (t, k) = (t as usize, k as usize);
+    let pieces: Vec<Option<&[u8]>> = slots
+        .chunks(FRONT + k)
+        .map(|slot| in_slot(slot, run))
+        .collect();
     let mut all = Vec::new();
     for s in 0..k {
         let present: Vec<(u8, u8)> = (1..)
-            .zip(slots.chunks(1 + k))
-            .filter(|(_, slot)| slot[0] == 1)
-            .map(|(i, slot)| (i, slot[1 + s]))
+            .zip(&pieces)
+            .filter_map(|(i, piece)| Some((i, (*piece)?[s])))
             .collect();
         match stripe(&present, t) {
             Some(m) => all.extend(m),
@@ -175,17 +182,21 @@ pub fn decode(n: u64, t: u64, k: u64, slots: &[u8], block: &mut [u8]) -> Decoded
         }
     }
     block.copy_from_slice(&all);
-    Decoded::Block(named(slots, t, k, block))
+    Decoded::Block(named(&pieces, t, block))
 }
 
 #[cfg(test)]
 mod tests {
     use super::*;
+    use crate::wire::slot_with;
+
+    /// The run of the slots that are decoded: 01 02.
+    const RUN: u16 = 0x0201;
 
     fn decoded(values: [u8; 4]) -> (Decoded, [u8; 2]) {
-        let slots: Vec<u8> = values.iter().flat_map(|&v| [1, v]).collect();
+        let slots = values.map(|value| slot_with(RUN, &[value])).concat();
         let mut block = [0xff; 2];
-        (decode(4, 1, 1, &slots, &mut block), block)
+        (decode(4, 1, 1, RUN, &slots, &mut block), block)
     }
 
     #[test]
@@ -230,19 +241,20 @@ mod tests {
     fn slots(n: usize, t: usize, block: &[u8]) -> Vec<Vec<u8>> {
         let k = block.len() / (t + 1);
         let slot = |i| {
-            let mut slot = vec![1; 1 + k];
+            let mut piece = vec![0; k];
             let (n, t, k) = (n as u64, t as u64, k as u64);
-            assert_eq!(encode(n, t, k, i, block, &mut slot[1..]), 0);
-            slot
+            assert_eq!(encode(n, t, k, i, block, &mut piece), 0);
+            slot_with(RUN, &piece)
         };
         (1..=n as u64).map(slot).collect()
     }
 
     /// The answer to slots, and the block, lent with ff.
     fn answer(t: usize, slots: &[Vec<u8>]) -> (Decoded, Vec<u8>) {
-        let (n, k) = (slots.len(), slots[0].len() - 1);
+        let (n, k) = (slots.len(), slots[0].len() - FRONT);
         let mut block = vec![0xff; k * (t + 1)];
-        let answer = decode(n as u64, t as u64, k as u64, &slots.concat(), &mut block);
+        let (n, t, k) = (n as u64, t as u64, k as u64);
+        let answer = decode(n, t, k, RUN, &slots.concat(), &mut block);
         (answer, block)
     }
 
@@ -267,7 +279,7 @@ mod tests {
                 values[i] ^= 1 << bit;
                 assert_eq!(decoded(values), (Decoded::Block(row), block));
             }
-            let mut slots = pieces.map(|value| vec![1, value]);
+            let mut slots = pieces.map(|value| slot_with(RUN, &[value]));
             slots[i][0] = 0;
             assert_eq!(answer(1, &slots), (Decoded::Block(row), block.to_vec()));
         }
@@ -277,11 +289,12 @@ mod tests {
     #[test]
     fn false_in_one_stripe_each() {
         let slots = [
-            vec![1, 0x1e, 0x00, 0x1e],
-            vec![1, 0x22, 0x22, 0x00],
-            vec![1, 0x36, 0x36, 0x36],
-            vec![1, 0x00, 0x5a, 0x5a],
-        ];
+            [0x1e, 0x00, 0x1e],
+            [0x22, 0x22, 0x00],
+            [0x36, 0x36, 0x36],
+            [0x00, 0x5a, 0x5a],
+        ]
+        .map(|piece| slot_with(RUN, &piece));
         let block = [0x0a, 0x14].repeat(3);
         assert_eq!(answer(1, &slots), (Decoded::Block(0b1011), block));
     }
@@ -293,7 +306,7 @@ mod tests {
         let right = slots(16, 5, &block);
         for (i, s) in (0..16).flat_map(|i| [0, 1, 64, 126, 127].map(|s| (i, s))) {
             let mut slots = right.clone();
-            slots[i][1 + s] ^= 0x80;
+            slots[i][FRONT + s] ^= 0x80;
             let expected = (Decoded::Block(marks([i])), block.clone());
             assert_eq!(answer(5, &slots), expected, "{i} {s}");
         }
@@ -303,7 +316,7 @@ mod tests {
     /// The pieces of a block of zeros are zeros: a slot that is absent and all 00 is named, a present one is not.
     #[test]
     fn absent_is_no_piece_of_zeros() {
-        let slots = [vec![1, 0], vec![0, 0], vec![1, 0], vec![0xff, 0]];
+        let slots = [1, 0, 1, 0xff].map(|first| vec![first, 1, 2, 0]);
         assert_eq!(answer(1, &slots), (Decoded::Block(0b1010), vec![0, 0]));
     }
 
@@ -329,7 +342,7 @@ mod tests {
         let block = some_block(2, 3);
         for wrong in 0..7 {
             let mut slots = slots(7, 2, &block);
-            slots[wrong][2] ^= 0x40;
+            slots[wrong][FRONT + 1] ^= 0x40;
             for other in [1, 2] {
                 slots[(wrong + other) % 7][0] = 0;
             }
@@ -346,11 +359,11 @@ mod tests {
         let block = some_block(1, 2);
         let mut slots = slots(16, 1, &block);
         for (i, slot) in (1..).zip(&mut slots[..7]) {
-            slot[1] ^= i;
-            slot[2] ^= 0xff - i;
+            slot[FRONT] ^= i;
+            slot[FRONT + 1] ^= 0xff - i;
         }
         assert_eq!(answer(1, &slots), (Decoded::Block(0x7f), block.clone()));
-        slots[12][2] ^= 0x80;
+        slots[12][FRONT + 1] ^= 0x80;
         assert_eq!(answer(1, &slots), beyond(&block));
     }
 
@@ -366,12 +379,12 @@ mod tests {
                     slot[0] = 0;
                 }
                 for slot in &mut slots[..most] {
-                    slot[1] ^= 0x11;
+                    slot[FRONT] ^= 0x11;
                 }
                 let row = marks((0..most).chain(present..n));
                 let expected = (Decoded::Block(row), block.clone());
                 assert_eq!(answer(t, &slots), expected, "{n} {t} {present}");
-                slots[most][1] ^= 0x11;
+                slots[most][FRONT] ^= 0x11;
                 assert_ne!(answer(t, &slots).1, block, "{n} {t} {present}");
             }
         }
@@ -388,10 +401,10 @@ mod tests {
                 slot[0] = 0;
             }
             for slot in &mut slots[..wrong] {
-                slot[1] ^= 0x35;
+                slot[FRONT] ^= 0x35;
             }
             let differing = |m: &[u8; 2]| {
-                let differs = |&i: &usize| value(m, i as u8 + 1) != slots[i][1];
+                let differs = |&i: &usize| value(m, i as u8 + 1) != slots[i][FRONT];
                 (0..present).filter(differs).collect::<Vec<_>>()
             };
             let right = |m: &[u8; 2]| 2 * differing(m).len() + t + 1 <= present;
@@ -438,11 +451,65 @@ mod tests {
         for first in (0..=255).filter(|&byte| byte != 1) {
             let mut slots = slots(4, 1, &block);
             slots[0][0] = first;
-            slots[2] = vec![first, 0xee, 0xee];
+            slots[2] = vec![first, 1, 2, 0xee, 0xee];
             let expected = (Decoded::Block(0b0101), block.clone());
             assert_eq!(answer(1, &slots), expected);
             slots[1][0] = first;
             assert_eq!(answer(1, &slots), beyond(&block));
+        }
+    }
+
+    /// Document 02, U11: a slot whose run number differs in either byte is dropped and named, with a true piece and with a false one.
+    #[test]
+    fn another_run_is_absent() {
+        let block = some_block(1, 2);
+        for other in [0, RUN ^ 1, RUN ^ 0x100, RUN.swap_bytes(), u16::MAX] {
+            for change in [0, 0xff] {
+                let mut slots = slots(4, 1, &block);
+                for i in [0, 2] {
+                    slots[i][1..FRONT].copy_from_slice(&other.to_le_bytes());
+                    slots[i][FRONT] ^= change;
+                }
+                let expected = (Decoded::Block(0b0101), block.clone());
+                assert_eq!(answer(1, &slots), expected, "{other}");
+                // one true piece determines nothing
+                slots[3][1..FRONT].copy_from_slice(&other.to_le_bytes());
+                assert_eq!(answer(1, &slots), beyond(&block), "{other}");
+            }
+        }
+    }
+
+    /// The same slots decoded with each of two run numbers: each has its own block, and the slots of the other are named.
+    #[test]
+    fn each_run_has_its_block() {
+        let (first, second) = (some_block(1, 3), vec![0x33; 6]);
+        let mut slots = slots(7, 1, &first);
+        for (slot, other) in slots[2..5]
+            .iter_mut()
+            .zip(&self::slots(7, 1, &second)[2..5])
+        {
+            *slot = slot_with(RUN + 1, &other[FRONT..]);
+        }
+        let decoded = |run| {
+            let mut block = vec![0xff; 6];
+            let answer = decode(7, 1, 3, run, &slots.concat(), &mut block);
+            (answer, block)
+        };
+        assert_eq!(decoded(RUN), (Decoded::Block(0b001_1100), first));
+        assert_eq!(decoded(RUN + 1), (Decoded::Block(0b110_0011), second));
+        assert_eq!(decoded(RUN + 2), (Decoded::Beyond, vec![0; 6]));
+    }
+
+    /// Slots of 1 + k bytes, without run numbers, are refused.
+    #[test]
+    fn lengths_of_slots() {
+        for (length, number) in [(8, 6), (15, 6), (16, 0), (17, 6)] {
+            let answer = decode(4, 1, 1, 0x0101, &vec![1; length], &mut [0; 2]);
+            let expected = match number {
+                0 => Decoded::Block(0),
+                number => Decoded::Refused(number),
+            };
+            assert_eq!(answer, expected, "{length}");
         }
     }
 

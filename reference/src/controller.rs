@@ -1,5 +1,5 @@
-//! One controller: start and step (document 01, 'The house', 'Rounds', 'Turned down'; document 02, U1 and U6), for all inputs, refused ones too, and
-//! for states that no run reaches.
+//! One controller: start and step (document 01, 'The house', 'Rounds', 'Turned down'; document 02, U1, U6 and U11), for all inputs, refused ones
+//! too, and for states that no run reaches.
 use crate::code::{self, Decoded};
 use crate::vote::{self, Message};
 use crate::{star, wire};
@@ -33,6 +33,8 @@ pub struct State {
     pub core: u16,
     /// Whom the controller names: marks of the slots whose piece was absent or false in the last call. Empty before it, and for none and beyond.
     pub named: u16,
+    /// The run number: slots with another one are absent.
+    pub run: u16,
 }
 
 /// Rows 1 to 5 of 'Turned down', in order, row 5 as U6 has it; 0 if none of them is met.
@@ -45,7 +47,15 @@ fn settings_refusal(n: usize, t: usize, k: usize, own: usize, sender: usize) -> 
 }
 
 /// Start tries 1 to 6. The lent block is neither read nor changed; a refused start returns the zero state.
-pub fn start(n: usize, t: usize, k: usize, own: usize, sender: usize, block: &[u8]) -> (u8, State) {
+pub fn start(
+    n: usize,
+    t: usize,
+    k: usize,
+    own: usize,
+    sender: usize,
+    run: u16,
+    block: &[u8],
+) -> (u8, State) {
     let number = match settings_refusal(n, t, k, own, sender) {
         0 if block.len() != k * (t + 1) => 6,
         number => number,
@@ -60,6 +70,7 @@ pub fn start(n: usize, t: usize, k: usize, own: usize, sender: usize, block: &[u
         own,
         sender,
         next: 1,
+        run,
         ..State::default()
     };
     (0, state)
@@ -82,7 +93,7 @@ pub fn step(state: State, block: &mut [u8], inbox: &[u8], outbox: &mut [u8]) -> 
     outbox.fill(0);
     for (j, message) in sent.iter().enumerate() {
         if let Some(message) = message {
-            wire::send_one(outbox, length, j + 1, message);
+            wire::send_one(outbox, state.run, length, j + 1, message);
         }
     }
     (0, next)
@@ -165,7 +176,7 @@ impl State {
     fn received(&self, c: usize, inbox: &[u8]) -> Vec<Message> {
         let length = self.message_length(c) as u128;
         (1..=self.n as u128)
-            .map(|j| match wire::message(inbox, length, j) {
+            .map(|j| match wire::message(inbox, self.run, length, j) {
                 [] => None,
                 message => Some(message.to_vec()),
             })
@@ -276,7 +287,8 @@ impl State {
             block.fill(0);
             return (Outcome::None, 0);
         }
-        match code::decode(self.n as u64, self.t as u64, self.k as u64, inbox, block) {
+        let (n, t, k) = (self.n as u64, self.t as u64, self.k as u64);
+        match code::decode(n, t, k, self.run, inbox, block) {
             Decoded::Block(named) => (Outcome::Agreed, named),
             Decoded::Beyond => (Outcome::Beyond, 0),
             Decoded::Refused(number) => unreachable!("{number}"),
@@ -288,20 +300,27 @@ impl State {
 mod tests {
     use super::*;
 
+    /// The run number, 01 02 in a slot.
+    const RUN: u16 = 0x0201;
+
     /// n 4, t 1, k 1, own number 2, sender 1.
     fn at(next: usize) -> State {
-        let (number, state) = start(4, 1, 1, 2, 1, &[0, 0]);
+        let (number, state) = start(4, 1, 1, 2, 1, RUN, &[0, 0]);
         assert_eq!(number, 0);
         State { next, ..state }
     }
 
-    /// The slots of messages, an empty one absent.
-    fn slots(length: usize, messages: [&[u8]; 4]) -> Vec<u8> {
-        let mut inbox = vec![0; 4 * (1 + length)];
+    /// The slots of messages in a run, an empty one absent.
+    fn slots_in(run: u16, length: usize, messages: [&[u8]; 4]) -> Vec<u8> {
+        let mut inbox = vec![0; 4 * (wire::FRONT + length)];
         for (j, message) in messages.iter().enumerate() {
-            wire::send_one(&mut inbox, length, j + 1, message);
+            wire::send_one(&mut inbox, run, length, j + 1, message);
         }
         inbox
+    }
+
+    fn slots(length: usize, messages: [&[u8]; 4]) -> Vec<u8> {
+        slots_in(RUN, length, messages)
     }
 
     fn carried_out(state: State, block: &mut [u8], inbox: &[u8]) -> (State, Vec<u8>) {
@@ -315,21 +334,36 @@ mod tests {
     fn the_sender_sends_its_block() {
         let mut block = [10, 20];
         let (_, outbox) = carried_out(at(1), &mut block, &[]);
-        assert_eq!(outbox, [0; 12]);
+        assert_eq!(outbox, [0; 20]);
         let sender = State { own: 1, ..at(1) };
         let (_, outbox) = carried_out(sender, &mut block, &[]);
-        assert_eq!(outbox, slots(2, [&[10, 20]; 4]));
+        assert_eq!(outbox, [1, 1, 2, 10, 20].repeat(4));
+    }
+
+    /// Each round in which a controller does not send: all bytes of its slots are 00, those of the run number too.
+    #[test]
+    fn absent_slots_are_written_00() {
+        for c in [1, 6, 9, 10, 11] {
+            let state = State {
+                own: 3,
+                run: u16::MAX,
+                ..at(c)
+            };
+            let inbox = vec![0; state.box_length(c - 1)];
+            let (_, outbox) = carried_out(state, &mut [10, 20], &inbox);
+            assert_eq!(outbox, vec![0; outbox.len()], "{c}");
+        }
     }
 
     /// Without a sender round 1 is silent, and whatever arrives in it the block is kept.
     #[test]
     fn no_sender() {
         for own in 1..=4 {
-            let (number, state) = start(4, 1, 1, own, 0, &[10, 20]);
+            let (number, state) = start(4, 1, 1, own, 0, RUN, &[10, 20]);
             assert_eq!(number, 0);
             let mut block = [10, 20];
             let (state, outbox) = carried_out(state, &mut block, &[]);
-            assert_eq!(outbox, [0; 12]);
+            assert_eq!(outbox, [0; 20]);
             let inbox = slots(2, [&[1, 2], &[3, 4], &[5, 6], &[7, 8]]);
             let (_, outbox) = carried_out(state, &mut block, &inbox);
             assert_eq!(block, [10, 20]);
@@ -362,7 +396,7 @@ mod tests {
             outcome: Outcome::Beyond,
             ..at(7)
         };
-        let (state, outbox) = carried_out(full, &mut [1, 2], &[0; 36]);
+        let (state, outbox) = carried_out(full, &mut [1, 2], &[0; 44]);
         let rows = [15, 0, 15, 0, 15, 0, 15, 0];
         assert_eq!(outbox, slots(8, [&rows; 4]));
         assert_eq!((state.outcome, state.core), (Outcome::Open, 0xfff0));
@@ -371,7 +405,7 @@ mod tests {
         // a core of numbers past n is no core
         let mut block = [1, 2];
         let last = State { next: 12, ..full };
-        let (state, _) = carried_out(last, &mut block, &[1; 8]);
+        let (state, _) = carried_out(last, &mut block, &[1; 16]);
         assert_eq!((state.outcome, block), (Outcome::None, [0, 0]));
     }
 
@@ -397,8 +431,14 @@ mod tests {
         let piece = |core, messages| {
             let state = State { core, ..at(11) };
             let (_, outbox) = carried_out(state, &mut [0x0a, 0x14], &slots(1, messages));
-            assert_eq!(outbox, outbox[..2].repeat(4));
-            (outbox[0] == 1).then_some(outbox[1])
+            assert_eq!(outbox, outbox[..4].repeat(4));
+            match outbox[..4] {
+                [1, 1, 2, piece] => Some(piece),
+                _ => {
+                    assert_eq!(outbox, [0; 16]);
+                    None
+                }
+            }
         };
         assert_eq!(piece(0b1101, [&[7], &[8], &[7], &[8]]), Some(7));
         assert_eq!(piece(0b1101, [&[7], &[8], &[8], &[8]]), Some(8));
@@ -453,6 +493,7 @@ mod tests {
                 let given = State {
                     core: 0b1101,
                     named: 0xffff,
+                    run: 0x0101,
                     ..at(c)
                 };
                 let inbox = vec![first; given.box_length(c - 1)];
@@ -486,19 +527,132 @@ mod tests {
     /// piece of zeros, asks for five places that agree: here no block has more than four.
     #[test]
     fn three_silent_of_seven() {
-        let (number, state) = start(7, 2, 1, 2, 1, &[0; 3]);
+        let (number, state) = start(7, 2, 1, 2, 1, RUN, &[0; 3]);
         assert_eq!(number, 0);
         let last = State {
             next: 15,
             core: 1,
             ..state
         };
-        let inbox = [1, 0x00, 0, 0, 1, 0x50, 1, 0xa7, 0, 0, 0, 0, 1, 0xfd];
+        let (silent, slot) = ([0; 4], |piece| [1, 1, 2, piece]);
+        let inbox = [
+            slot(0x00),
+            silent,
+            slot(0x50),
+            slot(0xa7),
+            silent,
+            silent,
+            slot(0xfd),
+        ];
+        let inbox = inbox.concat();
         let mut block = [1, 2, 3];
         let (state, _) = carried_out(last, &mut block, &inbox);
         assert_eq!(
             (state.outcome, state.named, block),
             (Outcome::Agreed, 0b011_0010, [0x0a, 0x14, 0x1e])
         );
+    }
+    /// Document 02, U11: start takes any run number, and the state keeps it in each call, and in a step that is refused.
+    #[test]
+    fn the_state_keeps_the_run() {
+        for run in [0, 1, 256, u16::MAX] {
+            let (number, mut state) = start(4, 1, 1, 2, 1, run, &[0, 0]);
+            assert_eq!((number, state.run), (0, run));
+            for c in 1..=12 {
+                let (number, refused) = step(state, &mut [0; 3], &[], &mut []);
+                assert_eq!((number, refused), (6, state));
+                let inbox = vec![0; state.box_length(c - 1)];
+                (state, _) = carried_out(state, &mut [0, 0], &inbox);
+                assert_eq!(state.run, run, "{c}");
+            }
+            assert_eq!(
+                start(4, 1, 1, 5, 1, run, &[0, 0]).1,
+                State::default(),
+                "refused"
+            );
+        }
+    }
+
+    /// In each call that reads, slots of the own run count, and those of another, which may differ in one byte, are read as absent.
+    #[test]
+    fn another_run_is_absent_in_each_call() {
+        for c in 2..=12 {
+            let state = State {
+                weak: [0xffff; 16],
+                core: 0b1101,
+                ..at(c)
+            };
+            let length = state.message_length(c - 1);
+            // zeros are the right pieces of a block of zeros; to the other calls bits of 1 say something else than silence
+            let message = vec![if c == 3 { 0 } else { 0xff }; length];
+            let call = |inbox: &[u8]| {
+                let mut block = [0, 0];
+                let (after, outbox) = carried_out(state, &mut block, inbox);
+                (after, outbox, block)
+            };
+            let silence = call(&vec![0; state.box_length(c - 1)]);
+            assert_ne!(call(&slots(length, [&message; 4])), silence, "{c}");
+            for other in [0, RUN ^ 1, RUN ^ 0x100, RUN.swap_bytes(), u16::MAX] {
+                let inbox = slots_in(other, length, [&message; 4]);
+                assert_eq!(call(&inbox), silence, "{c} {other}");
+            }
+        }
+    }
+
+    /// Slots by round and receiver.
+    type Slots = Vec<Vec<Vec<u8>>>;
+    /// Outcome, who is named, and the block.
+    type End = (Outcome, u16, [u8; 2]);
+
+    /// A whole run of four controllers, the sender with block 0a14: how 1, 2 and 3 end, and the slots that 4 wrote. If `late` is given, these slots
+    /// arrive in place of those that 4 wrote.
+    fn played(run: u16, sender: usize, late: Option<&Slots>) -> (Vec<End>, Slots) {
+        let started = |own| {
+            let block = if own == sender { [0x0a, 0x14] } else { [7; 2] };
+            (start(4, 1, 1, own, sender, run, &block).1, block)
+        };
+        let mut controllers: Vec<(State, [u8; 2])> = (1..=4).map(started).collect();
+        let mut inboxes = vec![Vec::new(); 4];
+        let mut sent = Vec::new();
+        for c in 1..=12 {
+            let mut slots: Vec<Vec<Vec<u8>>> = Vec::new();
+            for ((state, block), inbox) in controllers.iter_mut().zip(&inboxes) {
+                let (after, outbox) = carried_out(*state, block, inbox);
+                let width = (outbox.len() / 4).max(1);
+                slots.push(outbox.chunks(width).map(<[u8]>::to_vec).collect());
+                *state = after;
+            }
+            sent.push(slots[3].clone());
+            if let Some(late) = late {
+                slots[3] = late[c - 1].clone();
+            }
+            if c < 12 {
+                let to = |j: usize| slots.iter().flat_map(|from| from[j].clone()).collect();
+                inboxes = (0..4).map(to).collect();
+            }
+        }
+        let end = |(state, block): &(State, [u8; 2])| (state.outcome, state.named, *block);
+        (controllers[..3].iter().map(end).collect(), sent)
+    }
+
+    /// Controller 4 is correct in a run, and in the next repeats all that it sent, with the first run's number: it is read as silent. As sender it is
+    /// heard by nobody then, so that all hold zeros. With the number of the second run what it repeats counts.
+    #[test]
+    fn late_slots_in_a_whole_run() {
+        for (first, second) in [(0, 1), (1, 0), (0, 256), (0x0102, RUN), (65534, 65535)] {
+            for sender in [1, 4] {
+                let (ends, sent) = played(first, sender, None);
+                assert_eq!(ends, [(Outcome::Agreed, 0, [0x0a, 0x14]); 3]);
+                let (late, _) = played(second, sender, Some(&sent));
+                let block = if sender == 4 { [0, 0] } else { [0x0a, 0x14] };
+                assert_eq!(late, [(Outcome::Agreed, 0b1000, block); 3]);
+                let mut counted = sent.clone();
+                let present = |slot: &&mut Vec<u8>| slot.first() == Some(&1);
+                for slot in counted.iter_mut().flatten().filter(present) {
+                    slot[1..3].copy_from_slice(&second.to_le_bytes());
+                }
+                assert_eq!(played(second, sender, Some(&counted)).0, ends);
+            }
+        }
     }
 }

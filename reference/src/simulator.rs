@@ -1,8 +1,11 @@
-//! The simulator (document 01, 'The house program'; document 02, U6): a file of a system is read, the system is played, its outcomes are written.
+//! The simulator (document 01, 'The house program'; document 02, U6 and U11): a file of a system is read, the system is played, its outcomes are
+//! written.
 use crate::controller::{start, step, Outcome, State};
 use crate::wire;
 use std::collections::{BTreeMap, BTreeSet};
 
+/// The run number of all systems: the files do not say one.
+pub const RUN: u16 = 0;
 /// The longest input that is read.
 pub const LONGEST: usize = 65_536;
 /// Lines 1 and 3 of the input, and line 1 of the output.
@@ -215,7 +218,7 @@ impl Run {
             n, t, k, sender, ..
         } = system;
         let controllers = numbers.map(|own| {
-            let (number, state) = start(n, t, k, own, sender, &system.block);
+            let (number, state) = start(n, t, k, own, sender, RUN, &system.block);
             assert_eq!(number, 0);
             Controller {
                 state,
@@ -235,15 +238,17 @@ impl Run {
 
     /// Slot `to` of the outbox that `from` filled for a round.
     pub fn slot(&self, system: &System, round: usize, from: usize, to: usize) -> &[u8] {
-        let width = 1 + system.message_length(round);
+        let width = wire::FRONT + system.message_length(round);
         &self.controller(from).outbox[(to - 1) * width..to * width]
     }
 
     /// What arrives at `to` in a round.
     fn inbox(&self, system: &System, round: usize, to: usize) -> Vec<u8> {
         let slot = |from: usize| match system.messages.get(&(round, from, to)) {
-            Some(message) => [&[1], &message[..]].concat(),
-            None if system.faulty.contains(&from) => vec![0; 1 + system.message_length(round)],
+            Some(message) => wire::slot_with(RUN, message),
+            None if system.faulty.contains(&from) => {
+                vec![0; wire::FRONT + system.message_length(round)]
+            }
             None => self.slot(system, round, from, to).to_vec(),
         };
         (1..=system.n).flat_map(slot).collect()

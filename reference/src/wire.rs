@@ -1,4 +1,5 @@
-//! Rounds, calls, message lengths and slots (document 01, 'The house', 'Rounds'). Numbers are wide, so that nothing overflows.
+//! Rounds, calls, message lengths and slots (document 01, 'The house', 'Rounds'; slots with a run number by document 02, U11). Numbers are wide, so
+//! that nothing overflows.
 
 /// The rows of document 01's table of rounds, from 1: the row of round c, by listing all rounds of a run.
 pub fn round_row(t: u128, c: u128) -> usize {
@@ -74,35 +75,47 @@ pub fn message_length(n: u128, t: u128, k: u128, c: u128) -> u128 {
     }
 }
 
-/// n slots of a byte and a message.
+/// The bytes of a slot in front of its message: the first byte and the two of the run number.
+pub const FRONT: usize = 3;
+
+/// n slots.
 pub fn box_length(n: u128, t: u128, k: u128, c: u128) -> u128 {
     match message_length(n, t, k, c) {
         0 => 0,
-        len => n * (1 + len),
+        len => n * (FRONT as u128 + len),
     }
 }
 
-pub fn message(inbox: &[u8], len: u128, j: u128) -> &[u8] {
-    let end = j * (len + 1);
+/// The message of a slot in a run; none if the slot is absent: its first byte is not 01, or its run number, low byte first, is another one.
+pub fn in_slot(slot: &[u8], run: u16) -> Option<&[u8]> {
+    match slot {
+        [1, low, high, message @ ..] if [*low, *high] == run.to_le_bytes() => Some(message),
+        _ => None,
+    }
+}
+
+/// A slot with a message, written in full.
+pub fn slot_with(run: u16, message: &[u8]) -> Vec<u8> {
+    [&[1], &run.to_le_bytes()[..], message].concat()
+}
+
+/// The message of slot j; the empty part if there is none.
+pub fn message(inbox: &[u8], run: u16, len: u128, j: u128) -> &[u8] {
+    let width = FRONT as u128 + len;
+    let end = j * width;
     if j == 0 || end > inbox.len() as u128 {
         return &[];
     }
-    let slot = &inbox[(end - len - 1) as usize..end as usize];
-    if slot[0] == 1 {
-        &slot[1..]
-    } else {
-        &[]
-    }
+    in_slot(&inbox[(end - width) as usize..end as usize], run).unwrap_or_default()
 }
 
 /// Slot j of an outbox written with a message, or nothing where that can't be.
-pub fn send_one(outbox: &mut [u8], len: usize, j: usize, m: &[u8]) {
-    if j == 0 || j * (len + 1) > outbox.len() || m.len() != len {
+pub fn send_one(outbox: &mut [u8], run: u16, len: usize, j: usize, m: &[u8]) {
+    let width = FRONT + len;
+    if j == 0 || j * width > outbox.len() || m.len() != len {
         return;
     }
-    let slot = &mut outbox[(j - 1) * (len + 1)..j * (len + 1)];
-    slot[0] = 1;
-    slot[1..].copy_from_slice(m);
+    outbox[(j - 1) * width..j * width].copy_from_slice(&slot_with(run, m));
 }
 
 #[cfg(test)]
@@ -113,5 +126,40 @@ mod tests {
     fn example_j() {
         assert_eq!((0..100).filter(|&c| round_row(1, c) > 0).count(), 11);
         assert_eq!((0..100).filter(|&c| round_row(5, c) > 0).count(), 23);
+    }
+    /// 258 is 02 01, the low byte first. A slot that carries a number which differs in either byte is absent, and so is one with another first
+    /// byte.
+    #[test]
+    fn slots_of_a_run() {
+        let mut outbox = [7; 15];
+        send_one(&mut outbox, 258, 2, 2, &[5, 6]);
+        assert_eq!(outbox[5..10], [1, 2, 1, 5, 6]);
+        assert_eq!([&outbox[..5], &outbox[10..]].concat(), [7; 10]);
+        assert_eq!(message(&outbox, 258, 2, 2), [5, 6]);
+        for other in (0..=u16::MAX).filter(|&run| run != 258) {
+            assert!(message(&outbox, other, 2, 2).is_empty(), "{other}");
+        }
+        for first in (0..=255).filter(|&byte| byte != 1) {
+            outbox[5] = first;
+            assert!(message(&outbox, 258, 2, 2).is_empty(), "{first}");
+        }
+    }
+
+    #[test]
+    fn each_run_number_is_read_as_written() {
+        for run in 0..=u16::MAX {
+            assert_eq!(in_slot(&slot_with(run, &[9]), run), Some(&[9][..]));
+            assert_eq!(in_slot(&slot_with(run, &[9]), run ^ 1), None);
+            assert_eq!(in_slot(&slot_with(run, &[9]), run ^ 0x100), None);
+        }
+    }
+
+    /// Messages of round 1 have 2 bytes, so that each slot of its boxes has 5.
+    #[test]
+    fn lengths_of_boxes() {
+        assert_eq!(message_length(4, 1, 1, 1), 2);
+        assert_eq!(box_length(4, 1, 1, 1), 20);
+        assert_eq!(box_length(16, 5, 128, 1), 16 * (3 + 768));
+        assert_eq!((box_length(4, 1, 1, 0), box_length(4, 1, 1, 12)), (0, 0));
     }
 }

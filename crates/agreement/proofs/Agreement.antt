@@ -1,5 +1,5 @@
 -- Demand 3: `agreement`. Its corollary for readers: `one-plan`. Beside it, whom correct controllers name (document 02, U1): `named-by-last`,
--- `no-correct-named` and `named-by-many`; who held the block that is agreed on, and who is in the core (document 02, U14): `held-by-many`, `held-on` and
+-- `no-correct-named`, `late-named` and `named-by-many`; who held the block that is agreed on, and who is in the core (document 02, U14): `held-by-many`, `held-on` and
 -- `all-in-core`.
 use mathlib.Core.Path.{_≡_, sym, ap, _∙_}
 use mathlib.Core.Bool.{not}
@@ -9,9 +9,11 @@ use native.Mathlib.Omega.{arith}
 use Rattle.lists.proofs.Sums.{count-mono}
 use Rattle.lists.proofs.Tests.{true≢false, fails, lt-or-le}
 use Rattle.bitset.specs.Set.{member}
+use Rattle.reed_solomon.specs.Decode.{isNamed}
+use Rattle.reed_solomon.proofs.Laws.{member-named, named-other-run}
 use Rattle.agreement.specs.Run.{Local}
-use Rattle.agreement.specs.Agreement.{System, Correct, Supposed, Agreement, OnePlan, last}
-use Rattle.agreement.specs.Named.{NamedByLast, NoCorrectNamed, NamedByMany}
+use Rattle.agreement.specs.Agreement.{System, Correct, Supposed, Agreement, OnePlan, last, pieceLayout, lastInbox, blockOf}
+use Rattle.agreement.specs.Named.{NamedByLast, NoCorrectNamed, LateNamed, NamedByMany}
 use Rattle.agreement.specs.Held.{blockAfter, HeldByMany, HeldOn, AllInCore}
 use Rattle.agreement.proofs.System.{coded, call-next, call-last, block-from, later}
 use Rattle.agreement.proofs.Coding.{Code, code-laws}
@@ -23,8 +25,8 @@ use Rattle.agreement.proofs.Verdict.{verdict, agreed-held, sender-in-co
 
 -- the laws of the code and of the star, for the settings and the matrix of a correct controller
 module _ (S : System) (H : Supposed S) (i : ℕ) (f : Correct S i) where
-  codeAt : Code (S .settings .n) (S .settings .t) (S .settings .k)
-  codeAt = code-laws (S .settings .n) (S .settings .t) (S .settings .k) (coded S H i f)
+  codeAt : Code (S .run) (S .settings .n) (S .settings .t) (S .settings .k)
+  codeAt = code-laws (S .run) (S .settings .n) (S .settings .t) (S .settings .k) (coded S H i f)
 
   graphAt : Graph (lastMatrix S i) (S .settings .n) (S .settings .t)
   graphAt = graph-laws (S .settings .n) (S .settings .t) (coded S H i f .quorum) (lastMatrix S i)
@@ -53,6 +55,16 @@ named-by-last = named-at-end
 -- no correct controller names a correct one
 pub no-correct-named : NoCorrectNamed
 no-correct-named S H i j f g = verdict S H i f (codeAt S H i f) (graphAt S H i f) .2 .unnamed i j f g
+
+-- whoever's slot in the last round carries another run's number is named
+pub late-named : LateNamed
+late-named S H i j f least most agreed late =
+    let e : j - 1 + 1 ≡ j = omega arith in
+    let layout = pieceLayout S in
+    ap (λ (m : ℕ). member m (j - 1)) (named-by-last S H i f .agreed agreed)
+    ∙ member-named (S .settings .n) (S .settings .t) layout (lastInbox S i) (blockOf S i) (j - 1) (omega arith)
+    ∙ ap (isNamed (S .settings .t) layout (lastInbox S i) (blockOf S i)) e
+    ∙ named-other-run (S .settings .t) layout (lastInbox S i) (blockOf S i) j (coded S H i f .k-least) late
 
 -- whoever is named by t + 1 is not correct: those who name a correct one are not correct, and they are at most t
 pub named-by-many : NamedByMany

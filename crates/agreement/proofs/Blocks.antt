@@ -47,8 +47,8 @@ module _ (S : System) (H : Supposed S) where
     pub len-2 : layoutOf S 2 .length ≡ 2 * S .settings .k
     len-2 = length-round S H i f 2 (round-pieces (S .settings .t)) (row-pieces (S .settings .n) (S .settings .t) (S .settings .k))
 
-    layout-2 : layoutOf S 2 ≡ kindLayout Pieces (S .settings .n) (S .settings .t) (S .settings .k)
-    layout-2 = ap (λ (x : Round). kindLayout x (S .settings .n) (S .settings .t) (S .settings .k)) (round-pieces (S .settings .t))
+    layout-2 : layoutOf S 2 ≡ kindLayout (S .run) Pieces (S .settings .n) (S .settings .t) (S .settings .k)
+    layout-2 = ap (λ (x : Round). kindLayout (S .run) x (S .settings .n) (S .settings .t) (S .settings .k)) (round-pieces (S .settings .t))
 
     pub len-3 : layoutOf S 3 .length ≡ 2
     len-3 = length-round S H i f 3 (round-marks (S .settings .t)) (row-marks (S .settings .n) (S .settings .t) (S .settings .k))
@@ -57,11 +57,11 @@ module _ (S : System) (H : Supposed S) where
     sends-1 : call S i 1 .sends ≡ sentBlock (layoutOf S 1) (S .settings .n) i (S .settings .sender) (S .block i) (call S i 1 .lent .outbox)
     sends-1 =
         let m = call S i 1 in
-        let F : Settings → ℕ → ℕ → List ℕ → List ℕ = λ s own next b.
-        sentBlock (roundLayout (s .n) (s .t) (s .k) next) (s .n) own (s .sender) b (m .lent .outbox) in
+        let F : Settings → (own run next : ℕ) → List ℕ → List ℕ = λ s own run next b.
+        sentBlock (roundLayout run (s .n) (s .t) (s .k) next) (s .n) own (s .sender) b (m .lent .outbox) in
         sends-by S H i f 1 (omega arith) (omega arith) Send (call-send (S .settings .t)) (λ s b _ o. sendCall s b o) of-send
-        (λ s own next. F s own next (m .before .block)) refl
-        ∙ ap (F (S .settings) i 1) (ap (λ (h : Local). h .block) (call-first S H i f))
+        (λ s own run next. F s own run next (m .before .block)) refl
+        ∙ ap (F (S .settings) i (S .run) 1) (ap (λ (h : Local). h .block) (call-first S H i f))
 
     -- it keeps the block, so that call 2 is lent the one that the controller was started with
     lent-2 : call S i 2 .before .block ≡ S .block i
@@ -80,7 +80,7 @@ module _ (S : System) (H : Supposed S) where
         let a = r .before-at in
         r .block-is
         ∙ ap (λ (x : Carried). x .block) (performs-kind S H i f 2 (omega arith) (omega arith) Receive (call-receive (S .settings .t)) receiveCall of-receive)
-        ∙ (λ x. receivedBlock (m .lent .inbox) (roundLayout (a .settings-is x .n) (a .settings-is x .t) (a .settings-is x .k) (a .next-is x - 1))
+        ∙ (λ x. receivedBlock (m .lent .inbox) (roundLayout (a .run-is x) (a .settings-is x .n) (a .settings-is x .t) (a .settings-is x .k) (a .next-is x - 1))
         (a .settings-is x .sender) (lent-2 x))
 
     long-2 : length (S .block i) ≡ layoutOf S 1 .length
@@ -102,12 +102,12 @@ module _ (S : System) (H : Supposed S) where
         let m = call S i 2 in
         let o = m .lent .outbox in
         sends-by S H i f 2 (omega arith) (omega arith) Receive (call-receive (S .settings .t)) receiveCall of-receive
-        (λ s own next. sentPieces (s .n) (s .t) (s .k) own
-        (receivedBlock (m .lent .inbox) (roundLayout (s .n) (s .t) (s .k) (next - 1)) (s .sender) (m .before .block)) o) refl
-        ∙ ap (λ (b : List ℕ). sentPieces (S .settings .n) (S .settings .t) (S .settings .k) i
+        (λ s own run next. sentPieces run (s .n) (s .t) (s .k) own
+        (receivedBlock (m .lent .inbox) (roundLayout run (s .n) (s .t) (s .k) (next - 1)) (s .sender) (m .before .block)) o) refl
+        ∙ ap (λ (b : List ℕ). sentPieces (S .run) (S .settings .n) (S .settings .t) (S .settings .k) i
         (receivedBlock (m .lent .inbox) (layoutOf S 1) (S .settings .sender) b) o) lent-2
-        ∙ ap (λ (b : List ℕ). sentPieces (S .settings .n) (S .settings .t) (S .settings .k) i b o) (sym received)
-        ∙ sent-pieces (S .settings .n) (S .settings .t) (S .settings .k) i (heldBlock S i) (coded S H i f) (numbered S H i f) (is-block .size) o
+        ∙ ap (λ (b : List ℕ). sentPieces (S .run) (S .settings .n) (S .settings .t) (S .settings .k) i b o) (sym received)
+        ∙ sent-pieces (S .settings .n) (S .settings .t) (S .settings .k) i (heldBlock S i) (coded S H i f) (numbered S H i f) (is-block .size) (S .run) o
         (outbox-long S H i f 2 (omega arith) (omega arith) ∙ ap (λ (x : Layout). S .settings .n * width x) layout-2)
         ∙ ap (λ (x : Layout). slots x (twoPieces (S .settings .k) (S .settings .t) i (heldBlock S i)) (S .settings .n)) (sym layout-2)
 
@@ -120,12 +120,12 @@ module _ (S : System) (H : Supposed S) where
     marks-sent =
         let m = call S i 3 in
         let o = m .lent .outbox in
-        let F : Settings → ℕ → ℕ → List ℕ → List ℕ = λ s own next b.
-        sentMarks (roundLayout (s .n) (s .t) (s .k) next) (s .n)
-        (marksOf (s .n) (s .t) (s .k) own (m .lent .inbox) (roundLayout (s .n) (s .t) (s .k) (next - 1)) b) o in
+        let F : Settings → (own run next : ℕ) → List ℕ → List ℕ = λ s own run next b.
+        sentMarks (roundLayout run (s .n) (s .t) (s .k) next) (s .n)
+        (marksOf (s .n) (s .t) (s .k) own (m .lent .inbox) (roundLayout run (s .n) (s .t) (s .k) (next - 1)) b) o in
         sends-by S H i f 3 (omega arith) (omega arith) Compare (call-compare (S .settings .t)) compareCall of-compare
-        (λ s own next. F s own next (m .before .block)) refl
-        ∙ ap (F (S .settings) i 3) (block-from S H i f 3 (omega arith) (omega arith))
+        (λ s own run next. F s own run next (m .before .block)) refl
+        ∙ ap (F (S .settings) i (S .run) 3) (block-from S H i f 3 (omega arith) (omega arith))
         ∙ sent-marks (layoutOf S 3) (S .settings .n)
         (marksOf (S .settings .n) (S .settings .t) (S .settings .k) i (m .lent .inbox) (layoutOf S 2) (heldBlock S i)) o
         len-3 (outbox-long S H i f 3 (omega arith) (omega arith))
@@ -182,7 +182,7 @@ module _ (S : System) (H : Supposed S) where
   own-block z i f = received i f ∙ received-kept (call S i 2 .lent .inbox) (layoutOf S 1) (S .settings .sender) (S .block i) z
 
   -- ---- marks between two correct controllers
-  module _ (C : Code (S .settings .n) (S .settings .t) (S .settings .k)) where
+  module _ (C : Code (S .run) (S .settings .n) (S .settings .t) (S .settings .k)) where
     piece : ℕ → ℕ → List ℕ
     piece i j = pieceOf (S .settings .k) (S .settings .t) (heldBlock S i) j
 

@@ -92,7 +92,7 @@ module _ (S : System) (H : Supposed S) where
   one-core i j f g = ap (λ (x : List ℕ). coreOf x (S .settings .n) (S .settings .t)) (one-matrix S H (few-rows i f) i j f g)
 
   -- ---- the core of controller w, which is correct
-  module _ (w : ℕ) (f : Correct S w) (C : Code (S .settings .n) (S .settings .t) (S .settings .k))
+  module _ (w : ℕ) (f : Correct S w) (C : Code (S .run) (S .settings .n) (S .settings .t) (S .settings .k))
       (G : Graph (lastMatrix S w) (S .settings .n) (S .settings .t)) where
     abbrev pub core : ℕ
     core = coreOf (lastMatrix S w) (S .settings .n) (S .settings .t)

@@ -16,7 +16,7 @@ use Rattle.lists.proofs.Tests.{same-or-not}
 use Rattle.bitset.specs.Set.{member, restricted}
 use Rattle.bitset.proofs.Laws.{member-none}
 use Rattle.wire.specs.declared.Call.the-variants.{Finish}
-use Rattle.wire.specs.Length.{blockLength}
+use Rattle.wire.specs.Length.{blockLength, roundLayout}
 use Rattle.wire.specs.Slot.{layoutWith, width, messageOf}
 use Rattle.wire.proofs.Laws.{call-finish}
 use Rattle.reed_solomon.specs.Encode.{pieceOf}
@@ -30,10 +30,11 @@ use Rattle.reconstruction.specs.Outcomes.{outcomeNumber}
 use Rattle.reconstruction.specs.Reconstruction.{ending, Finished as Final, finished}
 use Rattle.reconstruction.proofs.Laws.{finished-none, finished-agreed, finished-beyond}
 use Rattle.protocol.specs.declared.State.{State}
-use Rattle.protocol.specs.Calls.{Carried, finishCall}
+use Rattle.protocol.specs.Calls.{Carried, finishCall, inboxLayout}
 use Rattle.protocol.proofs.Laws.{of-finish}
 use Rattle.agreement.specs.Run.{Local}
-use Rattle.agreement.specs.Agreement.{System, Correct, Supposed, last, call, lastCore, lastInbox, outcomeOf, blockOf, SetByLast}
+use Rattle.agreement.specs.Agreement.{System, Correct, Supposed, last, call, layoutOf, pieceLayout, lastCore, lastInbox, outcomeOf}
+use Rattle.agreement.specs.Agreement.{blockOf, SetByLast}
 use Rattle.agreement.specs.Named.{namedBy, NamedAtEnd}
 use Rattle.agreement.proofs.System.{coded, length-block, call-at, call-last, inbox-long, block-long, performs-kind}
 use Rattle.agreement.proofs.Coding.{IsBlock, Code}
@@ -57,15 +58,23 @@ module _ (S : System) (H : Supposed S) where
     block-is : length (call S i (last S) .before .block) ≡ blockLength (S .settings .k) (S .settings .t)
     block-is = block-long S H i f (last S) (omega arith) (omega arith)
 
-    inbox-is : length (lastInbox S i) ≡ S .settings .n * width (layoutWith (S .settings .k))
+    inbox-is : length (lastInbox S i) ≡ S .settings .n * width (pieceLayout S)
     inbox-is =
         let n : 3 * S .settings .t + 8 + 1 ≡ last S = omega arith in
         ap (λ (c : ℕ). length (call S i c .lent .inbox)) (sym n)
         ∙ inbox-long S H i f (3 * S .settings .t + 8) (omega arith) (omega arith)
-        ∙ ap (λ (x : ℕ). S .settings .n * width (layoutWith x)) (len-rebuild S H i f)
+        ∙ ap (λ (x : ℕ). S .settings .n * width (layoutWith (S .run) x)) (len-rebuild S H i f)
+
+    -- the layout of the inbox that the last call reads
+    layout-is : inboxLayout (call S i (last S) .before .state) ≡ pieceLayout S
+    layout-is =
+        let a = call-at S H i f (last S) (omega arith) (omega arith) .before-at in
+        let n : last S - 1 ≡ 3 * S .settings .t + 8 = omega arith in
+        (λ x. roundLayout (a .run-is x) (a .settings-is x .n) (a .settings-is x .t) (a .settings-is x .k) (a .next-is x - 1))
+        ∙ ap (layoutOf S) n ∙ ap (layoutWith (S .run)) (len-rebuild S H i f)
 
     final : Final
-    final = finished (S .settings .n) (S .settings .t) (S .settings .k) (lastCore S i) (lastInbox S i) (call S i (last S) .before .block)
+    final = finished (S .settings .n) (S .settings .t) (pieceLayout S) (lastCore S i) (lastInbox S i) (call S i (last S) .before .block)
 
     -- the outcome and the marks at the end
     abbrev ended : Ending
@@ -82,8 +91,7 @@ module _ (S : System) (H : Supposed S) where
         ∙ ap told (r .state-is)
         ∙ ap (λ (x : Carried). told (x .state))
         (performs-kind S H i f (last S) (omega arith) (omega arith) Finish (call-finish (S .settings .t)) finishCall of-finish)
-        ∙ (λ x. finished (a .settings-is x .n) (a .settings-is x .t) (a .settings-is x .k) (m .before .state .core) (m .lent .inbox)
-        (m .before .block) .ending)
+        ∙ (λ x. finished (a .settings-is x .n) (a .settings-is x .t) (layout-is x) (m .before .state .core) (m .lent .inbox) (m .before .block) .ending)
 
     block-final : blockOf S i ≡ final .block
     unfolding final
@@ -94,39 +102,39 @@ module _ (S : System) (H : Supposed S) where
         ap (λ (h : Local). h .block) (sym (call-last S H i f))
         ∙ r .block-is
         ∙ ap (λ (x : Carried). x .block) (performs-kind S H i f (last S) (omega arith) (omega arith) Finish (call-finish (S .settings .t)) finishCall of-finish)
-        ∙ (λ x. finished (a .settings-is x .n) (a .settings-is x .t) (a .settings-is x .k) (m .before .state .core) (m .lent .inbox) (m .before .block) .block)
+        ∙ (λ x. finished (a .settings-is x .n) (a .settings-is x .t) (layout-is x) (m .before .state .core) (m .lent .inbox) (m .before .block) .block)
 
     -- no core
     none : restricted (lastCore S i) (S .settings .n) ≡ 0
         → (ended ≡ ending None 0) × (blockOf S i ≡ replicate (blockLength (S .settings .k) (S .settings .t)) 0)
     unfolding final
     none z =
-        let e = finished-none (S .settings .n) (S .settings .t) (S .settings .k) (lastCore S i) (lastInbox S i) (call S i (last S) .before .block) z in (
+        let e = finished-none (S .settings .n) (S .settings .t) (pieceLayout S) (lastCore S i) (lastInbox S i) (call S i (last S) .before .block) z in (
           ended-final ∙ ap (λ (x : Final). x .ending) e,
           block-final ∙ ap (λ (x : Final). x .block) e ∙ ap (λ (x : ℕ). replicate x 0) block-is,
         )
 
     -- decoding is carried out
-    carried-out : decodeRefusal (S .settings .n) (S .settings .t) (S .settings .k) (lastInbox S i) (call S i (last S) .before .block) ≡ 0
+    carried-out : decodeRefusal (S .settings .n) (S .settings .t) (pieceLayout S) (lastInbox S i) (call S i (last S) .before .block) ≡ 0
     carried-out =
-        0-decode (S .settings .n) (S .settings .t) (S .settings .k) (lastInbox S i) (call S i (last S) .before .block) (coded S H i f) inbox-is block-is
+        0-decode (S .settings .n) (S .settings .t) (pieceLayout S) (lastInbox S i) (call S i (last S) .before .block) (coded S H i f) inbox-is block-is
 
     -- what decoding's rule gives
-    agreed : (restricted (lastCore S i) (S .settings .n) ≡ 0 → ⊥) → (B : List ℕ) → Decodes (S .settings .n) (S .settings .t) (S .settings .k) (lastInbox S i) B
-        → (ended ≡ ending Agreed (namedOf (S .settings .n) (S .settings .t) (S .settings .k) (lastInbox S i) B)) × (blockOf S i ≡ B)
+    agreed : (restricted (lastCore S i) (S .settings .n) ≡ 0 → ⊥) → (B : List ℕ) → Decodes (S .settings .n) (S .settings .t) (pieceLayout S) (lastInbox S i) B
+        → (ended ≡ ending Agreed (namedOf (S .settings .n) (S .settings .t) (pieceLayout S) (lastInbox S i) B)) × (blockOf S i ≡ B)
     unfolding final
     agreed z B d =
-        let q = finished-agreed (S .settings .n) (S .settings .t) (S .settings .k) (lastCore S i) (lastInbox S i)
+        let q = finished-agreed (S .settings .n) (S .settings .t) (pieceLayout S) (lastCore S i) (lastInbox S i)
         (call S i (last S) .before .block) z carried-out B d in
         (ended-final ∙ ap (λ (x : Final). x .ending) q, block-final ∙ ap (λ (x : Final). x .block) q)
 
     -- where no block meets it
     beyond : (restricted (lastCore S i) (S .settings .n) ≡ 0 → ⊥)
-        → ((B : List ℕ) → Decodes (S .settings .n) (S .settings .t) (S .settings .k) (lastInbox S i) B → ⊥)
+        → ((B : List ℕ) → Decodes (S .settings .n) (S .settings .t) (pieceLayout S) (lastInbox S i) B → ⊥)
         → (ended ≡ ending Beyond 0) × (blockOf S i ≡ replicate (blockLength (S .settings .k) (S .settings .t)) 0)
     unfolding final
     beyond z d =
-        let q = finished-beyond (S .settings .n) (S .settings .t) (S .settings .k) (lastCore S i) (lastInbox S i)
+        let q = finished-beyond (S .settings .n) (S .settings .t) (pieceLayout S) (lastCore S i) (lastInbox S i)
         (call S i (last S) .before .block) z carried-out d in
         (ended-final ∙ ap (λ (x : Final). x .ending) q, block-final ∙ ap (λ (x : Final). x .block) q ∙ ap (λ (x : ℕ). replicate x 0) block-is)
 
@@ -152,15 +160,15 @@ module _ (S : System) (H : Supposed S) where
         (λ (z : restricted (lastCore S i) (S .settings .n) ≡ 0). unnamed-at None (λ e. omega (arith, e)) (none z .0))
         (λ (z : restricted (lastCore S i) (S .settings .n) ≡ 0 → ⊥).
         ⊎-elim
-        (λ (d : (B : List ℕ) × Decodes (S .settings .n) (S .settings .t) (S .settings .k) (lastInbox S i) B).
+        (λ (d : (B : List ℕ) × Decodes (S .settings .n) (S .settings .t) (pieceLayout S) (lastInbox S i) B).
         let r = agreed z (d .0) (d .1) in
         record {
-          agreed = λ _. ap named (r .0) ∙ ap (namedOf (S .settings .n) (S .settings .t) (S .settings .k) (lastInbox S i)) (sym (r .1));
+          agreed = λ _. ap named (r .0) ∙ ap (namedOf (S .settings .n) (S .settings .t) (pieceLayout S) (lastInbox S i)) (sym (r .1));
           other = λ n. absurd (n (ap outcome (r .0)));
         })
-        (λ (d : (B : List ℕ) → Decodes (S .settings .n) (S .settings .t) (S .settings .k) (lastInbox S i) B → ⊥).
+        (λ (d : (B : List ℕ) → Decodes (S .settings .n) (S .settings .t) (pieceLayout S) (lastInbox S i) B → ⊥).
         unnamed-at Beyond (λ e. omega (arith, e)) (beyond z d .0))
-        (decodes-or-not (S .settings .n) (S .settings .t) (S .settings .k) (lastInbox S i)))
+        (decodes-or-not (S .settings .n) (S .settings .t) (pieceLayout S) (lastInbox S i)))
         (same-or-not (restricted (lastCore S i) (S .settings .n)) 0)
 
     -- the core of the last call is that of the matrix
@@ -176,18 +184,18 @@ module _ (S : System) (H : Supposed S) where
     none-unnamed z x = ap (λ (m : ℕ). member m x) (ap named (none (without z) .0)) ∙ member-none x
 
   -- a core whose correct members hold B: agreed, and B
-  module _ (C : Code (S .settings .n) (S .settings .t) (S .settings .k)) (e : ℕ) (B : List ℕ) (is : IsBlock (S .settings .k) (S .settings .t) B)
+  module _ (C : Code (S .run) (S .settings .n) (S .settings .t) (S .settings .k)) (e : ℕ) (B : List ℕ) (is : IsBlock (S .settings .k) (S .settings .t) B)
       (core-is : (i : ℕ) → Correct S i → coreOf (lastMatrix S i) (S .settings .n) (S .settings .t) ≡ e) (some : restricted e (S .settings .n) ≡ 0 → ⊥)
       (enough : S .settings .t + 1 ≤ count (S .settings .n) (λ x. member e x && correctAt S x))
       (holds : (i : ℕ) → Correct S i → member e (i - 1) ≡ true → heldBlock S i ≡ B) where
     ends : (i : ℕ) → (f : Correct S i)
-        → (ended i f ≡ ending Agreed (namedOf (S .settings .n) (S .settings .t) (S .settings .k) (lastInbox S i) B)) × (blockOf S i ≡ B)
+        → (ended i f ≡ ending Agreed (namedOf (S .settings .n) (S .settings .t) (pieceLayout S) (lastInbox S i) B)) × (blockOf S i ≡ B)
     ends i f =
         agreed i f (λ z. some (ap (λ (x : ℕ). restricted x (S .settings .n)) (sym (core-last S H i f ∙ core-is i f)) ∙ z)) B
         (C .recovered (lastInbox S i) B is
         (many (S .settings .n) (S .settings .t) (correctAt S) (most-correct S H)
-        (λ x. same (messageOf (lastInbox S i) (layoutWith (S .settings .k)) (x + 1)) (pieceOf (S .settings .k) (S .settings .t) B (x + 1)))
-        (λ x l c. eq-same (messageOf (lastInbox S i) (layoutWith (S .settings .k)) (x + 1)) (pieceOf (S .settings .k) (S .settings .t) B (x + 1))
+        (λ x. same (messageOf (lastInbox S i) (pieceLayout S) (x + 1)) (pieceOf (S .settings .k) (S .settings .t) B (x + 1)))
+        (λ x l c. eq-same (messageOf (lastInbox S i) (pieceLayout S) (x + 1)) (pieceOf (S .settings .k) (S .settings .t) B (x + 1))
         (piece-read S H C e B core-is enough holds (x + 1) (by-index S x (l, c)) i f))))
 
     pub ends-agreed : (i : ℕ) → Correct S i → (outcomeOf S i ≡ Agreed) × (blockOf S i ≡ B)

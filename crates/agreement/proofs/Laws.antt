@@ -22,6 +22,7 @@
 --     agreement, one-plan       the theorem, and its corollary
 --   Beside demand 3
 --     named-by-last             whom a correct controller names; no-correct-named: no correct one; named-by-many: whoever t + 1 name is not correct
+--     late-named                whoever's slot in the last round carries another run's number is named
 --     held-by-many              a block that is agreed on was held by t + 1 correct controllers after call 2; held-on: and from then on
 --     all-in-core               with a correct sender every correct controller is in the core, from call 3t + 7 on
 pub use Rattle.agreement.proofs.Run.{stepNumber, carried-out-yes, carried-out-no, chain, refused-away, At, step-at, valid-at, finished-step}
@@ -31,5 +32,5 @@ pub use Rattle.agreement.proofs.Votes.{by-index, one-matrix, row-is-mar
 pub use Rattle.agreement.proofs.Cores.{one-core, enough-correct, one-block}
 pub use Rattle.agreement.proofs.Pieces.{piece-sent}
 pub use Rattle.agreement.proofs.Verdict.{common-in-core, sender-in-core}
-pub use Rattle.agreement.proofs.Agreement.{agreement, one-plan, named-by-last, no-correct-named, named-by-many}
+pub use Rattle.agreement.proofs.Agreement.{agreement, one-plan, named-by-last, no-correct-named, late-named, named-by-many}
 pub use Rattle.agreement.proofs.Agreement.{held-by-many, held-on, all-in-core}

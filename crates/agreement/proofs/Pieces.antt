@@ -24,7 +24,7 @@ use Rattle.reconstruction.proofs.Laws.{in-core, forwarded-member, shared-sends,
 use Rattle.protocol.specs.declared.State.{State}
 use Rattle.protocol.specs.Calls.{Carried, coreCall, chooseCall}
 use Rattle.protocol.proofs.Laws.{of-core, of-choose}
-use Rattle.agreement.specs.Agreement.{System, Correct, Supposed, last, call, layoutOf}
+use Rattle.agreement.specs.Agreement.{System, Correct, Supposed, last, call, layoutOf, pieceLayout}
 use Rattle.agreement.proofs.System.{coded, numbered, call-at, length-round, outbox-long, sends-by, state-by, block-from, delivered}
 use Rattle.agreement.proofs.Coding.{Code}
 use Rattle.agreement.proofs.Blocks.{heldBlock, is-block}
@@ -41,11 +41,11 @@ module _ (S : System) (H : Supposed S) where
     len-rebuild =
         length-round S H i f (3 * S .settings .t + 8) (round-rebuild (S .settings .t)) (row-rebuild (S .settings .n) (S .settings .t) (S .settings .k))
 
-    layout-forward : layoutOf S (3 * S .settings .t + 7) ≡ kindLayout Forward (S .settings .n) (S .settings .t) (S .settings .k)
-    layout-forward = ap (λ (x : Round). kindLayout x (S .settings .n) (S .settings .t) (S .settings .k)) (round-forward (S .settings .t))
+    layout-forward : layoutOf S (3 * S .settings .t + 7) ≡ kindLayout (S .run) Forward (S .settings .n) (S .settings .t) (S .settings .k)
+    layout-forward = ap (λ (x : Round). kindLayout (S .run) x (S .settings .n) (S .settings .t) (S .settings .k)) (round-forward (S .settings .t))
 
-    pub layout-rebuild : layoutOf S (3 * S .settings .t + 8) ≡ kindLayout Rebuild (S .settings .n) (S .settings .t) (S .settings .k)
-    layout-rebuild = ap (λ (x : Round). kindLayout x (S .settings .n) (S .settings .t) (S .settings .k)) (round-rebuild (S .settings .t))
+    pub layout-rebuild : layoutOf S (3 * S .settings .t + 8) ≡ kindLayout (S .run) Rebuild (S .settings .n) (S .settings .t) (S .settings .k)
+    layout-rebuild = ap (λ (x : Round). kindLayout (S .run) x (S .settings .n) (S .settings .t) (S .settings .k)) (round-rebuild (S .settings .t))
 
     -- the core of i, as a set
     abbrev pub coreAt : ℕ
@@ -61,17 +61,17 @@ module _ (S : System) (H : Supposed S) where
         (state-by S H i f (3 * S .settings .t + 7) (omega arith) (omega arith) Core (call-core (S .settings .t)) coreCall of-core))
         ∙ core-of S H i f in
         sends-by S H i f (3 * S .settings .t + 7) (omega arith) (omega arith) Core (call-core (S .settings .t)) coreCall of-core
-        (λ s own next. forwarded (s .n) (s .t) (s .k) own coreAt (heldBlock S i) (m .lent .outbox))
-        (λ x. forwarded (m .before .state .settings .n) (m .before .state .settings .t) (m .before .state .settings .k) (m .before .state .own) (e x)
+        (λ s own run next. forwarded run (s .n) (s .t) (s .k) own coreAt (heldBlock S i) (m .lent .outbox))
+        (λ x. forwarded (m .before .state .run) (m .before .state .settings .n) (m .before .state .settings .t) (m .before .state .settings .k) (m .before .state .own) (e x)
         (block-from S H i f (3 * S .settings .t + 7) (omega arith) (omega arith) x) (m .lent .outbox))
         ∙ forwarded-member (S .settings .n) (S .settings .t) (S .settings .k) i (heldBlock S i) (coded S H i f) (numbered S H i f)
-        (is-block S H i f .size) coreAt (m .lent .outbox)
+        (is-block S H i f .size) (S .run) coreAt (m .lent .outbox)
         (in-core coreAt i (f .least) ∙ y)
         (outbox-long S H i f (3 * S .settings .t + 7) (omega arith) (omega arith) ∙ ap (λ (x : Layout). S .settings .n * width x) layout-forward)
         ∙ ap (λ (x : Layout). slots x (λ x. bytes (pieceOf (S .settings .k) (S .settings .t) (heldBlock S i) x)) (S .settings .n)) (sym layout-forward)
 
   -- ---- a core, whose correct members hold B
-  module _ (C : Code (S .settings .n) (S .settings .t) (S .settings .k)) (e : ℕ) (B : List ℕ)
+  module _ (C : Code (S .run) (S .settings .n) (S .settings .t) (S .settings .k)) (e : ℕ) (B : List ℕ)
       (core-is : (i : ℕ) → Correct S i → coreOf (lastMatrix S i) (S .settings .n) (S .settings .t) ≡ e)
       (enough : S .settings .t + 1 ≤ count (S .settings .n) (λ x. member e x && correctAt S x))
       (holds : (i : ℕ) → Correct S i → member e (i - 1) ≡ true → heldBlock S i ≡ B) where
@@ -114,14 +114,14 @@ module _ (S : System) (H : Supposed S) where
       piece-sent =
           let m = call S i (3 * S .settings .t + 8) in
           let n : 3 * S .settings .t + 8 - 1 ≡ 3 * S .settings .t + 7 = omega arith in
-          let F : Settings → ℕ → ℕ → List ℕ = λ s own c.
-          shared (s .n) (s .t) (s .k) own e (m .lent .inbox) (roundLayout (s .n) (s .t) (s .k) c) (heldBlock S i) (m .lent .outbox) in
+          let F : Settings → (own run c : ℕ) → List ℕ = λ s own run c.
+          shared (s .n) (s .t) (s .k) own e (m .lent .inbox) (roundLayout run (s .n) (s .t) (s .k) c) (heldBlock S i) (m .lent .outbox) in
           sends-by S H i f (3 * S .settings .t + 8) (omega arith) (omega arith) Choose (call-choose (S .settings .t)) chooseCall of-choose
-          (λ s own next. F s own (next - 1))
+          (λ s own run next. F s own run (next - 1))
           (λ x. shared (m .before .state .settings .n) (m .before .state .settings .t) (m .before .state .settings .k) (m .before .state .own)
           ((core-choose S H i f ∙ core-is i f) x) (m .lent .inbox)
           (inboxLayout (m .before .state)) (block-from S H i f (3 * S .settings .t + 8) (omega arith) (omega arith) x) (m .lent .outbox))
-          ∙ ap (F (S .settings) i) n
+          ∙ ap (F (S .settings) i (S .run)) n
           ∙ shared-sends (S .settings .n) (S .settings .t) (S .settings .k) i (heldBlock S i) (coded S H i f) (numbered S H i f) (is-block S H i f .size) e
           (m .lent .inbox) (layoutOf S (3 * S .settings .t + 7)) (m .lent .outbox)
           (outbox-long S H i f (3 * S .settings .t + 8) (omega arith) (omega arith) ∙ ap (λ (x : Layout). S .settings .n * width x) (layout-rebuild i f))
@@ -129,11 +129,11 @@ module _ (S : System) (H : Supposed S) where
           ∙ ap (λ (x : Layout). slots x (λ _. bytes (pieceOf (S .settings .k) (S .settings .t) B i)) (S .settings .n)) (sym (layout-rebuild i f))
 
       -- and every correct j reads it in its last call
-      pub piece-read : (j : ℕ) → Correct S j → messageOf (call S j (last S) .lent .inbox) (layoutWith (S .settings .k)) i ≡ pieceOf (S .settings .k)
+      pub piece-read : (j : ℕ) → Correct S j → messageOf (call S j (last S) .lent .inbox) (pieceLayout S) i ≡ pieceOf (S .settings .k)
           (S .settings .t) B i
       piece-read j g =
           let n : 3 * S .settings .t + 8 + 1 ≡ last S = omega arith in
-          ap₂ (λ (c l : ℕ). messageOf (call S j c .lent .inbox) (layoutWith l) i) (sym n) (sym (len-rebuild i f))
+          ap₂ (λ (c l : ℕ). messageOf (call S j c .lent .inbox) (layoutWith (S .run) l) i) (sym n) (sym (len-rebuild i f))
           ∙ delivered S H i j (3 * S .settings .t + 8) f g (omega arith) (omega arith) (λ _. bytes (pieceOf (S .settings .k) (S .settings .t) B i))
           (λ x. sized-bytes (layoutOf S (3 * S .settings .t + 8)) (pieceOf (S .settings .k) (S .settings .t) B i)
           (C .length-piece B i ∙ sym (len-rebuild i f))) piece-sent

@@ -68,15 +68,16 @@ refused-away h l ls e =
       ap (λ (x : Local). leftAfter x ls) same,
     )
 
--- what is held before call c of a run with these settings
-pub record At (s : Settings) (own c : ℕ) (h : Local) : Type 0 where
+-- what is held before call c of a run with these settings and this run number
+pub record At (s : Settings) (own run c : ℕ) (h : Local) : Type 0 where
   pub settings-is : h .state .settings ≡ s
   pub own-is : h .state .own ≡ own
+  pub run-is : h .state .run ≡ run
   pub next-is : h .state .next ≡ c
 
-module _ (s : Settings) (own c : ℕ) (h : Local) (l : Lent) (a : At s own c h) where
+module _ (s : Settings) (own run c : ℕ) (h : Local) (l : Lent) (a : At s own run c h) where
   -- a call leaves what the next call is made on
-  pub step-at : stepNumber h l ≡ 0 → At s own (c + 1) (left h l)
+  pub step-at : stepNumber h l ≡ 0 → At s own run (c + 1) (left h l)
   step-at z =
       let r = step-0 (h .state) (length (h .block)) (length (l .inbox)) (length (l .outbox)) z in
       let keeps = call-keeps (callKind (h .state .settings .t) (h .state .next)) (h .state) (h .block) (l .inbox) (l .outbox)
@@ -85,15 +86,16 @@ module _ (s : Settings) (own c : ℕ) (h : Local) (l : Lent) (a : At s own c h) 
       record {
         settings-is = ap (λ (x : State). x .settings) e ∙ keeps .settings ∙ a .settings-is;
         own-is = ap (λ (x : State). x .own) e ∙ keeps .own ∙ a .own-is;
+        run-is = ap (λ (x : State). x .run) e ∙ keeps .run ∙ a .run-is;
         next-is = ap (λ (x : State). x .next) e ∙ keeps .next ∙ ap (λ (x : ℕ). x + 1) (a .next-is);
       }
 
 -- what is held is valid where the settings and the own number are
-pub valid-at : {s : Settings} {own c : ℕ} (h : Local) → At s own c h → Valid s own → Valid (h .state .settings) (h .state .own)
-valid-at {s} {own} {c} h a v = subst (Valid (h .state .settings)) (sym (a .own-is)) (subst (λ (x : Settings). Valid x own) (sym (a .settings-is)) v)
+pub valid-at : {s : Settings} {own run c : ℕ} (h : Local) → At s own run c h → Valid s own → Valid (h .state .settings) (h .state .own)
+valid-at {s} {own} {run} {c} h a v = subst (Valid (h .state .settings)) (sym (a .own-is)) (subst (λ (x : Settings). Valid x own) (sym (a .settings-is)) v)
 
 -- a run that is finished stays so: every step is refused with 8 and leaves what it was given
-module _ (s : Settings) (own : ℕ) (valid : Valid s own) (h : Local) (a : At s own (3 * s .t + 10) h) (l : Lent) where
+module _ (s : Settings) (own run : ℕ) (valid : Valid s own) (h : Local) (a : At s own run (3 * s .t + 10) h) (l : Lent) where
   eight : stepNumber h l ≡ 8
   eight =
       8-step (h .state) (length (h .block)) (length (l .inbox)) (length (l .outbox))
@@ -107,21 +109,21 @@ module _ (s : Settings) (own : ℕ) (valid : Valid s own) (h : Local) (a : At s 
   )
 
 -- what is known of call c
-pub record CallAt (s : Settings) (own c : ℕ) (m : Made) : Type 0 where
-  pub before-at : At s own c (m .before)
-  pub after-at : At s own (c + 1) (m .after)
+pub record CallAt (s : Settings) (own run c : ℕ) (m : Made) : Type 0 where
+  pub before-at : At s own run c (m .before)
+  pub after-at : At s own run (c + 1) (m .after)
   pub ready : Ready (m .before .state) (length (m .before .block)) (length (m .lent .inbox)) (length (m .lent .outbox))
   pub state-is : m .after .state ≡ performs (m .before) (m .lent) .state
   pub block-is : m .after .block ≡ performs (m .before) (m .lent) .block
   pub sends-is : m .sends ≡ performs (m .before) (m .lent) .outbox
 
-module _ (s : Settings) (own : ℕ) where
-  first-at : (c : ℕ) (h : Local) (m : Made) → At s own c h → m ≡ made h (m .lent) → stepNumber h (m .lent) ≡ 0 → CallAt s own c m
+module _ (s : Settings) (own run : ℕ) where
+  first-at : (c : ℕ) (h : Local) (m : Made) → At s own run c h → m ≡ made h (m .lent) → stepNumber h (m .lent) ≡ 0 → CallAt s own run c m
   first-at c h m a e z =
-      subst (λ (x : Made). CallAt s own c x) (sym e)
+      subst (λ (x : Made). CallAt s own run c x) (sym e)
       (record {
         before-at = a;
-        after-at = step-at s own c h (m .lent) a z;
+        after-at = step-at s own run c h (m .lent) a z;
         ready = step-0 (h .state) (length (h .block)) (length (m .lent .inbox)) (length (m .lent .outbox)) z;
         state-is = ap (λ (x : After). x .answer .state) (carried-out h (m .lent) z);
         block-is = ap (λ (x : After). x .block) (carried-out h (m .lent) z);
@@ -129,14 +131,14 @@ module _ (s : Settings) (own : ℕ) where
       })
 
   -- the calls of a chain are numbered from that of its first
-  pub nth : (d : Made) (h : Local) (ms : List Made) (e : Local) (c : ℕ) → Chain h ms e → At s own c h → (i : ℕ) → i < length ms
-      → CallAt s own (c + i) (getD ms i d)
+  pub nth : (d : Made) (h : Local) (ms : List Made) (e : Local) (c : ℕ) → Chain h ms e → At s own run c h → (i : ℕ) → i < length ms
+      → CallAt s own run (c + i) (getD ms i d)
   nth d h [] e c ch a i lt = absurd (not-suc-le-zero lt)
   nth d h (m ∷ ms) e c ch a zero lt = rw add-zero (first-at c h m a (ch .0) (ch .1))
   nth d h (m ∷ ms) e c ch a (suc i) lt =
       let step : c + 1 + i ≡ c + suc i = omega arith in
-      subst (λ (x : ℕ). CallAt s own x (getD ms i d)) step
-      (nth d (left h (m .lent)) ms e (c + 1) (ch .2) (step-at s own c h (m .lent) a (ch .1)) i (le-of-suc-le-suc lt))
+      subst (λ (x : ℕ). CallAt s own run x (getD ms i d)) step
+      (nth d (left h (m .lent)) ms e (c + 1) (ch .2) (step-at s own run c h (m .lent) a (ch .1)) i (le-of-suc-le-suc lt))
 
 -- the first call is made on what the chain begins with, each other on what the one before left, and the last leaves its end
 pub first-before : (d : Made) (h : Local) (ms : List Made) (e : Local) → Chain h ms e → 0 < length ms → getD ms 0 d .before ≡ h

@@ -24,7 +24,7 @@ use Rattle.agreement.proofs.Run.{Chain, chain, performs, At, CallAt, nt
 
 module _ (S : System) (H : Supposed S) (i : ℕ) (f : Correct S i) where
   start : Valid (S .settings) i × (length (S .block i) ≡ blockLength (S .settings .k) (S .settings .t))
-  start = start-0 (S .settings) i (length (S .block i)) (H .started i f)
+  start = start-0 (S .settings) i (S .run) (length (S .block i)) (H .started i f)
 
   pub valid : Valid (S .settings) i
   valid = start .0
@@ -38,25 +38,26 @@ module _ (S : System) (H : Supposed S) (i : ℕ) (f : Correct S i) where
   pub length-block : length (S .block i) ≡ blockLength (S .settings .k) (S .settings .t)
   length-block = start .1
 
-  begun-at : At (S .settings) i 1 (atStart S i)
+  begun-at : At (S .settings) i (S .run) 1 (atStart S i)
   begun-at =
-      let e = start-state (S .settings) i (length (S .block i)) (H .started i f) in
+      let e = start-state (S .settings) i (S .run) (length (S .block i)) (H .started i f) in
       record {
         settings-is = ap (λ (s : State). s .settings) e;
         own-is = ap (λ (s : State). s .own) e;
+        run-is = ap (λ (s : State). s .run) e;
         next-is = ap (λ (s : State). s .next) e;
       }
 
   links : Chain (atStart S i) (callsOf S i) (atEnd S i)
   links = chain (atStart S i) (S .steps i)
 
-  -- call c is made on a state whose next call is c, with the system's settings
-  pub call-at : (c : ℕ) → 1 ≤ c → c ≤ last S → CallAt (S .settings) i c (call S i c)
+  -- call c is made on a state whose next call is c, with the system's settings and run number
+  pub call-at : (c : ℕ) → 1 ≤ c → c ≤ last S → CallAt (S .settings) i (S .run) c (call S i c)
   call-at c least most =
       let all : length (callsOf S i) ≡ last S = H .finished i f in
       let number : 1 + (c - 1) ≡ c = omega arith in
-      subst (λ (x : ℕ). CallAt (S .settings) i x (call S i c)) number
-      (nth (S .settings) i noCall (atStart S i) (callsOf S i) (atEnd S i) 1 links begun-at (c - 1) (omega arith))
+      subst (λ (x : ℕ). CallAt (S .settings) i (S .run) x (call S i c)) number
+      (nth (S .settings) i (S .run) noCall (atStart S i) (callsOf S i) (atEnd S i) 1 links begun-at (c - 1) (omega arith))
 
   -- call 1 is made on what start left, each other on what the call before left
   pub call-first : call S i 1 .before ≡ atStart S i
@@ -81,8 +82,8 @@ module _ (S : System) (H : Supposed S) (i : ℕ) (f : Correct S i) where
   pub later : RefusesMore S i
   later l =
       let number : last S + 1 ≡ 3 * S .settings .t + 10 = omega arith in
-      let a = subst (λ (x : ℕ). At (S .settings) i x (call S i (last S) .after)) number (call-at (last S) (omega arith) (omega arith) .after-at) in
-      finished-step (S .settings) i valid (atEnd S i) (subst (At (S .settings) i (3 * S .settings .t + 10)) call-last a) l
+      let a = subst (λ (x : ℕ). At (S .settings) i (S .run) x (call S i (last S) .after)) number (call-at (last S) (omega arith) (omega arith) .after-at) in
+      finished-step (S .settings) i (S .run) valid (atEnd S i) (subst (At (S .settings) i (S .run) (3 * S .settings .t + 10)) call-last a) l
 
   -- ---- lengths
   pub length-round-some : (c : ℕ) → 1 ≤ c → c < last S → 1 ≤ layoutOf S c .length
@@ -99,7 +100,7 @@ module _ (S : System) (H : Supposed S) (i : ℕ) (f : Correct S i) where
       let a = r .before-at in
       r .ready .outbox-length
       ∙ (λ x. outboxLength (a .settings-is x .n) (a .settings-is x .t) (a .settings-is x .k) (a .next-is x))
-      ∙ outbox-is (S .settings .n) (S .settings .t) (S .settings .k) c (length-round-some c least most)
+      ∙ outbox-is (S .run) (S .settings .n) (S .settings .t) (S .settings .k) c (length-round-some c least most)
 
   pub inbox-long : (c : ℕ) → 1 ≤ c → c < last S → length (call S i (c + 1) .lent .inbox) ≡ S .settings .n * width (layoutOf S c)
   inbox-long c least most =
@@ -107,7 +108,7 @@ module _ (S : System) (H : Supposed S) (i : ℕ) (f : Correct S i) where
       let a = r .before-at in
       r .ready .inbox-length
       ∙ (λ x. inboxLength (a .settings-is x .n) (a .settings-is x .t) (a .settings-is x .k) (a .next-is x))
-      ∙ inbox-is (S .settings .n) (S .settings .t) (S .settings .k) c (length-round-some c least most)
+      ∙ inbox-is (S .run) (S .settings .n) (S .settings .t) (S .settings .k) c (length-round-some c least most)
 
   pub block-long : (c : ℕ) → 1 ≤ c → c ≤ last S → length (call S i c .before .block) ≡ blockLength (S .settings .k) (S .settings .t)
   block-long c least most =
@@ -128,31 +129,31 @@ module _ (S : System) (H : Supposed S) (i : ℕ) (f : Correct S i) where
       ((λ x. callKind (a .settings-is x .t) (a .next-is x)) ∙ e)
       ∙ does (m .before .state) (m .before .block) (m .lent .inbox) (m .lent .outbox)
 
-  -- what a call of a kind sends and what it leaves, with the system's settings in the place of the state's
+  -- what a call of a kind sends and what it leaves, with the system's settings and run number in the place of the state's
   module _ (c : ℕ) (least : 1 ≤ c) (most : c ≤ last S) (kind : Call) (is : callKind (S .settings .t) c ≡ kind)
       (D : State → List ℕ → List ℕ → List ℕ → Carried) (does : (s : State) (b x o : List ℕ) → callOf kind s b x o ≡ D s b x o) where
-    pub sends-by : (F : Settings → ℕ → ℕ → List ℕ)
+    pub sends-by : (F : Settings → (own run next : ℕ) → List ℕ)
         → D (call S i c .before .state) (call S i c .before .block) (call S i c .lent .inbox) (call S i c .lent .outbox) .outbox
-        ≡ F (call S i c .before .state .settings) (call S i c .before .state .own) (call S i c .before .state .next)
-        → call S i c .sends ≡ F (S .settings) i c
+        ≡ F (call S i c .before .state .settings) (call S i c .before .state .own) (call S i c .before .state .run) (call S i c .before .state .next)
+        → call S i c .sends ≡ F (S .settings) i (S .run) c
     sends-by F e =
         let r = call-at c least most in
         let a = r .before-at in
         r .sends-is
         ∙ ap (λ (x : Carried). x .outbox) (performs-kind c least most kind is D does)
-        ∙ e ∙ (λ x. F (a .settings-is x) (a .own-is x) (a .next-is x))
+        ∙ e ∙ (λ x. F (a .settings-is x) (a .own-is x) (a .run-is x) (a .next-is x))
 
     pub state-by : call S i c .after .state
         ≡ D (call S i c .before .state) (call S i c .before .block) (call S i c .lent .inbox) (call S i c .lent .outbox) .state
     state-by = call-at c least most .state-is ∙ ap (λ (x : Carried). x .state) (performs-kind c least most kind is D does)
 
-    pub leaves-by : {A : Type 0} → (f : State → A) (F : Settings → ℕ → ℕ → A)
+    pub leaves-by : {A : Type 0} → (f : State → A) (F : Settings → (own run next : ℕ) → A)
         → f (D (call S i c .before .state) (call S i c .before .block) (call S i c .lent .inbox) (call S i c .lent .outbox) .state)
-        ≡ F (call S i c .before .state .settings) (call S i c .before .state .own) (call S i c .before .state .next)
-        → f (call S i c .after .state) ≡ F (S .settings) i c
+        ≡ F (call S i c .before .state .settings) (call S i c .before .state .own) (call S i c .before .state .run) (call S i c .before .state .next)
+        → f (call S i c .after .state) ≡ F (S .settings) i (S .run) c
     leaves-by f F e =
         let a = call-at c least most .before-at in
-        ap f state-by ∙ e ∙ (λ x. F (a .settings-is x) (a .own-is x) (a .next-is x))
+        ap f state-by ∙ e ∙ (λ x. F (a .settings-is x) (a .own-is x) (a .run-is x) (a .next-is x))
 
   -- ---- the block from call 3 on is what call 2 left
   block-kept : (c : ℕ) → 3 ≤ c → c < last S → call S i c .after .block ≡ call S i c .before .block

@@ -34,7 +34,7 @@ use Rattle.agreement.proofs.Votes.{correctAt, by-index, to-index, most-
 use Rattle.agreement.proofs.Cores.{lastMatrix, one-core, one-block, enough-correct}
 use Rattle.agreement.proofs.Ends.{ends-none, none-unnamed, ends-agreed, ends-unnamed}
 
-module _ (S : System) (H : Supposed S) (w : ℕ) (f : Correct S w) (C : Code (S .settings .n) (S .settings .t) (S .settings .k))
+module _ (S : System) (H : Supposed S) (w : ℕ) (f : Correct S w) (C : Code (S .run) (S .settings .n) (S .settings .t) (S .settings .k))
     (G : Graph (lastMatrix S w) (S .settings .n) (S .settings .t)) where
   -- the core
   abbrev pub coreSet : ℕ

@@ -99,7 +99,7 @@ module _ (S : System) (H : Supposed S) where
         let m = call S i c in
         let rows = D (m .before .state) (m .before .block) (m .lent .inbox) (m .lent .outbox) .state .matrix in
         sends-by S H i f c least most kind is D does
-        (λ s own next. toAll (roundLayout (s .n) (s .t) (s .k) next) (s .n) (rowsOf (s .n) rows) (m .lent .outbox))
+        (λ s own run next. toAll (roundLayout run (s .n) (s .t) (s .k) next) (s .n) (rowsOf (s .n) rows) (m .lent .outbox))
         (law (m .before .state) (m .before .block) (m .lent .inbox) (m .lent .outbox))
         ∙ ap (λ (x : List ℕ). toAll (layoutOf S c) (S .settings .n) (rowsOf (S .settings .n) x) (m .lent .outbox))
         (sym (ap (λ (s : State). s .matrix) (state-by S H i f c least most kind is D does)))
@@ -108,7 +108,7 @@ module _ (S : System) (H : Supposed S) where
     first-rows : call S i 4 .after .state .matrix ≡ firstMatrix (call S i 4 .lent .inbox) (layoutOf S 3) (S .settings .n)
     first-rows =
         leaves-by S H i f 4 (omega arith) (omega arith) Collect (call-collect (S .settings .t)) collectCall of-collect (λ s. s .matrix)
-        (λ s own next. firstMatrix (call S i 4 .lent .inbox) (roundLayout (s .n) (s .t) (s .k) (next - 1)) (s .n)) refl
+        (λ s own run next. firstMatrix (call S i 4 .lent .inbox) (roundLayout run (s .n) (s .t) (s .k) (next - 1)) (s .n)) refl
 
     -- ---- phase p, counted from 0
     module _ (p : ℕ) (l : p < suc (S .settings .t)) where
@@ -126,13 +126,13 @@ module _ (S : System) (H : Supposed S) where
       seen-sent =
           let m = call S i (3 * p + 5) in
           let e : 3 * p + 5 - 1 ≡ 3 * p + 4 = omega arith in
-          let F : Settings → ℕ → ℕ → List ℕ = λ s c d.
-          toAll (roundLayout (s .n) (s .t) (s .k) c) (s .n)
-          (seenMessage (s .n) (zerosOf (m .lent .inbox) (roundLayout (s .n) (s .t) (s .k) d) (s .n) (s .t))
-          (onesOf (m .lent .inbox) (roundLayout (s .n) (s .t) (s .k) d) (s .n) (s .t)))
+          let F : Settings → (run c d : ℕ) → List ℕ = λ s run c d.
+          toAll (roundLayout run (s .n) (s .t) (s .k) c) (s .n)
+          (seenMessage (s .n) (zerosOf (m .lent .inbox) (roundLayout run (s .n) (s .t) (s .k) d) (s .n) (s .t))
+          (onesOf (m .lent .inbox) (roundLayout run (s .n) (s .t) (s .k) d) (s .n) (s .t)))
           (m .lent .outbox) in
-          sends-by S H i f (3 * p + 5) (omega arith) (omega arith) Tally tally-kind tallyCall of-tally (λ s own next. F s next (next - 1)) refl
-          ∙ ap (F (S .settings) (3 * p + 5)) e
+          sends-by S H i f (3 * p + 5) (omega arith) (omega arith) Tally tally-kind tallyCall of-tally (λ s own run next. F s run next (next - 1)) refl
+          ∙ ap (F (S .settings) (S .run) (3 * p + 5)) e
 
       -- call 3p + 6: the bits held
       hold-kind : callKind (S .settings .t) (3 * p + 6) ≡ Hold
@@ -148,7 +148,7 @@ module _ (S : System) (H : Supposed S) where
           let m = call S i (3 * p + 6) in
           let e : 3 * p + 6 - 1 ≡ 3 * p + 5 = omega arith in
           leaves-by S H i f (3 * p + 6) (omega arith) (omega arith) Hold hold-kind holdCall of-hold g
-          (λ s own next. R (m .lent .inbox) (roundLayout (s .n) (s .t) (s .k) (next - 1)) (s .n) (s .t))
+          (λ s own run next. R (m .lent .inbox) (roundLayout run (s .n) (s .t) (s .k) (next - 1)) (s .n) (s .t))
           (law (m .before .state) (m .before .block) (m .lent .inbox) (m .lent .outbox))
           ∙ ap (λ (c : ℕ). R (m .lent .inbox) (layoutOf S c) (S .settings .n) (S .settings .t)) e
 
@@ -171,11 +171,11 @@ module _ (S : System) (H : Supposed S) where
           let q : 3 * p + 6 ≡ 3 * (p + 1) + 3 = omega arith in
           let u : limit (S .settings .n) ≡ S .settings .n = omega (arith, few-rows) in
           let rows = heldOf (m .lent .inbox) (layoutOf S (3 * p + 5)) (S .settings .n) (S .settings .t) in
-          let F : Settings → ℕ → ℕ → ℕ → List ℕ = λ s own c d.
-          sentByKing (roundLayout (s .n) (s .t) (s .k) c) own (phaseOf c) (s .n) (heldOf (m .lent .inbox) (roundLayout (s .n) (s .t) (s .k) d) (s .n) (s .t))
+          let F : Settings → (own run c d : ℕ) → List ℕ = λ s own run c d.
+          sentByKing (roundLayout run (s .n) (s .t) (s .k) c) own (phaseOf c) (s .n) (heldOf (m .lent .inbox) (roundLayout run (s .n) (s .t) (s .k) d) (s .n) (s .t))
           (m .lent .outbox) in
-          sends-by S H i f (3 * p + 6) (omega arith) (omega arith) Hold hold-kind holdCall of-hold (λ s own next. F s own next (next - 1)) refl
-          ∙ ap (F (S .settings) i (3 * p + 6)) e
+          sends-by S H i f (3 * p + 6) (omega arith) (omega arith) Hold hold-kind holdCall of-hold (λ s own run next. F s own run next (next - 1)) refl
+          ∙ ap (F (S .settings) i (S .run) (3 * p + 6)) e
           ∙ king-all (layoutOf S (3 * p + 6)) i (phaseOf (3 * p + 6)) (S .settings .n) rows (m .lent .outbox) (king ∙ sym (ap phaseOf q ∙ phase-king (p + 1)))
           ∙ ap (λ (x : ℕ). toAll (layoutOf S (3 * p + 6)) x (rowsOf (S .settings .n) rows) (m .lent .outbox)) u
 
@@ -190,11 +190,11 @@ module _ (S : System) (H : Supposed S) where
           let m = call S i (3 * p + 7) in
           let e : 3 * p + 7 - 1 ≡ 3 * p + 6 = omega arith in
           let q : 3 * p + 6 ≡ 3 * (p + 1) + 3 = omega arith in
-          let F : Settings → ℕ → ℕ → List ℕ = λ s c king.
-          settledOf (m .before .state .matrix) (m .before .state .weak) (m .lent .inbox) (roundLayout (s .n) (s .t) (s .k) c) (s .n) king in
-          leaves-by S H i f (3 * p + 7) (omega arith) (omega arith) kind is D does (λ s. s .matrix) (λ s own next. F s (next - 1) (phaseOf (next - 1)))
+          let F : Settings → (run c king : ℕ) → List ℕ = λ s run c king.
+          settledOf (m .before .state .matrix) (m .before .state .weak) (m .lent .inbox) (roundLayout run (s .n) (s .t) (s .k) c) (s .n) king in
+          leaves-by S H i f (3 * p + 7) (omega arith) (omega arith) kind is D does (λ s. s .matrix) (λ s own run next. F s run (next - 1) (phaseOf (next - 1)))
           (law (m .before .state) (m .before .block) (m .lent .inbox) (m .lent .outbox))
-          ∙ ap₂ (F (S .settings)) e (ap phaseOf (e ∙ q) ∙ phase-king (p + 1))
+          ∙ ap₂ (F (S .settings) (S .run)) e (ap phaseOf (e ∙ q) ∙ phase-king (p + 1))
 
       settled-rows : call S i (3 * p + 7) .after .state .matrix
           ≡ settledOf (call S i (3 * p + 7) .before .state .matrix) (call S i (3 * p + 7) .before .state .weak) (call S i (3 * p + 7) .lent .inbox)

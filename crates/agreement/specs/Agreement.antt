@@ -1,12 +1,14 @@
 -- Demand 3, as one proposition on the lists of steps of all correct controllers of a system together (document 01, 'The house'). Runs without a
--- sender, sender 0, are taken in (document 02, U6).
---   System                   the settings; who is correct; the block that each was started with; the steps each made after its start
+-- sender, sender 0, are taken in (document 02, U6). All correct controllers have one run number (document 02, U11); late messages of other runs may
+-- stand in any slot of a faulty one.
+--   System                   the settings and the run number; who is correct; the block that each was started with; the steps each made after its start
 --   Correct S i              controller i is one of 1 .. n, and correct (document 01: it follows the steps)
 --   atStart, callsOf, atEnd  what a controller holds at its start, its calls, and what it holds after all its steps
 --   last S                   the number of the last call
 --   noCall                   a call with nothing in it
 --   call S i c               call c of controller i; past its calls `noCall`
 --   layoutOf S c             the layout of the slots of round c
+--   pieceLayout S            that of the slots in the inbox of the last call, which hold pieces
 --   Arrives S i j c          the message from i to j arrives unchanged in round c
 --   Supposed S               what is supposed
 --   lastCore, lastInbox      the core before the last call, and the inbox lent to it
@@ -29,7 +31,7 @@ use Rattle.bitset.specs.Set.{restricted}
 use Rattle.polynomial.specs.Polynomial.{Bytes}
 use Rattle.wire.specs.declared.slot.Layout.{Layout}
 use Rattle.wire.specs.Length.{roundLayout}
-use Rattle.wire.specs.Slot.{slotOf}
+use Rattle.wire.specs.Slot.{layoutWith, slotOf}
 use Rattle.reed_solomon.specs.Decode.{Decodes}
 use Rattle.reconstruction.specs.declared.Outcome.{Outcome}
 use Rattle.reconstruction.specs.declared.Outcome.the-variants.{Agreed, None, Beyond}
@@ -40,6 +42,8 @@ use Rattle.agreement.specs.Run.{Lent, Local, Made, stepped, left, leftAf
 -- of a controller that is not correct, neither block nor steps are read: nothing is supposed of it
 pub record System : Type 0 where
   pub settings : Settings
+  pub run : ℕ
+  pub run-most : run < 65536
   pub correct : ℕ → Bool
   pub block : ℕ → List ℕ
   pub block-bytes : (i : ℕ) → Bytes (block i)
@@ -51,7 +55,7 @@ pub record Correct (S : System) (i : ℕ) : Type 0 where
   pub is : S .correct i ≡ true
 
 abbrev pub atStart : System → ℕ → Local
-atStart S i = begun (S .settings) i (S .block i)
+atStart S i = begun (S .settings) i (S .run) (S .block i)
 
 abbrev pub callsOf : System → ℕ → List Made
 callsOf S i = calls (atStart S i) (S .steps i)
@@ -74,7 +78,10 @@ abbrev pub call : System → ℕ → ℕ → Made
 call S i c = getD (callsOf S i) (c - 1) noCall
 
 abbrev pub layoutOf : System → ℕ → Layout
-layoutOf S c = roundLayout (S .settings .n) (S .settings .t) (S .settings .k) c
+layoutOf S c = roundLayout (S .run) (S .settings .n) (S .settings .t) (S .settings .k) c
+
+abbrev pub pieceLayout : System → Layout
+pieceLayout S = layoutWith (S .run) (S .settings .k)
 
 -- slot i of the inbox of j's call c + 1 is, byte for byte, slot j of the outbox that i's call c left
 abbrev pub Arrives : System → (i j c : ℕ) → Type 0
@@ -86,11 +93,11 @@ pub record Supposed (S : System) : Type 0 where
   -- n is at least 3t + 1, and at most t controllers are not correct
   pub tolerance : 3 * S .settings .t + 1 ≤ S .settings .n
   pub few : count (S .settings .n) (λ i. not (S .correct (i + 1))) ≤ S .settings .t
-  -- each correct controller's start, with the system's settings (the sender 0 to n) and its own number, is carried out
-  pub started : (i : ℕ) → Correct S i → startOf (S .settings) i (length (S .block i)) .number ≡ 0
+  -- each correct controller's start, with the system's settings (the sender 0 to n), its own number and the system's run number, is carried out
+  pub started : (i : ℕ) → Correct S i → startOf (S .settings) i (S .run) (length (S .block i)) .number ≡ 0
   -- all its 3t + 9 calls are carried out, whatever steps are refused before, between and after them
   pub finished : (i : ℕ) → Correct S i → length (callsOf S i) ≡ last S
-  -- each message between correct controllers, or to oneself, arrives unchanged in its round
+  -- each message between correct controllers, or to oneself, arrives unchanged in its round; so its slot is of this run
   pub arrives : (i j c : ℕ) → Correct S i → Correct S j → 1 ≤ c → c < last S → Arrives S i j c
 
 -- the state on which the last call was made, and the inbox lent to it
@@ -111,10 +118,10 @@ blockOf S i = atEnd S i .block
 pub record SetByLast (S : System) (i : ℕ) : Type 0 where
   pub none : restricted (lastCore S i) (S .settings .n) ≡ 0 → (outcomeOf S i ≡ None) × (blockOf S i ≡ replicate (length (S .block i)) 0)
   pub agreed : (restricted (lastCore S i) (S .settings .n) ≡ 0 → ⊥) → (B : List ℕ)
-      → Decodes (S .settings .n) (S .settings .t) (S .settings .k) (lastInbox S i) B
+      → Decodes (S .settings .n) (S .settings .t) (pieceLayout S) (lastInbox S i) B
       → (outcomeOf S i ≡ Agreed) × (blockOf S i ≡ B)
   pub beyond : (restricted (lastCore S i) (S .settings .n) ≡ 0 → ⊥)
-      → ((B : List ℕ) → Decodes (S .settings .n) (S .settings .t) (S .settings .k) (lastInbox S i) B → ⊥)
+      → ((B : List ℕ) → Decodes (S .settings .n) (S .settings .t) (pieceLayout S) (lastInbox S i) B → ⊥)
       → (outcomeOf S i ≡ Beyond) × (blockOf S i ≡ replicate (length (S .block i)) 0)
 
 abbrev pub RefusesMore : System → ℕ → Type 0

@@ -1,14 +1,14 @@
 -- One controller's run (document 01, 'The house'): a start, then any list of steps, refused ones anywhere among them. The contracts of the
 -- functions `start` and `step` are the equations `startOf` and `stepOf` that a run is made of here.
---   Lent            the inbox and the outbox that the caller lends to a step, of any length; the inbox holds any bytes
---   Local           what passes from each step to the next: the state and the block
---   stepped h l     one step
---   left h l        what it leaves to the next
---   carriedOut h l  whether it was carried out: it returned 0
---   leftAfter h ls  what is held after a list of steps
---   Made, made h l  a step that was carried out: what it was made on, what was lent, what it left, and what it sends
---   calls h ls      the calls among a list of steps: those carried out, in order
---   begun s own b   what the first step gets: the state that start returned, and the block lent to start
+--   Lent                the inbox and the outbox that the caller lends to a step, of any length; the inbox holds any bytes
+--   Local               what passes from each step to the next: the state and the block
+--   stepped h l         one step
+--   left h l            what it leaves to the next
+--   carriedOut h l      whether it was carried out: it returned 0
+--   leftAfter h ls      what is held after a list of steps
+--   Made, made h l      a step that was carried out: what it was made on, what was lent, what it left, and what it sends
+--   calls h ls          the calls among a list of steps: those carried out, in order
+--   begun s own run b   what the first step gets: the state that start with the run number `run` returned, and the block lent to start
 use mathlib.Core.Bool.{Bool, cond}
 use mathlib.Core.List.{List, [], _∷_}
 use Prim.Native.Nat.{ℕ}
@@ -54,5 +54,5 @@ abbrev pub calls : Local → List Lent → List Made
 calls h [] = []
 calls h (l ∷ ls) = cond (carriedOut h l) (made h l ∷ calls (left h l) ls) (calls (left h l) ls)
 
-abbrev pub begun : Settings → (own : ℕ) → List ℕ → Local
-begun s own b = record { state = startOf s own (length b) .state; block = b }
+abbrev pub begun : Settings → (own run : ℕ) → List ℕ → Local
+begun s own run b = record { state = startOf s own run (length b) .state; block = b }

@@ -2,10 +2,13 @@
 // Every function is total: an index past 15 is in no set.
 ghost use mathlib.Core.Path.{_≡_};
 ghost use mathlib.Core.Bool.{true};
-ghost use Prim.Native.Nat.{_*_, _/_, _%_, _^_, _<_, min};
+ghost use Prim.Native.Nat.{_*_, _^_, _<_, min};
 ghost use Rattle.lists.specs.Fill.{filled};
 ghost use Rattle.bitset.specs.Set.{member, setOf, sizeOf, inserted, removed, intersection, difference, union, restricted, lowestOf};
 ghost use Rattle.bitset.specs.Row.{rowOf, rowByte, rowsLength};
+use lists::high;
+use lists::low;
+use lists::word;
 
 // Whether i is in the set s.
 // Shut out: 15 in no set; the digit 0 taken for a member.
@@ -116,14 +119,6 @@ pub fn below(n: usize) -> u16
     bit(n) - 1
 }
 
-// A byte as a wider number.
-// Shut out: its low seven bits; the byte and 256.
-pub fn wide(x: u8) -> u16
-    ensures { λ r. ⌜ (r ≡ x) × (r < 256) ⌝ }
-{
-    x as u16
-}
-
 // The set in row r of the message m, of the indices below n; empty where m does not hold the row whole.
 // Shut out: the high byte first; half a row read past the end.
 pub fn read_row(m: &[u8], n: usize, r: usize) -> u16
@@ -132,23 +127,7 @@ pub fn read_row(m: &[u8], n: usize, r: usize) -> u16
     if m.len() / 2 <= r {
         return 0;
     }
-    restrict(wide(m[2 * r]) + 256 * wide(m[2 * r + 1]), n)
-}
-
-// The low byte.
-// Shut out: the high byte; the low seven bits.
-pub fn low(x: u16) -> u8
-    ensures { λ r. ⌜ r ≡ x % 256 ⌝ }
-{
-    (x % 256) as u8
-}
-
-// The high byte.
-// Shut out: the low byte; the high nine bits.
-pub fn high(x: u16) -> u8
-    ensures { λ r. ⌜ r ≡ x / 256 ⌝ }
-{
-    (x / 256) as u8
+    restrict(word(m[2 * r], m[2 * r + 1]), n)
 }
 
 // Byte b of the message that holds the rows.

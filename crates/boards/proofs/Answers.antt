@@ -34,27 +34,27 @@ kept-all : (state b v : List ℕ) → length state ≡ stateLength → v ≡ con
 kept-all state b v e is = is ∙ cond-yes (eqb (length state) stateLength) b state (eq-eqb (length state) stateLength e)
 
 -- ---- start
-module _ (s : Settings) (own b : ℕ) (state : List ℕ) where
-  pub start-wrong : (length state ≡ stateLength → ⊥) → returned badLength state ≡ startBytes s own b state
+module _ (s : Settings) (own run b : ℕ) (state : List ℕ) where
+  pub start-wrong : (length state ≡ stateLength → ⊥) → returned badLength state ≡ startBytes s own run b state
   unfolding startBytes
   start-wrong e =
       sym
-      (cond-no (eqb (length state) stateLength) (startReturned state (startOf s own b)) (returned badLength state) (ne-eqb (length state) stateLength e))
+      (cond-no (eqb (length state) stateLength) (startReturned state (startOf s own run b)) (returned badLength state) (ne-eqb (length state) stateLength e))
 
-  module _ (e : length state ≡ stateLength) (a : Started) (is-a : a ≡ startOf s own b) where
-    started : startReturned state a ≡ startBytes s own b state
+  module _ (e : length state ≡ stateLength) (a : Started) (is-a : a ≡ startOf s own run b) where
+    started : startReturned state a ≡ startBytes s own run b state
     unfolding startBytes
     started =
         ap (startReturned state) is-a
-        ∙ sym (cond-yes (eqb (length state) stateLength) (startReturned state (startOf s own b)) (returned badLength state)
+        ∙ sym (cond-yes (eqb (length state) stateLength) (startReturned state (startOf s own run b)) (returned badLength state)
         (eq-eqb (length state) stateLength e))
 
-    pub start-refused : (a .number ≡ 0 → ⊥) → returned (a .number) state ≡ startBytes s own b state
+    pub start-refused : (a .number ≡ 0 → ⊥) → returned (a .number) state ≡ startBytes s own run b state
     start-refused z =
         sym (cond-no (eqb (a .number) 0) (returned 0 (stateBytes (a .state))) (returned (a .number) state) (ne-eqb (a .number) 0 z)) ∙ started
 
     pub start-written : a .number ≡ 0 → (v : List ℕ) → v ≡ cond (eqb (length state) stateLength) (stateBytes (a .state)) state
-        → returned 0 v ≡ startBytes s own b state
+        → returned 0 v ≡ startBytes s own run b state
     start-written z v is-v =
         ap (returned 0) (kept-all state (stateBytes (a .state)) v e is-v)
         ∙ sym (cond-yes (eqb (a .number) 0) (returned 0 (stateBytes (a .state))) (returned (a .number) state) (eq-eqb (a .number) 0 z)) ∙ started

@@ -11,9 +11,11 @@ use lib.ListN.{length}
 use Rattle.lists.proofs.Tests.{same-or-not, cond-yes, cond-no, and-both}
 use Rattle.settings.specs.declared.Settings.{Settings}
 use Rattle.wire.specs.Length.{blockSize}
+use Rattle.wire.specs.Slot.{slotOf, silenced, OtherRun}
 use Rattle.protocol.specs.declared.State.{State}
+use Rattle.protocol.specs.Calls.{inboxLayout}
 use Rattle.protocol.specs.Step.{After, startOf, stepOf}
-use Rattle.protocol.proofs.Laws.{step-number, step-refused}
+use Rattle.protocol.proofs.Laws.{step-number, step-refused, late-silent}
 use Rattle.state_bytes.specs.State.{stateLength, stateBytes, stateOf, Words}
 use Rattle.reconstruction.specs.Outcomes.{outcomeNumber}
 use Rattle.state_bytes.proofs.Laws.{length-state, read-written}
@@ -34,13 +36,21 @@ use Rattle.boards.specs.Boards.{
 }
 
 -- a start that is carried out writes the state that it returns to a buffer of the right length
-pub start-bytes : (s : Settings) (own b : ℕ) (state : List ℕ) → length state ≡ stateLength → startOf s own b .number ≡ 0
-    → startBytes s own b state ≡ returned 0 (stateBytes (startOf s own b .state))
+pub start-bytes : (s : Settings) (own run b : ℕ) (state : List ℕ) → length state ≡ stateLength → startOf s own run b .number ≡ 0
+    → startBytes s own run b state ≡ returned 0 (stateBytes (startOf s own run b .state))
 unfolding startBytes
-start-bytes s own b state e z =
-    cond-yes (eqb (length state) stateLength) (startReturned state (startOf s own b)) (returned badLength state) (eq-eqb (length state) stateLength e)
-    ∙ cond-yes (eqb (startOf s own b .number) 0) (returned 0 (stateBytes (startOf s own b .state))) (returned (startOf s own b .number) state)
-    (eq-eqb (startOf s own b .number) 0 z)
+start-bytes s own run b state e z =
+    cond-yes (eqb (length state) stateLength) (startReturned state (startOf s own run b)) (returned badLength state) (eq-eqb (length state) stateLength e)
+    ∙ cond-yes (eqb (startOf s own run b .number) 0) (returned 0 (stateBytes (startOf s own run b .state))) (returned (startOf s own run b .number) state)
+    (eq-eqb (startOf s own run b .number) 0 z)
+
+-- a slot of another run than the state's is silence to every step, whatever bytes are lent
+pub late-bytes : (state b i o : List ℕ) (j : ℕ) → OtherRun (inboxLayout (stateOf state)) (slotOf i (inboxLayout (stateOf state)) j)
+    → stepBytes state b i o ≡ stepBytes state b (silenced i (inboxLayout (stateOf state)) j) o
+unfolding stepBytes
+late-bytes state b i o j late =
+    ap (λ (a : After). cond (eqb (length state) stateLength) (stepReturned state a) (returnedStep badLength state b o))
+    (late-silent (stateOf state) b i o j late)
 
 module _ (s : State) (w : Words s) where
   -- a step, refused or carried out

@@ -4,7 +4,7 @@
 --   beyondNumber                             what decoding answers where no block meets the rule: 255, the number of no refusal
 --   Returned, returned r bytes               a number answered, and the lent bytes as the call leaves them
 --   startReturned state a                    an answer of `start`, with the state as bytes; refused, the lent bytes stay
---   startBytes s own b state                 start to a lent state; b is the length of the lent block
+--   startBytes s own run b state             start to a lent state; b is the length of the lent block
 --   ReturnedStep, returnedStep r state b o   what a step leaves: its number, the state, the block and the outbox
 --   stepAsBytes a                            an answer of `step`, with the state as bytes
 --   stepReturned state a                     the same where it was carried out; refused, the state stays byte for byte
@@ -16,7 +16,7 @@
 --   finalBytes state block final             the outcome, and the final block: the block as it is, once the outcome is set
 --   decodeNumber d                           the number for an answer of decoding
 --   namedAfter d m                           the marks that it leaves where m was: those of the block; none for beyond; refused, m
---   DecodeLeaves n t k slots b m r b′ m′      decoding: r is the number of its answer, b′ the block that it leaves, and m′ the marks
+--   DecodeLeaves n t layout slots b m r b′ m′   decoding: r is the number of its answer, b′ the block that it leaves, and m′ the marks
 --   setRows s                                the sets C, D, F and E as the first of 16 rows of marks
 --   setBytes s                               the bytes of these four rows
 --   starReturned s sets                      an answer of the star; refused, the lent bytes stay
@@ -33,6 +33,7 @@ use lib.ListN.{length, replicate}
 use Rattle.lists.specs.Fill.{tabulate}
 use Rattle.bitset.specs.Row.{rowsIn, rowByte}
 use Rattle.settings.specs.declared.Settings.{Settings}
+use Rattle.wire.specs.declared.slot.Layout.{Layout}
 use Rattle.wire.specs.Length.{blockSize}
 use Rattle.reed_solomon.specs.declared.Decoded.{Decoded}
 use Rattle.reed_solomon.specs.declared.Decoded.the-variants.{Block, Beyond, Refused}
@@ -62,9 +63,9 @@ returned r bytes = record { number = r; bytes = bytes }
 abbrev pub startReturned : List ℕ → Started → Returned
 startReturned state a = cond (eqb (a .number) 0) (returned 0 (stateBytes (a .state))) (returned (a .number) state)
 
-unfoldable pub startBytes : Settings → (own b : ℕ) → List ℕ → Returned
-startBytes s own b state =
-    cond (eqb (length state) stateLength) (startReturned state (startOf s own b)) (returned badLength state)
+unfoldable pub startBytes : Settings → (own run b : ℕ) → List ℕ → Returned
+startBytes s own run b state =
+    cond (eqb (length state) stateLength) (startReturned state (startOf s own run b)) (returned badLength state)
 
 pub record ReturnedStep : Type 0 where
   pub number : ℕ
@@ -113,8 +114,8 @@ namedAfter (Block named) m = named
 namedAfter Beyond m = 0
 namedAfter (Refused r) m = m
 
-abbrev pub DecodeLeaves : (n t k : ℕ) (slots b : List ℕ) (m r : ℕ) (b′ : List ℕ) (m′ : ℕ) → Type 0
-DecodeLeaves n t k slots b m r b′ m′ = (d : Decoded) × (r ≡ decodeNumber d) × Answers n t k slots b d b′ × (m′ ≡ namedAfter d m)
+abbrev pub DecodeLeaves : (n t : ℕ) (layout : Layout) (slots b : List ℕ) (m r : ℕ) (b′ : List ℕ) (m′ : ℕ) → Type 0
+DecodeLeaves n t layout slots b m r b′ m′ = (d : Decoded) × (r ≡ decodeNumber d) × Answers n t layout slots b d b′ × (m′ ≡ namedAfter d m)
 
 abbrev pub setRows : Sets → List ℕ
 setRows s = s .c ∷ s .d ∷ s .f ∷ s .e ∷ replicate 12 0

@@ -1,6 +1,7 @@
 // The code and the star by themselves: coding, decoding, and the star of rows of marks or of missing pairs.
 ghost use mathlib.Core.Path.{_≡_};
 ghost use lib.ListN.{length};
+ghost use Rattle.wire.specs.Slot.{layoutWith};
 ghost use Rattle.reed_solomon.specs.Encode.{encoded, encodeOf};
 ghost use Rattle.boards.specs.Boards.{returned, decodeNumber, namedAfter, DecodeLeaves, setBytes, starReturned, starBytes, pairBytes, pairStarBytes};
 use crate::BAD_LENGTH;
@@ -48,20 +49,22 @@ fn decoded_marks(r: Decoded, named: u16) -> u16
     }
 }
 
-// Decoding: the block to the lent bytes and its marks to the lent number, by the relation `Answers`.
-// Shut out: 0 for beyond; n and t the other way round; the marks cleared where it is refused, kept for beyond; must-fail/beyond_as_a_row.
+// Decoding of slots of the run `run`: the block to the lent bytes and its marks to the lent number, by the relation `Answers`.
+// Shut out: 0 for beyond; n and t the other way round; run 0, whatever is given; the marks cleared where it is refused, kept for beyond; must-fail/beyond_as_a_row.
 #[no_mangle]
 pub extern "C" fn potekawhi_decode(
     n: usize,
     t: usize,
     k: usize,
+    run: u16,
     slots: &[u8],
     block: &mut [u8],
     named: &mut u16,
 ) -> u8
-    ensures { λ r. ⌜ DecodeLeaves n t k (now (slots .entry)) (now (block .entry)) (now (named .entry)) r (now (block .exit)) (now (named .exit)) ⌝ }
+    ensures { λ r. ⌜ DecodeLeaves n t (layoutWith run k) (now (slots .entry)) (now (block .entry)) (now (named .entry)) r (now (block .exit)) (now (named .exit)) ⌝ }
 {
-    let decoded = reed_solomon::decode(n, t, k, slots, block);
+    let layout = wire::layout_with(run, k);
+    let decoded = reed_solomon::decode(n, t, layout, slots, block);
     *named = decoded_marks(decoded, *named);
     decoded_number(decoded)
 }

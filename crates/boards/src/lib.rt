@@ -17,8 +17,8 @@ use settings::Settings;
 // The number of a lent length that is wrong.
 pub(crate) const BAD_LENGTH: u8 = 6;
 
-// Start: the number, and the state to the lent bytes. Refused: no lent byte changes.
-// Shut out: own number and sender the other way round; 6 whatever start answers; must-fail/refused_start_written.
+// Start of the run `run`: the number, and the state to the lent bytes. Refused: no lent byte changes.
+// Shut out: own number and sender the other way round; run 0, whatever is given; 6 whatever start answers; must-fail/refused_start_written.
 #[no_mangle]
 pub extern "C" fn potekawhi_start(
     n: usize,
@@ -26,16 +26,17 @@ pub extern "C" fn potekawhi_start(
     k: usize,
     own: usize,
     sender: usize,
+    run: u16,
     block: &[u8],
     state: &mut [u8],
 ) -> u8
-    ensures { λ r. ⌜ returned r (now (state .exit)) ≡ startBytes (record { n = n; t = t; k = k; sender = sender }) own (length (now (block .entry))) (now (state .entry)) ⌝ }
+    ensures { λ r. ⌜ returned r (now (state .exit)) ≡ startBytes (record { n = n; t = t; k = k; sender = sender }) own run (length (now (block .entry))) (now (state .entry)) ⌝ }
 {
     if state.len() != state_bytes::length() {
         return BAD_LENGTH;
     }
     let settings = Settings { n, t, k, sender };
-    let started = controller::start(settings, own, block);
+    let started = controller::start(settings, own, run, block);
     let refused = started.number;
     if refused != 0 {
         return refused;
@@ -129,13 +130,20 @@ pub extern "C" fn potekawhi_final_block(state: &[u8], block: &[u8], out: &mut [u
     number
 }
 
-// The length of the message in slot j of an inbox of messages of `len` bytes, and to `offset` where it starts; 0 and 0 where there is none.
-// Shut out: slot number and length the other way round, in the length answered; the same in the offset.
+// The length of the message in slot j of an inbox of the run `run` with messages of `len` bytes, and to `offset` where it starts; 0 and 0 where there
+// is none.
+// Shut out: slot number and length the other way round, in the length answered; the same in the offset; run 0, whatever is given.
 #[no_mangle]
-pub extern "C" fn potekawhi_message(inbox: &[u8], len: usize, j: usize, offset: &mut usize) -> usize
-    ensures { λ r. ⌜ (r ≡ length (messageOf (now (inbox .entry)) (layoutWith len) j)) × (now (offset .exit) ≡ offsetOf (now (inbox .entry)) (layoutWith len) j) ⌝ }
+pub extern "C" fn potekawhi_message(
+    inbox: &[u8],
+    run: u16,
+    len: usize,
+    j: usize,
+    offset: &mut usize,
+) -> usize
+    ensures { λ r. ⌜ (r ≡ length (messageOf (now (inbox .entry)) (layoutWith run len) j)) × (now (offset .exit) ≡ offsetOf (now (inbox .entry)) (layoutWith run len) j) ⌝ }
 {
-    let layout = wire::layout_with(len);
+    let layout = wire::layout_with(run, len);
     let start = wire::offset(inbox, layout, j);
     *offset = start;
     let m = wire::message(inbox, layout, j);

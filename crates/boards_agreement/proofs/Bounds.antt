@@ -53,8 +53,8 @@ use Rattle.state_bytes.proofs.Laws.{numbers-lt}
 -- ---- the states that are built
 -- with a matrix, a weak matrix and a core of zeros, and nobody named
 zeros-words : (s : State) → ((i : ℕ) → getD (sixNumbers s) i 0 < 2 ^ 64) → s .matrix ≡ replicate 16 0 → s .weak ≡ replicate 16 0 → s .core ≡ 0
-    → s .named ≡ 0 → Words s
-zeros-words s h m w c r = record {
+    → s .named ≡ 0 → s .run < 2 ^ 16 → Words s
+zeros-words s h m w c r u = record {
   numbers = h;
   matrix-length = ap length m;
   matrix-rows = λ i. rw m (all-zeros (λ x. x < 2 ^ 16) (lit< tt) 16 i);
@@ -62,30 +62,32 @@ zeros-words s h m w c r = record {
   weak-rows = λ i. rw w (all-zeros (λ x. x < 2 ^ 16) (lit< tt) 16 i);
   core-row = rw c (lit< tt);
   named-row = rw r (lit< tt);
+  run-word = u;
 }
 
 zero-words : Words zeroState
-zero-words = zeros-words zeroState (numbers-lt zeroState (lit< tt) (lit< tt) (lit< tt) (lit< tt) (lit< tt) (lit< tt)) refl refl refl refl
+zero-words = zeros-words zeroState (numbers-lt zeroState (lit< tt) (lit< tt) (lit< tt) (lit< tt) (lit< tt) (lit< tt)) refl refl refl refl (lit< tt)
 
-fresh-words : (s : Settings) (own : ℕ) → Valid s own → Words (freshState s own)
-fresh-words s own v =
+fresh-words : (s : Settings) (own run : ℕ) → Valid s own → run < 2 ^ 16 → Words (freshState s own run)
+fresh-words s own run v u =
     let q = v .coded .quorum in
-    zeros-words (freshState s own)
-    (numbers-lt (freshState s own) (omega (arith, q .n-most)) (omega (arith, q .n-most, q .t-most)) (omega (arith, v .coded .k-most))
+    zeros-words (freshState s own run)
+    (numbers-lt (freshState s own run) (omega (arith, q .n-most)) (omega (arith, q .n-most, q .t-most)) (omega (arith, v .coded .k-most))
     (omega (arith, q .n-most, v .number .most)) (omega (arith, q .n-most, v .sender)) (lit< tt))
     refl
     refl
     refl
     refl
+    u
 
-pub start-words : (s : Settings) (own b : ℕ) → Words (startOf s own b .state)
-start-words s own b =
+pub start-words : (s : Settings) (own run b : ℕ) → run < 2 ^ 16 → Words (startOf s own run b .state)
+start-words s own run b u =
     ⊎-elim
     (λ (z : startRefusal s own b ≡ 0).
-    subst (λ (a : Started). Words (a .state)) (sym (start-found s own b (startRefusal s own b) refl z))
-    (fresh-words s own (start-0 s own b (start-number s own b ∙ z) .0)))
+    subst (λ (a : Started). Words (a .state)) (sym (start-found s own b run (startRefusal s own b) refl z))
+    (fresh-words s own run (start-0 s own run b (start-number s own run b ∙ z) .0) u))
     (λ (z : startRefusal s own b ≡ 0 → ⊥).
-    subst (λ (a : Started). Words (a .state)) (sym (start-refused s own b (startRefusal s own b) refl z)) zero-words)
+    subst (λ (a : Started). Words (a .state)) (sym (start-refused s own b run (startRefusal s own b) refl z)) zero-words)
     (same-or-not (startRefusal s own b) 0)
 
 -- ---- the changes of a call
@@ -98,6 +100,7 @@ advanced-words s w h l = record {
   weak-rows = h .weak-rows;
   core-row = h .core-row;
   named-row = lit< tt;
+  run-word = h .run-word;
 }
 
 matrix-words : (s : State) (m : List ℕ) → Words s → length m ≡ 16 → ((i : ℕ) → getD m i 0 < 2 ^ 16) → Words (withMatrix s m)
@@ -109,6 +112,7 @@ matrix-words s m h l r = record {
   weak-rows = h .weak-rows;
   core-row = h .core-row;
   named-row = h .named-row;
+  run-word = h .run-word;
 }
 
 votes-words : (s : State) (m w : List ℕ) → Words s → length m ≡ 16 → ((i : ℕ) → getD m i 0 < 2 ^ 16) → length w ≡ 16 → ((i : ℕ) → getD w i 0 < 2 ^ 16)
@@ -121,6 +125,7 @@ votes-words s m w h l r l′ r′ = record {
   weak-rows = r′;
   core-row = h .core-row;
   named-row = h .named-row;
+  run-word = h .run-word;
 }
 
 core-words : (s : State) (m : List ℕ) (e : ℕ) → Words s → length m ≡ 16 → ((i : ℕ) → getD m i 0 < 2 ^ 16) → e < 2 ^ 16 → Words (withCore s m e)
@@ -132,6 +137,7 @@ core-words s m e h l r c = record {
   weak-rows = h .weak-rows;
   core-row = c;
   named-row = h .named-row;
+  run-word = h .run-word;
 }
 
 named-words : (s : State) (m : ℕ) → Words s → m < 2 ^ 16 → Words (withNamed s m)
@@ -143,6 +149,7 @@ named-words s m h l = record {
   weak-rows = h .weak-rows;
   core-row = h .core-row;
   named-row = l;
+  run-word = h .run-word;
 }
 
 -- ---- each call
@@ -190,10 +197,10 @@ module _ (s : State) (b i o : List ℕ) (h : Words s) (few : s .settings .n ≤ 
       (coreOf settled (s .settings .n) (s .settings .t)) open-words settled-length settled-rows core-below)
   call-words Choose = by Choose _ (of-choose s b i o) open-words
   call-words Finish =
-      let f = finished (s .settings .n) (s .settings .t) (s .settings .k) (s .core) i b in
+      let f = finished (s .settings .n) (s .settings .t) (inboxLayout s) (s .core) i b in
       by Finish _ (of-finish s b i o)
       (named-words (advanced s (f .ending .outcome)) (f .ending .named) (advanced-words s (f .ending .outcome) h l)
-      (finished-lt (s .settings .n) (s .settings .t) (s .settings .k) (s .core) i b few))
+      (finished-lt (s .settings .n) (s .settings .t) (inboxLayout s) (s .core) i b few))
   call-words Outside = by Outside _ (of-outside s b i o) h
 
 pub step-words : (s : State) (b i o : List ℕ) → Words s → Words (stepOf s b i o .answer .state)

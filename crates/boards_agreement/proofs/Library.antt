@@ -19,10 +19,11 @@ use Rattle.protocol.specs.declared.State.{State}
 use Rattle.protocol.specs.Step.{startOf}
 use Rattle.protocol.proofs.Laws.{step-refused, step-number}
 use Rattle.agreement.specs.Run.{Lent, Local, Made, stepped, left, carriedOut, leftAfter, made, calls, begun}
-use Rattle.agreement.specs.Agreement.{System, Correct, Supposed, Holds, atStart, callsOf, atEnd, last, noCall, call, lastInbox}
+use Rattle.agreement.specs.Agreement.{System, Correct, Supposed, Holds, atStart, callsOf, atEnd, last, noCall, call, pieceLayout}
+use Rattle.agreement.specs.Agreement.{lastInbox}
 use Rattle.agreement.specs.Held.{blockAfter, coreAfter}
 use Rattle.agreement.proofs.Laws.{At, coded, length-block, call-at, call-last, agreement, named-by-last, no-correct-named, named-by-many}
-use Rattle.agreement.proofs.Laws.{by-index, held-by-many, held-on, all-in-core}
+use Rattle.agreement.proofs.Laws.{by-index, late-named, held-by-many, held-on, all-in-core}
 use Rattle.state_bytes.specs.State.{stateLength, stateBytes, stateOf, Words}
 use Rattle.state_bytes.proofs.Laws.{read-written}
 use Rattle.bitset.specs.Set.{member}
@@ -31,9 +32,9 @@ use Rattle.reconstruction.specs.declared.Outcome.the-variants.{Agreed}
 use Rattle.reconstruction.specs.Outcomes.{outcomeNumber}
 use Rattle.reconstruction.proofs.Laws.{agreed-number}
 use Rattle.boards.specs.Boards.{ReturnedStep, returnedStep, stepAsBytes, returned, Returned, outcomeIn, namedIn, finalBytes}
-use Rattle.boards.proofs.Laws.{start-bytes, step-bytes, outcome-bytes, named-bytes, final-bytes, final-same}
+use Rattle.boards.proofs.Laws.{start-bytes, step-bytes, late-bytes, outcome-bytes, named-bytes, final-bytes, final-same}
 use Rattle.boards_agreement.specs.Library.{Kept, makes, kept, keptAfter, keptFrom, LibraryRuns, keptAt, SetByLastCall, LibraryAgrees, LibraryNames}
-use Rattle.boards_agreement.specs.Library.{callsKept, noneKept, keptAfterCall, LibraryHeld}
+use Rattle.boards_agreement.specs.Library.{callsKept, noneKept, keptAfterCall, LibraryHeld, LibraryLate}
 use Rattle.boards_agreement.proofs.Bounds.{start-words, step-words}
 
 -- what is held, with the state as bytes
@@ -83,33 +84,34 @@ calls-same h (l ∷ ls) w =
     go false q m lt = q m lt
 
 -- ---- from the start
-module _ (s : Settings) (own : ℕ) (b buffer : List ℕ) (size : length buffer ≡ stateLength) (started : startOf s own (length b) .number ≡ 0) where
-  from-same : keptFrom s own b buffer ≡ asKept (begun s own b)
+module _ (s : Settings) (own run : ℕ) (b buffer : List ℕ) (few : run < 65536) (size : length buffer ≡ stateLength)
+    (started : startOf s own run (length b) .number ≡ 0) where
+  from-same : keptFrom s own run b buffer ≡ asKept (begun s own run b)
   unfolding asKept
-  from-same = ap (λ (x : Returned). record { state = x .bytes; block = b }) (start-bytes s own (length b) buffer size started)
+  from-same = ap (λ (x : Returned). record { state = x .bytes; block = b }) (start-bytes s own run (length b) buffer size started)
 
-  begun-words : Words (begun s own b .state)
-  begun-words = start-words s own (length b)
+  begun-words : Words (begun s own run b .state)
+  begun-words = start-words s own run (length b) few
 
-  run-same : (ls : List Lent) → keptAfter (keptFrom s own b buffer) ls ≡ asKept (leftAfter (begun s own b) ls)
-  run-same ls = ap (λ (c : Kept). keptAfter c ls) from-same ∙ after-same (begun s own b) ls begun-words
+  run-same : (ls : List Lent) → keptAfter (keptFrom s own run b buffer) ls ≡ asKept (leftAfter (begun s own run b) ls)
+  run-same ls = ap (λ (c : Kept). keptAfter c ls) from-same ∙ after-same (begun s own run b) ls begun-words
 
-  run-calls : (ls : List Lent) → SameCalls (callsKept (keptFrom s own b buffer) ls) (calls (begun s own b) ls)
+  run-calls : (ls : List Lent) → SameCalls (callsKept (keptFrom s own run b buffer) ls) (calls (begun s own run b) ls)
   run-calls ls =
-      subst (λ (c : Kept). SameCalls (callsKept c ls) (calls (begun s own b) ls)) (sym from-same) (calls-same (begun s own b) ls begun-words)
+      subst (λ (c : Kept). SameCalls (callsKept c ls) (calls (begun s own run b) ls)) (sym from-same) (calls-same (begun s own run b) ls begun-words)
 
 pub library-runs : LibraryRuns
-library-runs s own b buffer size ls l started =
-    ap (λ (c : Kept). makes c l) (run-same s own b buffer size started ls)
-    ∙ makes-same (leftAfter (begun s own b) ls) (ends-words (begun s own b) ls (begun-words s own b buffer size started)) l
+library-runs s own run b buffer few size ls l started =
+    ap (λ (c : Kept). makes c l) (run-same s own run b buffer few size started ls)
+    ∙ makes-same (leftAfter (begun s own run b) ls) (ends-words (begun s own run b) ls (begun-words s own run b buffer few size started)) l
 
 -- ---- systems
 module _ (S : System) (supposed : Supposed S) (buffers : ℕ → List ℕ) (sizes : (i : ℕ) → length (buffers i) ≡ stateLength) where
   at : (i : ℕ) → Correct S i → keptAt S buffers i ≡ asKept (atEnd S i)
-  at i c = run-same (S .settings) i (S .block i) (buffers i) (sizes i) (supposed .started i c) (S .steps i)
+  at i c = run-same (S .settings) i (S .run) (S .block i) (buffers i) (S .run-most) (sizes i) (supposed .started i c) (S .steps i)
 
   end-words : (i : ℕ) → Words (atEnd S i .state)
-  end-words i = ends-words (atStart S i) (S .steps i) (start-words (S .settings) i (length (S .block i)))
+  end-words i = ends-words (atStart S i) (S .steps i) (start-words (S .settings) i (S .run) (length (S .block i)) (S .run-most))
 
   -- what the state and the block at the end are, as the library keeps them
   outcome-at : (i : ℕ) → Correct S i → outcomeIn (keptAt S buffers i .state) ≡ outcomeNumber (atEnd S i .state .outcome)
@@ -128,7 +130,7 @@ module _ (S : System) (supposed : Supposed S) (buffers : ℕ → List ℕ) (size
   call-kept : (i : ℕ) → Correct S i → (c : ℕ) → 1 ≤ c → c ≤ last S
       → (keptAfterCall S buffers i c ≡ asKept (call S i c .after)) × Words (call S i c .after .state)
   call-kept i f c least most =
-      run-calls (S .settings) i (S .block i) (buffers i) (sizes i) (supposed .started i f) (S .steps i) (c - 1)
+      run-calls (S .settings) i (S .run) (S .block i) (buffers i) (S .run-most) (sizes i) (supposed .started i f) (S .steps i) (c - 1)
       (let all : length (callsOf S i) ≡ last S = supposed .finished i f in omega arith)
 
   block-after : (i : ℕ) → Correct S i → (c : ℕ) → 1 ≤ c → c ≤ last S → keptAfterCall S buffers i c .block ≡ blockAfter S i c
@@ -170,7 +172,7 @@ module _ (S : System) (supposed : Supposed S) (buffers : ℕ → List ℕ) (size
   end-size : (i : ℕ) → Correct S i → blockSize (atEnd S i .state .settings .n) (atEnd S i .state .settings .t) (atEnd S i .state .settings .k) ≡ blockSize
       (S .settings .n) (S .settings .t) (S .settings .k)
   end-size i c =
-      let a = subst (At (S .settings) i (last S + 1)) (call-last S supposed i c)
+      let a = subst (At (S .settings) i (S .run) (last S + 1)) (call-last S supposed i c)
       (call-at S supposed i c (last S) (omega arith) (omega arith) .after-at) in
       ap (λ (x : Settings). blockSize (x .n) (x .t) (x .k)) (a .settings-is)
 
@@ -226,9 +228,12 @@ library-names S supposed buffers sizes =
     record {
       agreed = λ i c e.
           named i c ∙ named-by-last S supposed i c .agreed (agreed-number (atEnd S i .state .outcome) (sym (outcome i c) ∙ e))
-          ∙ ap (namedOf (S .settings .n) (S .settings .t) (S .settings .k) (lastInbox S i)) (sym (block-at S supposed buffers sizes i c));
+          ∙ ap (namedOf (S .settings .n) (S .settings .t) (pieceLayout S) (lastInbox S i)) (sym (block-at S supposed buffers sizes i c));
       other = λ i c n. named i c ∙ named-by-last S supposed i c .other (λ e. n (outcome i c ∙ ap outcomeNumber e));
       no-correct = λ i j c d. ap (λ (m : ℕ). member m (j - 1)) (named i c) ∙ no-correct-named S supposed i j c d;
+      late = λ i j c least most e o.
+          ap (λ (m : ℕ). member m (j - 1)) (named i c)
+          ∙ late-named S supposed i j c least most (agreed-number (atEnd S i .state .outcome) (sym (outcome i c) ∙ e)) o;
       by-many = λ shown marks. named-by-many S supposed shown (λ i c. marks i c ∙ named i c);
     }
 
@@ -256,3 +261,7 @@ library-held S supposed buffers sizes =
           ap (λ (m : ℕ). member m (j - 1)) (core-after S supposed buffers sizes i c x (omega (arith, least)) most)
           ∙ all-in-core S supposed s i j c d x least most;
     }
+
+-- late messages
+pub library-late : LibraryLate
+library-late = late-bytes

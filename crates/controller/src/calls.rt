@@ -37,14 +37,14 @@ fn inbox_layout(s: State) -> Layout
     requires { ⌜ Bounded s ⌝ }
     ensures { λ r. ⌜ r ≡ inboxLayout s ⌝ }
 {
-    wire::round_layout(s.settings.n, s.settings.t, s.settings.k, s.next - 1)
+    wire::round_layout(s.run, s.settings.n, s.settings.t, s.settings.k, s.next - 1)
 }
 
 // The layout of the slots in the outbox of the next call.
 fn outbox_layout(s: State) -> Layout
     ensures { λ r. ⌜ r ≡ outboxLayout s ⌝ }
 {
-    wire::round_layout(s.settings.n, s.settings.t, s.settings.k, s.next)
+    wire::round_layout(s.run, s.settings.n, s.settings.t, s.settings.k, s.next)
 }
 
 // Call 1.
@@ -72,6 +72,7 @@ fn receive_call(s: State, block: &mut [u8], inbox: &[u8], outbox: &mut [u8]) -> 
     let layout = inbox_layout(s);
     dispersal::receive_block(inbox, layout, s.settings.sender, block);
     dispersal::send_pieces(
+        s.run,
         s.settings.n,
         s.settings.t,
         s.settings.k,
@@ -186,6 +187,7 @@ fn core_call(s: State, block: &[u8], inbox: &[u8], outbox: &mut [u8]) -> State
     let sets = star::find(&rows, s.settings.n, s.settings.t);
     let core = sets.e;
     reconstruction::forward(
+        s.run,
         s.settings.n,
         s.settings.t,
         s.settings.k,
@@ -223,14 +225,8 @@ fn finish_call(s: State, block: &mut [u8], inbox: &[u8]) -> State
     requires { ⌜ Bounded s ⌝ }
     ensures { λ r. ⌜ carried r (now (block .exit)) [] ≡ finishCall s (now (block .entry)) (now (inbox .entry)) [] ⌝ }
 {
-    let ending = reconstruction::finish(
-        s.settings.n,
-        s.settings.t,
-        s.settings.k,
-        s.core,
-        inbox,
-        block,
-    );
+    let layout = inbox_layout(s);
+    let ending = reconstruction::finish(s.settings.n, s.settings.t, layout, s.core, inbox, block);
     let outcome = ending.outcome;
     let next = advance(s, outcome);
     with_named(next, ending.named)

@@ -17,14 +17,14 @@ use refusal::start_refusal;
 use refusal::step_refusal;
 use settings::Settings;
 
-// Begins a run; the block is neither read nor changed. Refused: the zero state.
-// Shut out: a start carried out that returns 1; a refused one whose state has a next call.
-pub fn start(s: Settings, own: usize, block: &[u8]) -> Started
-    ensures { λ r. ⌜ r ≡ startOf s own (length (now (block .entry))) ⌝ }
+// Begins the run with the number `run`; the block is neither read nor changed. Refused: the zero state.
+// Shut out: a start carried out that returns 1; a refused one whose state has a next call; run 0, whatever is given.
+pub fn start(s: Settings, own: usize, run: u16, block: &[u8]) -> Started
+    ensures { λ r. ⌜ r ≡ startOf s own run (length (now (block .entry))) ⌝ }
 {
     let number = start_refusal(s, own, block.len());
     if number == 0 {
-        let state = initial(s, own, 1);
+        let state = initial(s, own, run, 1);
         return Started { number: 0, state };
     }
     let state = zero_state();

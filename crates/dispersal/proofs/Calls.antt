@@ -3,7 +3,7 @@
 -- block B is marked), `row-of-marks` (the marks are read back), `bytes-marks` (they are sent as bytes).
 use mathlib.Core.Path.{_≡_, refl, sym, ap, subst, _∙_}
 use mathlib.Core.Logic.{⊎-elim}
-use mathlib.Core.Bool.{Bool, true, not}
+use mathlib.Core.Bool.{Bool, true, not, cond, _&&_, _||_}
 use mathlib.Core.List.{List, _++_}
 use Prim.Native.Nat.{ℕ, zero, suc, _+_, _*_, _≤_, _<_}
 use native.Mathlib.Omega.{arith}
@@ -22,7 +22,7 @@ use Rattle.settings.specs.Valid.{Coded, Numbered}
 use Rattle.wire.specs.declared.slot.Layout.{Layout}
 use Rattle.wire.specs.declared.Round.the-variants.{Pieces}
 use Rattle.wire.specs.Length.{blockLength, kindLayout}
-use Rattle.wire.specs.Slot.{width, messageOf, bytes, slots, toAll, copied}
+use Rattle.wire.specs.Slot.{width, messageOf, bytes, slots, toAll, copied, SameMessages}
 use Rattle.wire.proofs.Laws.{to-all, length-message, message-all, copied-all, length-copied}
 use Rattle.reed_solomon.specs.Encode.{pieceOf, isReady}
 use Rattle.reed_solomon.proofs.Laws.{yes-ready}
@@ -93,12 +93,12 @@ module _ (n t k own : ℕ) (b : List ℕ) (v : Coded n t k) (w : Numbered n own)
   ready fits e = yes-ready n t k own b fits (record { coded = v; number = w; size = size }) e
 
   -- round 2
-  pub sent-pieces : (o : List ℕ) → length o ≡ n * width (kindLayout Pieces n t k)
-      → sentPieces n t k own b o ≡ slots (kindLayout Pieces n t k) (twoPieces k t own b) n
+  pub sent-pieces : (run : ℕ) (o : List ℕ) → length o ≡ n * width (kindLayout run Pieces n t k)
+      → sentPieces run n t k own b o ≡ slots (kindLayout run Pieces n t k) (twoPieces k t own b) n
   unfolding sentPieces
-  sent-pieces o e =
-      let w = n * width (kindLayout Pieces n t k) in
-      cond-yes (isReady n t k own b (eqb (length o) w)) (slots (kindLayout Pieces n t k) (twoPieces k t own b) n) o
+  sent-pieces run o e =
+      let w = n * width (kindLayout run Pieces n t k) in
+      cond-yes (isReady n t k own b (eqb (length o) w)) (slots (kindLayout run Pieces n t k) (twoPieces k t own b) n) o
       (ready (eqb (length o) w) (eq-eqb (length o) w e))
 
   -- the marks, as members of a set
@@ -149,6 +149,24 @@ module _ (k t own : ℕ) (inbox : List ℕ) (layout : Layout) (b : List ℕ) (j 
 pub marked-self : (k t own : ℕ) (inbox : List ℕ) (layout : Layout) (b : List ℕ) → isMarked k t own inbox layout b own ≡ true
 unfolding isMarked
 marked-self k t own inbox layout b = or-left (eqb own own) _ (eq-eqb own own refl)
+
+-- ---- boxes with one message in each slot
+module _ (layout : Layout) (inbox other : List ℕ) (h : SameMessages layout inbox other) where
+  pub received-same : (sender : ℕ) (b : List ℕ) → receivedBlock inbox layout sender b ≡ receivedBlock other layout sender b
+  unfolding receivedBlock
+  received-same sender b =
+      ap (λ (m : List ℕ). cond (eqb sender 0) b (cond (eqb (length m) 0) (replicate (length b) 0) (copied m b))) (h sender)
+
+  pub marks-same : (n t k own : ℕ) (b : List ℕ) → marksOf n t k own inbox layout b ≡ marksOf n t k own other layout b
+  unfolding marksOf isMarked
+  marks-same n t k own b =
+      λ x.
+      cond (isReady n t k own b true)
+      (setOf n (λ i.
+      eqb (i + 1) own
+      || (not (eqb (length (h (i + 1) x)) 0)
+      && (same (take k (h (i + 1) x)) (pieceOf k t b (i + 1)) && same (drop k (h (i + 1) x)) (pieceOf k t b own)))))
+      0
 
 -- ---- the marks as a message
 pub length-marks : (n s : ℕ) → length (marksMessage n s) ≡ 2

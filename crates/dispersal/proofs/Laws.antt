@@ -11,5 +11,8 @@
 --     marked-self                 oneself always is
 --     length-marks, bytes-marks   the marks as a message
 --     sent-marks, row-of-marks    they are sent to all, and read back
+--   Inboxes with one message in each slot
+--     received-same, marks-same   give one block, and one set of marks
 pub use Rattle.dispersal.proofs.Calls.{sent-block, sent-silence, received-kept, received-message, length-received, received-all, sent-pieces}
 pub use Rattle.dispersal.proofs.Calls.{two-pieces-is, marks-set, marked-yes, yes-marked, marked-self, length-marks, bytes-marks, sent-marks, row-of-marks}
+pub use Rattle.dispersal.proofs.Calls.{received-same, marks-same}

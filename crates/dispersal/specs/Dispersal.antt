@@ -4,7 +4,7 @@
 --   sentBlock layout n own sender b o    call 1: the sender's block to all; silence from everyone else
 --   receivedBlock inbox layout sender b  call 2: the block is the sender's message, or zeros if absent; without a sender the lent block is kept
 --   twoPieces k t own b j                round 2, to j: the own piece, then piece j of the own coding
---   sentPieces n t k own b o             call 2: that to each j
+--   sentPieces run n t k own b o         call 2: that to each j, in slots of the run with the number `run`
 --   isMarked k t own inbox layout b j    call 3: j's slot is present, its first piece equals piece j of the own coding, and its second equals the own
 --                                        piece; oneself is always marked
 --   marksOf n t k own inbox layout b     call 3: the set of those marked, index j - 1 for controller j (document 01: marks)
@@ -34,9 +34,9 @@ receivedBlock inbox layout sender block =
 unfoldable pub twoPieces : (k t own : ℕ) → List ℕ → ℕ → Sent
 twoPieces k t own block j = bytes (pieceOf k t block own ++ pieceOf k t block j)
 
-unfoldable pub sentPieces : (n t k own : ℕ) → List ℕ → List ℕ → List ℕ
-sentPieces n t k own block outbox =
-    let layout = kindLayout Pieces n t k in
+unfoldable pub sentPieces : (run n t k own : ℕ) → List ℕ → List ℕ → List ℕ
+sentPieces run n t k own block outbox =
+    let layout = kindLayout run Pieces n t k in
     cond (isReady n t k own block (eqb (length outbox) (n * width layout))) (slots layout (twoPieces k t own block) n) outbox
 
 unfoldable pub isMarked : (k t own : ℕ) → List ℕ → Layout → List ℕ → ℕ → Bool

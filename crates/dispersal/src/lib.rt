@@ -6,7 +6,6 @@ ghost use Prim.Native.Nat.{_+_, _*_, _≤_};
 ghost use lib.ListN.{length, take, drop};
 ghost use Rattle.lists.specs.Same.{same};
 ghost use Rattle.bitset.specs.Set.{setOf};
-ghost use Rattle.wire.specs.Length.{kindLayout};
 ghost use Rattle.wire.specs.Slot.{width, slots};
 ghost use Rattle.reed_solomon.specs.Encode.{pieceOf, Coding};
 ghost use Rattle.dispersal.specs.Dispersal.{sentBlock, receivedBlock, twoPieces, sentPieces, isMarked, marksOf, sentMarks};
@@ -90,7 +89,7 @@ fn send_both(
     block: &[u8],
     outbox: &mut [u8],
 )
-    requires { ⌜ Coding n t k own (now block) × (layout ≡ kindLayout Round.Pieces n t k) × (length (now outbox) ≡ n * width layout) ⌝ }
+    requires { ⌜ Coding n t k own (now block) × (layout .length ≡ 2 * k) × (length (now outbox) ≡ n * width layout) ⌝ }
     ensures { λ _. ⌜ now (outbox .exit) ≡ slots layout (twoPieces k t own (now (block .entry))) n ⌝ }
 {
     let mut m = [0u8; 256];
@@ -99,11 +98,19 @@ fn send_both(
 }
 
 // Call 2: to each controller the own piece, then its piece of the own coding. Refused settings or lengths: nothing is written.
-// Shut out: the own piece twice; must-fail/outbox_untouched; must-fail/first_slot_left; must-fail/round_2_unwritten.
-pub fn send_pieces(n: usize, t: usize, k: usize, own: usize, block: &[u8], outbox: &mut [u8])
-    ensures { λ _. ⌜ now (outbox .exit) ≡ sentPieces n t k own (now (block .entry)) (now (outbox .entry)) ⌝ }
+// Shut out: the own piece twice; run 0, whatever is given; must-fail/outbox_untouched; must-fail/first_slot_left; must-fail/round_2_unwritten.
+pub fn send_pieces(
+    run: u16,
+    n: usize,
+    t: usize,
+    k: usize,
+    own: usize,
+    block: &[u8],
+    outbox: &mut [u8],
+)
+    ensures { λ _. ⌜ now (outbox .exit) ≡ sentPieces run n t k own (now (block .entry)) (now (outbox .entry)) ⌝ }
 {
-    let layout = wire::kind_layout(Round::Pieces, n, t, k);
+    let layout = wire::kind_layout(run, Round::Pieces, n, t, k);
     let fits = wire::holds_exactly(outbox, n, layout);
     if reed_solomon::is_ready(n, t, k, own, block, fits) {
         send_both(layout, n, t, k, own, block, outbox);
@@ -183,7 +190,7 @@ fn mark(n: usize, t: usize, k: usize, own: usize, inbox: &[u8], layout: Layout, 
     ensures { λ r. ⌜ r ≡ setOf n (λ i. isMarked k t own (now (inbox .entry)) layout (now (block .entry)) (i + 1)) ⌝ }
 {
     let mut m = [0u8; 256];
-    let pair = wire::kind_layout(Round::Pieces, n, t, k);
+    let pair = wire::kind_layout(layout.run, Round::Pieces, n, t, k);
     let end = pair.length;
     mark_each(n, t, k, own, inbox, layout, block, &mut m[..end])
 }
@@ -213,6 +220,6 @@ pub fn send_marks(layout: Layout, n: usize, s: u16, outbox: &mut [u8])
     ensures { λ _. ⌜ now (outbox .exit) ≡ sentMarks layout n s (now (outbox .entry)) ⌝ }
 {
     let set = bitset::restrict(s, n);
-    let m = [bitset::low(set), bitset::high(set)];
+    let m = [lists::low(set), lists::high(set)];
     wire::send_all(outbox, layout, n, &m);
 }

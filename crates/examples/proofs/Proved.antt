@@ -14,7 +14,7 @@ use Rattle.bitset.specs.Set.{member, setOf, sizeOf}
 use Rattle.gf256.specs.Field.{gadd, gmul, ginv, gpow, polyMul, reduce}
 use Rattle.settings.specs.Refusal.{outside, tooMany, broken, refusalOf, encodingRefusal, decodingRefusal, starRefusal}
 use Rattle.wire.specs.Length.{blockLength}
-use Rattle.wire.specs.Slot.{width, slotOf, holds, isPresent, messageOf}
+use Rattle.wire.specs.Slot.{layoutWith, width, slotOf, holds, runIn, isPresent, messageOf}
 use Rattle.polynomial.specs.Polynomial.{Bytes, gsum, evaluate, horner, plus, scale, timesRoot}
 use Rattle.interpolation.specs.Interpolation.{wrongBy, combine, withRoot, start, advance, next, run, smaller, reduced, series, candidate}
 use Rattle.reed_solomon.specs.Encode.{stripe, pieceOf, encodeRefusal, encodeOf}
@@ -40,16 +40,16 @@ bytes-d (suc (suc i)) = lit< tt
 
 example-d : decodes 0x00 0x22 0x36 0x5a (Block 1) (0x0a ∷ 0x14 ∷ [])
 unfolding sum count tabulate filled same setOf gadd gmul gpow polyMul reduce outside tooMany broken refusalOf encodingRefusal decodingRefusal starRefusal
-    blockLength width slotOf part holds isPresent messageOf gsum evaluate stripe pieceOf hasPiece received presentCount differing isNamed namedOf meets
+    blockLength width slotOf part holds runIn isPresent messageOf gsum evaluate stripe pieceOf hasPiece received presentCount differing isNamed namedOf meets
     decodeRefusal
-example-d = (refl, meets-decodes 4 1 1 (fourPieces 0x00 0x22 0x36 0x5a) (0x0a ∷ 0x14 ∷ []) refl bytes-d refl, refl)
+example-d = (refl, meets-decodes 4 1 (layoutWith 0 1) (fourPieces 0x00 0x22 0x36 0x5a) (0x0a ∷ 0x14 ∷ []) refl bytes-d refl, refl)
 
 -- example e: too many of the pieces differ from the code of the candidate for the stripe, so no block meets the rule
 example-e : decodes 0x1e 0x22 0x37 0x5b Beyond (0 ∷ 0 ∷ [])
 unfolding sum count tabulate filled gadd gmul ginv gpow polyMul reduce outside tooMany broken refusalOf encodingRefusal decodingRefusal starRefusal
-    blockLength width slotOf part holds isPresent messageOf gsum evaluate horner plus scale timesRoot wrongBy combine withRoot start advance next run smaller
+    blockLength width slotOf part holds runIn isPresent messageOf gsum evaluate horner plus scale timesRoot wrongBy combine withRoot start advance next run smaller
     reduced series candidate hasPiece received selected points column differences decodeRefusal
-example-e = (refl, stripe-beyond 4 1 1 (fourPieces 0x1e 0x22 0x37 0x5b) (omega arith) 0 (omega arith) refl, refl)
+example-e = (refl, stripe-beyond 4 1 (layoutWith 0 1) (fourPieces 0x1e 0x22 0x37 0x5b) (omega arith) 0 (omega arith) refl, refl)
 
 pub examples : Examples
 unfolding sum count tabulate filled member setOf sizeOf gadd gmul gpow polyMul reduce outside tooMany broken refusalOf encodingRefusal decodingRefusal

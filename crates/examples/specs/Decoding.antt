@@ -10,6 +10,7 @@ use Prim.Native.Nat.{ℕ, _+_, _≤_}
 use lib.ListN.{length}
 use Rattle.lists.specs.Sum.{count}
 use Rattle.bitset.specs.Set.{setOf}
+use Rattle.wire.specs.declared.slot.Layout.{Layout}
 use Rattle.wire.specs.Length.{blockLength}
 use Rattle.wire.specs.Slot.{layoutWith, Sent, silence, bytes, slots}
 use Rattle.polynomial.specs.Polynomial.{Bytes}
@@ -22,10 +23,12 @@ sent silent k t B j = cond (silent j) silence (bytes (pieceOf k t B j))
 
 abbrev pub ThreeSilent : Type 0
 ThreeSilent =
-    (k : ℕ) (B before : List ℕ) (silent : ℕ → Bool) → 1 ≤ k → k ≤ 128 → length B ≡ blockLength k 2 → Bytes B → length before ≡ blockLength k 2
-    → count 7 (λ i. silent (i + 1)) ≡ 3 → Answers 7 2 k (slots (layoutWith k) (sent silent k 2 B) 7) before (Block (setOf 7 (λ i. silent (i + 1)))) B
+    (run k : ℕ) (B before : List ℕ) (silent : ℕ → Bool) → 1 ≤ k → k ≤ 128 → length B ≡ blockLength k 2 → Bytes B → length before ≡ blockLength k 2
+    → count 7 (λ i. silent (i + 1)) ≡ 3 → Answers 7 2 (layoutWith run k) (slots (layoutWith run k) (sent silent k 2 B) 7) before
+    (Block (setOf 7 (λ i. silent (i + 1)))) B
 
 abbrev pub SevenFalse : Type 0
 SevenFalse =
-    (k : ℕ) (slots B before : List ℕ) → decodeRefusal 16 1 k slots before ≡ 0 → length B ≡ blockLength k 1 → Bytes B → presentCount 16 k slots ≡ 16
-    → count 16 (λ i. isNamed 1 k slots B (i + 1)) ≤ 7 → Answers 16 1 k slots before (Block (namedOf 16 1 k slots B)) B
+    (layout : Layout) (slots B before : List ℕ) → decodeRefusal 16 1 layout slots before ≡ 0 → length B ≡ blockLength (layout .length) 1 → Bytes B
+    → presentCount 16 layout slots ≡ 16 → count 16 (λ i. isNamed 1 layout slots B (i + 1)) ≤ 7
+    → Answers 16 1 layout slots before (Block (namedOf 16 1 layout slots B)) B

@@ -1,6 +1,6 @@
 -- Document 01, 'Checked examples': each with its letter, over the definitions, as one table. Proved in proofs/Proved.antt.
 --   code i              what encoding gives controller i of the block 0a14, at n 4, t 1, k 1
---   fourPieces a b c d  four slots, each with a piece of one byte
+--   fourPieces a b c d  four slots of run 0, each with a piece of one byte
 --   decodes a b c d     what decoding answers, and leaves in a block of zeros, from four pieces, at n 4, t 1, k 1
 --   graph a b c d       16 rows of marks, of which the first four are given; mark i of a row has the value 2^(i - 1)
 --   Examples            the table, a to j
@@ -19,15 +19,16 @@ use Rattle.phase_king.specs.Bit.{zeroSeen, oneSeen}
 use Rattle.star.specs.Star.{noSets, starOf}
 use Rattle.wire.specs.declared.Round.the-variants.{Rebuild, Outside}
 use Rattle.wire.specs.Round.{roundCount, roundKind}
+use Rattle.wire.specs.Slot.{layoutWith}
 
 abbrev pub code : ℕ → Encoded
 code i = encodeOf 4 1 1 i (0x0a ∷ 0x14 ∷ []) (0 ∷ [])
 
 abbrev pub fourPieces : (a b c d : ℕ) → List ℕ
-fourPieces a b c d = 1 ∷ a ∷ 1 ∷ b ∷ 1 ∷ c ∷ 1 ∷ d ∷ []
+fourPieces a b c d = 1 ∷ 0 ∷ 0 ∷ a ∷ 1 ∷ 0 ∷ 0 ∷ b ∷ 1 ∷ 0 ∷ 0 ∷ c ∷ 1 ∷ 0 ∷ 0 ∷ d ∷ []
 
 abbrev pub decodes : (a b c d : ℕ) → Decoded → List ℕ → Type 0
-decodes a b c d = Answers 4 1 1 (fourPieces a b c d) (0 ∷ 0 ∷ [])
+decodes a b c d = Answers 4 1 (layoutWith 0 1) (fourPieces a b c d) (0 ∷ 0 ∷ [])
 
 abbrev pub graph : (a b c d : ℕ) → List ℕ
 graph a b c d = a ∷ b ∷ c ∷ d ∷ replicate 12 0

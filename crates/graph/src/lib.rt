@@ -1,9 +1,9 @@
 // The neighbour graph of rows of marks, held as its missing pairs (document 02, U9): 120 bits, one for each pair of different indices below
 // 16, in 15 bytes. Index i stands for controller i + 1.
 use bitset::insert;
-use bitset::low;
 use bitset::member;
-use bitset::wide;
+use lists::low;
+use lists::wide;
 ghost use mathlib.Core.Path.{_≡_};
 ghost use mathlib.Core.Bool.{not, _&&_, _||_};
 ghost use Prim.Native.Nat.{_-_, _*_, _%_, _^_, _<_, min};

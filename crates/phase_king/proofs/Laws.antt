@@ -17,11 +17,14 @@
 --   Matrices
 --     length-first   they have 16 rows; length-held, length-weak, length-settled
 --     first-lt       of 16 bits; held-lt, weak-lt, settled-lt
+--   Inboxes with one message in each slot
+--     first-same     give the same matrices; zeros-same, ones-same, held-same, weak-same, settled-same
 --   What is sent
 --     length-seen-few, bytes-seen   the zeros and ones as a message
 --     king-all, king-none           the king sends to all, everyone else is silent
 pub use Rattle.phase_king.proofs.Votes.{vote, in-order, vote-in-order, marks-kept, bit-validity, bit-king, bit-agreement, bit-kept, length-first}
 pub use Rattle.phase_king.proofs.Votes.{length-held, length-weak, length-settled, first-lt, held-lt, weak-lt, settled-lt, length-seen-few, bytes-seen}
 pub use Rattle.phase_king.proofs.Matrices.{said-absent, king-absent, king-past, said-matrix, said-zeros, said-ones, king-matrix, cell-zeros, cell-ones}
-pub use Rattle.phase_king.proofs.Matrices.{cell-held, cell-weak, cell-settled, first-row, phase-bit}
+pub use Rattle.phase_king.proofs.Matrices.{cell-held, cell-weak, cell-settled, first-row, phase-bit, first-same, zeros-same, ones-same, held-same}
+pub use Rattle.phase_king.proofs.Matrices.{weak-same, settled-same}
 pub use Rattle.phase_king.proofs.Writes.{king-all, king-none}

@@ -17,7 +17,7 @@ use Rattle.bitset.specs.Row.{rowOf, rowsOf}
 use Rattle.bitset.proofs.Laws.{member-over, set-lt, set-lt-16, member-set, set-ext, set-of-members, ext, restrict-lt, member-restrict, row-lt, row-none}
 use Rattle.bitset.proofs.Laws.{row-left, row-right, length-rows-few, row-read}
 use Rattle.wire.specs.declared.slot.Layout.{Layout}
-use Rattle.wire.specs.Slot.{messageOf}
+use Rattle.wire.specs.Slot.{messageOf, SameMessages}
 use Rattle.phase_king.specs.Bit.{zeroSeen, oneSeen, held, weak, settled}
 use Rattle.phase_king.specs.Matrix.{limit, cell, matrixOf, said, kingSays, firstMatrix, zerosOf, onesOf, heldOf, weakOf, settledOf, seenMessage}
 use Rattle.phase_king.specs.Vote.{CorrectIndex, Resilient, phaseCount, Kings, BitPhase, MatrixPhase, Vote, Agreed}
@@ -218,3 +218,36 @@ module _ (n t : ℕ) (correct : ℕ → Bool) (u : n ≤ 16) where
           (subst (λ (y : ℕ). y < 2 ^ n) (sym whole) (set-lt n (last i f .0 r))) (restrict-lt x n)
           (λ j h. bit-kept r j (member x j) l h (λ k g. ap (λ (y : ℕ). member y j) (e k g)) i f ∙ sym (member-restrict x n j h));
     }
+
+-- ---- inboxes with one message in each slot
+module _ (layout : Layout) (inbox other : List ℕ) (h : SameMessages layout inbox other) where
+  said-same : (n : ℕ) → said inbox layout n ≡ said other layout n
+  unfolding said
+  said-same n = λ x r j i. member (rowOf n (h (i + 1) x) r) j
+
+  pub first-same : (n : ℕ) → firstMatrix inbox layout n ≡ firstMatrix other layout n
+  unfolding firstMatrix
+  first-same n = λ x. matrixOf (limit n) (λ r j. said-same (limit n) x 0 j r)
+
+  pub zeros-same : (n t : ℕ) → zerosOf inbox layout n t ≡ zerosOf other layout n t
+  unfolding zerosOf
+  zeros-same n t = λ x. matrixOf (limit n) (λ r j. zeroSeen (limit n) t (said-same (limit n) x r j))
+
+  pub ones-same : (n t : ℕ) → onesOf inbox layout n t ≡ onesOf other layout n t
+  unfolding onesOf
+  ones-same n t = λ x. matrixOf (limit n) (λ r j. oneSeen (limit n) t (said-same (limit n) x r j))
+
+  pub held-same : (n t : ℕ) → heldOf inbox layout n t ≡ heldOf other layout n t
+  unfolding heldOf
+  held-same n t = λ x. matrixOf (limit n) (λ r j. held (limit n) t (said-same (limit n) x (limit n + r) j))
+
+  pub weak-same : (n t : ℕ) → weakOf inbox layout n t ≡ weakOf other layout n t
+  unfolding weakOf
+  weak-same n t = λ x. matrixOf (limit n) (λ r j. weak (limit n) t (said-same (limit n) x r j) (said-same (limit n) x (limit n + r) j))
+
+  pub settled-same : (rows low : List ℕ) (n king : ℕ) → settledOf rows low inbox layout n king ≡ settledOf rows low other layout n king
+  unfolding settledOf kingSays
+  settled-same rows low n king =
+      λ x.
+      matrixOf (limit n)
+      (λ r j. settled (cell rows r j) (cell low r j) (member (rowOf (limit n) (cond (leb king (limit n)) (h king x) []) r) j))

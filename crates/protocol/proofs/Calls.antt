@@ -1,6 +1,7 @@
 -- Laws of start and step. The main ones: `start-0` (what a start carried out says), `step-refused` and `step-carried` (a step hands everything back,
 -- or does its call), `of-send` to `of-outside` (what a call of each kind is), `step-0` and `0-step` (number 0 exactly where no row of the
--- table names the step), `8-step` (a finished run), and `call-keeps` (a call keeps the settings and the own number, and counts on).
+-- table names the step), `8-step` (a finished run), and `call-keeps` (a call keeps the settings, the own number and the run
+-- number, and counts on).
 use mathlib.Core.Path.{_≡_, refl, sym, ap, subst, _∙_}
 use mathlib.Core.Bool.{Bool, true, false, cond, not, _&&_, _||_}
 use mathlib.Core.List.{List}
@@ -11,7 +12,7 @@ use borrow.Author.Tests.{eq-eqb, ne-eqb, eqb-true, eqb-false, not-false}
 use lib.Dec.{eqb}
 use lib.ListN.{length}
 use Rattle.lists.proofs.Tests.{either, and-left, and-right, and-both, and-no-left, and-no-right, and-tail, or-neither, or-left, or-right, cond-yes, cond-no}
-use Rattle.lists.proofs.Tests.{cond-zero}
+use Rattle.lists.proofs.Tests.{cond-zero, same-or-not}
 use Rattle.settings.specs.declared.Settings.{Settings}
 use Rattle.settings.specs.declared.Entry.the-variants.{Start}
 use Rattle.settings.specs.Refusal.{outside, refusalOf, stateRefusal}
@@ -30,19 +31,19 @@ use Rattle.protocol.specs.Calls.{finishCall, callOf}
 use Rattle.protocol.specs.Step.{startRefusal, startOf, lengthsFit, stepRefusal, After, after, done, stepOf, Ready}
 
 -- ---- start
-module _ (s : Settings) (own b : ℕ) where
+module _ (s : Settings) (own run b : ℕ) where
   -- the number is that of the refusal
-  pub start-number : startOf s own b .number ≡ startRefusal s own b
+  pub start-number : startOf s own run b .number ≡ startRefusal s own b
   unfolding startOf
   start-number = go (eqb (startRefusal s own b) 0) refl
     where
       go : (x : Bool) → eqb (startRefusal s own b) 0 ≡ x
-          → cond {A = Started} x (record { number = 0; state = freshState s own }) (record { number = startRefusal s own b; state = zeroState }) .number
+          → cond {A = Started} x (record { number = 0; state = freshState s own run }) (record { number = startRefusal s own b; state = zeroState }) .number
           ≡ startRefusal s own b
       go true e = sym (eqb-true (startRefusal s own b) 0 e)
       go false e = refl
 
-  module _ (z : startOf s own b .number ≡ 0) where
+  module _ (z : startOf s own run b .number ≡ 0) where
     code : startRefusal s own b ≡ 0
     code = sym start-number ∙ z
 
@@ -52,11 +53,21 @@ module _ (s : Settings) (own b : ℕ) where
         let r = starting-0 s own (eqb b (blockLength (s .k) (s .t))) code in
         (r .0, eqb-true b (blockLength (s .k) (s .t)) (r .1))
 
-    pub start-state : startOf s own b .state ≡ freshState s own
+    pub start-state : startOf s own run b .state ≡ freshState s own run
     unfolding startOf
     start-state =
         ap (λ (x : Started). x .state)
         (cond-yes (eqb (startRefusal s own b) 0) _ _ (eq-eqb (startRefusal s own b) 0 code))
+
+-- the state that start returns has the run number that is given, or 0
+pub start-run : (P : ℕ → Type 0) (s : Settings) (own run b : ℕ) → P run → P 0 → P (startOf s own run b .state .run)
+unfolding startOf
+start-run P s own run b h z = go (eqb (startRefusal s own b) 0)
+  where
+    go : (x : Bool) → P (cond {A = Started} x (record { number = 0; state = freshState s own run })
+        (record { number = startRefusal s own b; state = zeroState }) .state .run)
+    go true = h
+    go false = z
 
 -- ---- step
 module _ (s : State) (b i o : List ℕ) where
@@ -180,26 +191,39 @@ module _ (s : State) (b i o : List ℕ) where
 pub record Keeps (s s′ : State) : Type 0 where
   pub settings : s′ .settings ≡ s .settings
   pub own : s′ .own ≡ s .own
+  pub run : s′ .run ≡ s .run
   pub next : s′ .next ≡ s .next + 1
 
 pub call-keeps : (c : Call) (s : State) (b i o : List ℕ) → (c ≡ Outside → ⊥) → Keeps s (callOf c s b i o .state)
 unfolding callOf
-call-keeps Send s b i o x = record { settings = refl; own = refl; next = refl }
-call-keeps Receive s b i o x = record { settings = refl; own = refl; next = refl }
-call-keeps Compare s b i o x = record { settings = refl; own = refl; next = refl }
-call-keeps Collect s b i o x = record { settings = refl; own = refl; next = refl }
-call-keeps Tally s b i o x = record { settings = refl; own = refl; next = refl }
-call-keeps Hold s b i o x = record { settings = refl; own = refl; next = refl }
-call-keeps Settle s b i o x = record { settings = refl; own = refl; next = refl }
-call-keeps Core s b i o x = record { settings = refl; own = refl; next = refl }
-call-keeps Choose s b i o x = record { settings = refl; own = refl; next = refl }
-call-keeps Finish s b i o x = record { settings = refl; own = refl; next = refl }
+call-keeps Send s b i o x = record { settings = refl; own = refl; run = refl; next = refl }
+call-keeps Receive s b i o x = record { settings = refl; own = refl; run = refl; next = refl }
+call-keeps Compare s b i o x = record { settings = refl; own = refl; run = refl; next = refl }
+call-keeps Collect s b i o x = record { settings = refl; own = refl; run = refl; next = refl }
+call-keeps Tally s b i o x = record { settings = refl; own = refl; run = refl; next = refl }
+call-keeps Hold s b i o x = record { settings = refl; own = refl; run = refl; next = refl }
+call-keeps Settle s b i o x = record { settings = refl; own = refl; run = refl; next = refl }
+call-keeps Core s b i o x = record { settings = refl; own = refl; run = refl; next = refl }
+call-keeps Choose s b i o x = record { settings = refl; own = refl; run = refl; next = refl }
+call-keeps Finish s b i o x = record { settings = refl; own = refl; run = refl; next = refl }
 call-keeps Outside s b i o x = absurd (x refl)
 
 -- a step that is carried out is a call of the run
 pub call-inside : (t c : ℕ) → 1 ≤ c → c ≤ 3 * t + 9 → callKind t c ≡ Outside → ⊥
 call-inside t c h l e =
     ⊎-elim (λ (z : c ≡ 0). omega arith) (λ (z : 3 * t + 9 < c). omega arith) (subst (λ (k : Call). Fact t c k) e (call-fact t c))
+
+-- a step keeps the run number, whether it is carried out or not
+pub step-run : (s : State) (b i o : List ℕ) → stepOf s b i o .answer .state .run ≡ s .run
+step-run s b i o =
+    let c = callKind (s .settings .t) (s .next) in
+    ⊎-elim
+    (λ (z : stepRefusal s (length b) (length i) (length o) ≡ 0).
+    let r = step-0 s (length b) (length i) (length o) z in
+    ap (λ (a : After). a .answer .state .run) (step-carried s b i o z)
+    ∙ call-keeps c s b i o (call-inside (s .settings .t) (s .next) (r .next-least) (r .next-most)) .run)
+    (λ (z : stepRefusal s (length b) (length i) (length o) ≡ 0 → ⊥). ap (λ (a : After). a .answer .state .run) (step-refused s b i o z))
+    (same-or-not (stepRefusal s (length b) (length i) (length o)) 0)
 
 -- only call 2 and the last call write the block
 pub call-block : (c : Call) (s : State) (b i o : List ℕ) → (c ≡ Receive → ⊥) → (c ≡ Finish → ⊥) → callOf c s b i o .block ≡ b
@@ -225,13 +249,13 @@ block-call t c h l =
 
 -- ---- the numbers, as the code finds them
 module _ (s : Settings) (own b : ℕ) where
-  pub start-found : (r : ℕ) → r ≡ startRefusal s own b → r ≡ 0 → startOf s own b ≡ record { number = 0; state = freshState s own }
+  pub start-found : (run r : ℕ) → r ≡ startRefusal s own b → r ≡ 0 → startOf s own run b ≡ record { number = 0; state = freshState s own run }
   unfolding startOf
-  start-found r e z = cond-yes (eqb (startRefusal s own b) 0) _ _ (eq-eqb (startRefusal s own b) 0 (sym e ∙ z))
+  start-found run r e z = cond-yes (eqb (startRefusal s own b) 0) _ _ (eq-eqb (startRefusal s own b) 0 (sym e ∙ z))
 
-  pub start-refused : (r : ℕ) → r ≡ startRefusal s own b → (r ≡ 0 → ⊥) → startOf s own b ≡ record { number = r; state = zeroState }
+  pub start-refused : (run r : ℕ) → r ≡ startRefusal s own b → (r ≡ 0 → ⊥) → startOf s own run b ≡ record { number = r; state = zeroState }
   unfolding startOf
-  start-refused r e z =
+  start-refused run r e z =
       cond-no (eqb (startRefusal s own b) 0) _ _ (ne-eqb (startRefusal s own b) 0 (λ q. z (e ∙ q)))
       ∙ ap (λ (x : ℕ). record { number = x; state = zeroState }) (sym e)
 

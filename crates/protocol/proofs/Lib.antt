@@ -1,3 +1,4 @@
 -- Laws for the crates above.
 pub mod Laws
 mod Calls
+mod Late

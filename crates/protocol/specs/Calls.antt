@@ -1,7 +1,7 @@
 -- The calls (document 01, 'Rounds'): what each leaves of the state, the block and the outbox. Call c reads the inbox of round c - 1 and fills
 -- the outbox of round c. Every call but the last sets the outcome to open, and names nobody.
 --   Carried, carried s b o     the state, the block and the outbox after a call carried out
---   inboxLayout s              the layout of the slots in the inbox of the next call
+--   inboxLayout s              the layout of the slots in the inbox of the next call, of the run whose number the state keeps
 --   outboxLayout s             and in its outbox
 --   readPhase s, writePhase s  the phase of the round that the next call reads, and of the round that it fills
 --   coreOf rows n t            the core: E of the star of the matrix
@@ -36,10 +36,10 @@ abbrev pub carried : State → List ℕ → List ℕ → Carried
 carried s b o = record { state = s; block = b; outbox = o }
 
 abbrev pub inboxLayout : State → Layout
-inboxLayout s = roundLayout (s .settings .n) (s .settings .t) (s .settings .k) (s .next - 1)
+inboxLayout s = roundLayout (s .run) (s .settings .n) (s .settings .t) (s .settings .k) (s .next - 1)
 
 abbrev pub outboxLayout : State → Layout
-outboxLayout s = roundLayout (s .settings .n) (s .settings .t) (s .settings .k) (s .next)
+outboxLayout s = roundLayout (s .run) (s .settings .n) (s .settings .t) (s .settings .k) (s .next)
 
 abbrev pub readPhase : State → ℕ
 readPhase s = phaseOf (s .next - 1)
@@ -61,7 +61,7 @@ sendCall s b o = carried (advanced s Open) b (sentBlock (outboxLayout s) (s .set
 abbrev pub receiveCall : State → List ℕ → List ℕ → List ℕ → Carried
 receiveCall s b i o =
     let b′ = receivedBlock i (inboxLayout s) (s .settings .sender) b in
-    carried (advanced s Open) b′ (sentPieces (s .settings .n) (s .settings .t) (s .settings .k) (s .own) b′ o)
+    carried (advanced s Open) b′ (sentPieces (s .run) (s .settings .n) (s .settings .t) (s .settings .k) (s .own) b′ o)
 
 -- call 3: the marks to all
 abbrev pub compareCall : State → List ℕ → List ℕ → List ℕ → Carried
@@ -102,7 +102,7 @@ abbrev pub coreCall : State → List ℕ → List ℕ → List ℕ → Carried
 coreCall s b i o =
     let m = settledMatrix s i in
     let e = coreOf m (s .settings .n) (s .settings .t) in
-    carried (withCore (advanced s Open) m e) b (forwarded (s .settings .n) (s .settings .t) (s .settings .k) (s .own) e b o)
+    carried (withCore (advanced s Open) m e) b (forwarded (s .run) (s .settings .n) (s .settings .t) (s .settings .k) (s .own) e b o)
 
 -- call 3t + 8: the own piece to all, if there is one
 abbrev pub chooseCall : State → List ℕ → List ℕ → List ℕ → Carried
@@ -111,7 +111,7 @@ chooseCall s b i o = carried (advanced s Open) b (shared (s .settings .n) (s .se
 -- the last call: decodes and writes the block; the outcome, and whom the controller names
 abbrev pub finishCall : State → List ℕ → List ℕ → List ℕ → Carried
 finishCall s b i o =
-    let f = finished (s .settings .n) (s .settings .t) (s .settings .k) (s .core) i b in
+    let f = finished (s .settings .n) (s .settings .t) (inboxLayout s) (s .core) i b in
     carried (withNamed (advanced s (f .ending .outcome)) (f .ending .named)) (f .block) o
 
 unfoldable pub callOf : Call → State → List ℕ → List ℕ → List ℕ → Carried

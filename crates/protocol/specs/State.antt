@@ -1,15 +1,15 @@
--- The state of a controller (document 01, 'The house'; document 02, U1). It is written out in two places: `initial`, from which the zero and the
+-- The state of a controller (document 01, 'The house'; document 02, U1 and U11). It is written out in two places: `initial`, from which the zero and the
 -- fresh state are made, and `changed`, by which each group of fields is changed.
---   initial s own next  the outcome open, and no matrix, weak bits or core, and nobody named
---   zeroState           all zero, and the outcome open
---   freshState s own    what start returns when carried out
---   changed s ..        the state s with the next call, the outcome, the matrix, the weak bits, the core and the marks of those named given
---   withCall s next w   with another next call, the outcome w and nobody named, whoever was
---   advanced s w        the state at the call after its next one, with the outcome w and nobody named
---   withMatrix s m      with another matrix
---   withVotes s m w     with another matrix, and the bits of it whose count was low
---   withCore s m e      with another matrix, and a core
---   withNamed s m       with the marks m of those named
+--   initial s own r next  the outcome open, and no matrix, weak bits or core, and nobody named; r is the run number
+--   zeroState             all zero, and the outcome open
+--   freshState s own r    what start returns when carried out
+--   changed s ..          the state s with the next call, the outcome, the matrix, the weak bits, the core and the marks of those named given
+--   withCall s next w     with another next call, the outcome w and nobody named, whoever was
+--   advanced s w          the state at the call after its next one, with the outcome w and nobody named
+--   withMatrix s m        with another matrix
+--   withVotes s m w       with another matrix, and the bits of it whose count was low
+--   withCore s m e        with another matrix, and a core
+--   withNamed s m         with the marks m of those named
 use mathlib.Core.List.{List}
 use Prim.Native.Nat.{ℕ, _+_}
 use lib.ListN.{replicate}
@@ -18,10 +18,11 @@ use Rattle.reconstruction.specs.declared.Outcome.{Outcome}
 use Rattle.reconstruction.specs.declared.Outcome.the-variants.{Open}
 use Rattle.protocol.specs.declared.State.{State}
 
-abbrev pub initial : Settings → (own next : ℕ) → State
-initial s own next = record {
+abbrev pub initial : Settings → (own run next : ℕ) → State
+initial s own run next = record {
   settings = s;
   own = own;
+  run = run;
   next = next;
   outcome = Open;
   matrix = replicate 16 0;
@@ -31,15 +32,16 @@ initial s own next = record {
 }
 
 abbrev pub zeroState : State
-zeroState = initial (record { n = 0; t = 0; k = 0; sender = 0 }) 0 0
+zeroState = initial (record { n = 0; t = 0; k = 0; sender = 0 }) 0 0 0
 
-abbrev pub freshState : Settings → (own : ℕ) → State
-freshState s own = initial s own 1
+abbrev pub freshState : Settings → (own run : ℕ) → State
+freshState s own run = initial s own run 1
 
 abbrev pub changed : State → (next : ℕ) → Outcome → (matrix weak : List ℕ) → (core named : ℕ) → State
 changed s next outcome matrix weak core named = record {
   settings = s .settings;
   own = s .own;
+  run = s .run;
   next = next;
   outcome = outcome;
   matrix = matrix;

@@ -1,6 +1,7 @@
--- Start and step: the number, the state and every lent byte, for all inputs (document 01, 'The house', 'Turned down').
+-- Start and step: the number, the state and every lent byte, for all inputs (document 01, 'The house', 'Turned down'). Start takes a run number, any
+-- of 16 bits, which the state keeps (document 02, U11): no row of the table names it.
 --   startRefusal s own b  start tries rows 1 to 6, in order; b is the length of the lent block
---   startOf s own b       the answer; refused, the zero state. Start neither reads nor changes the block
+--   startOf s own run b   the answer; refused, the zero state. Start neither reads nor changes the block
 --   lengthsFit s b i o    the lent block, inbox and outbox are as long as the next call states
 --   stepRefusal s b i o   a step tries 7, 8, 6
 --   After, after a b o    the answer of a step with the block and the outbox as it leaves them
@@ -28,10 +29,10 @@ use Rattle.protocol.specs.Calls.{Carried, callOf}
 unfoldable pub startRefusal : Settings → (own b : ℕ) → ℕ
 startRefusal s own b = refusalOf Start s own (eqb b (blockLength (s .k) (s .t)))
 
-unfoldable pub startOf : Settings → (own b : ℕ) → Started
-startOf s own b =
+unfoldable pub startOf : Settings → (own run b : ℕ) → Started
+startOf s own run b =
     cond (eqb (startRefusal s own b) 0)
-    (record { number = 0; state = freshState s own })
+    (record { number = 0; state = freshState s own run })
     (record { number = startRefusal s own b; state = zeroState })
 
 unfoldable pub lengthsFit : State → (b i o : ℕ) → Bool

@@ -1,15 +1,16 @@
-// The state of a controller, written out and changed here alone, and what start and step answer (document 01, 'The house'; document 02, U1). The
-// definitions of every call, of start and of step are in specs/.
+// The state of a controller, written out and changed here alone, and what start and step answer (document 01, 'The house'; document 02, U1 and U11).
+// The definitions of every call, of start and of step are in specs/.
 ghost use mathlib.Core.Path.{_≡_};
 ghost use Rattle.protocol.specs.State.{initial, zeroState, withCall, withMatrix, withVotes, withCore, withNamed};
 use reconstruction::Outcome;
 use settings::Settings;
 
-// The settings, the own number, the number of the next call, the outcome, the matrix of the vote with the bits whose count was low, the core, and
+// The settings, the own number, the run number, the number of the next call, the outcome, the matrix of the vote with the bits whose count was low, the core, and
 // the marks of those whom the controller names. The block is lent beside it.
 pub struct State {
     pub settings: Settings,
     pub own: usize,
+    pub run: u16,
     pub next: usize,
     pub outcome: Outcome,
     pub matrix: [u16; 16],
@@ -31,13 +32,14 @@ pub struct Stepped {
 }
 
 // A state with the outcome open, no matrix or core, and nobody named.
-// Shut out: the own number for the next call; a core of controller 1; controller 1 named.
-pub fn initial(settings: Settings, own: usize, next: usize) -> State
-    ensures { λ r. ⌜ r ≡ initial settings own next ⌝ }
+// Shut out: the own number for the next call; run 0, whatever is given; a core of controller 1; controller 1 named.
+pub fn initial(settings: Settings, own: usize, run: u16, next: usize) -> State
+    ensures { λ r. ⌜ r ≡ initial settings own run next ⌝ }
 {
     State {
         settings,
         own,
+        run,
         next,
         outcome: Outcome::Open,
         matrix: [0u16; 16],
@@ -48,7 +50,7 @@ pub fn initial(settings: Settings, own: usize, next: usize) -> State
 }
 
 // The zero state.
-// Shut out: next call 1; sender 1.
+// Shut out: next call 1; sender 1; run 1.
 pub fn zero_state() -> State
     ensures { λ r. ⌜ r ≡ zeroState ⌝ }
 {
@@ -58,11 +60,11 @@ pub fn zero_state() -> State
         k: 0,
         sender: 0,
     };
-    initial(none, 0, 0)
+    initial(none, 0, 0, 0)
 }
 
 // The state with another next call and outcome, and nobody named, whoever was.
-// Shut out: the next call as it was; the weak bits for the matrix; must-fail/named_kept.
+// Shut out: the next call as it was; the weak bits for the matrix; another run number; must-fail/named_kept.
 pub fn with_call(s: State, next: usize, outcome: Outcome) -> State
     ensures { λ r. ⌜ r ≡ withCall s next outcome ⌝ }
 {
@@ -73,6 +75,7 @@ pub fn with_call(s: State, next: usize, outcome: Outcome) -> State
     State {
         settings,
         own: s.own,
+        run: s.run,
         next,
         outcome,
         matrix,

@@ -22,14 +22,14 @@ use Rattle.settings.specs.Valid.{Coded, Numbered}
 use Rattle.wire.specs.declared.slot.Layout.{Layout}
 use Rattle.wire.specs.declared.Round.the-variants.{Forward, Rebuild}
 use Rattle.wire.specs.Length.{blockLength, kindLength, kindLayout}
-use Rattle.wire.specs.Slot.{width, messageOf, bytes, slots, toAll}
+use Rattle.wire.specs.Slot.{width, messageOf, bytes, slots, toAll, SameMessages}
 use Rattle.wire.proofs.Laws.{kind-length-is, row-forward, row-rebuild, to-all, length-message, message-all}
 use Rattle.reed_solomon.specs.Encode.{pieceOf, isReady}
 use Rattle.reed_solomon.specs.declared.Decoded.{Decoded}
 use Rattle.reed_solomon.specs.declared.Decoded.the-variants.{Block, Beyond, Refused}
 use Rattle.reed_solomon.specs.Decode.{decodeRefusal, Answers}
 use Rattle.reed_solomon.specs.First.{rebuilt}
-use Rattle.reed_solomon.proofs.Laws.{yes-ready, decode-0, rebuilt-block, rebuilt-none, named-lt}
+use Rattle.reed_solomon.proofs.Laws.{yes-ready, decode-0, rebuilt-block, rebuilt-none, named-lt, rebuilt-same, named-same, decode-refusal-same}
 use Rattle.reconstruction.specs.declared.Outcome.{Outcome}
 use Rattle.reconstruction.specs.declared.Outcome.the-variants.{Open, None}
 use Rattle.reconstruction.specs.declared.Outcome.the-variants as outcome
@@ -51,38 +51,38 @@ pub kind-rebuild : {n t k : ℕ} → Coded n t k → kindLength Rebuild n t k �
 kind-rebuild {n} {t} {k} v = kind-length-is v Rebuild ∙ row-rebuild n t k
 
 -- who is not in the core forwards nothing
-pub forwarded-other : (n t k own core : ℕ) (b o : List ℕ) → inCore core own ≡ false → forwarded n t k own core b o ≡ replicate (length o) 0
+pub forwarded-other : (run n t k own core : ℕ) (b o : List ℕ) → inCore core own ≡ false → forwarded run n t k own core b o ≡ replicate (length o) 0
 unfolding forwarded
-forwarded-other n t k own core b o e = cond-no (inCore core own) _ (replicate (length o) 0) e
+forwarded-other run n t k own core b o e = cond-no (inCore core own) _ (replicate (length o) 0) e
 
 module _ (n t k own : ℕ) (b : List ℕ) (v : Coded n t k) (w : Numbered n own) (size : length b ≡ blockLength k t) where
   ready : (o : List ℕ) (l : ℕ) → length o ≡ l → isReady n t k own b (eqb (length o) l) ≡ true
   ready o l e = yes-ready n t k own b (eqb (length o) l) (record { coded = v; number = w; size = size }) (eq-eqb (length o) l e)
 
   -- call 3t + 7
-  pub forwarded-member : (core : ℕ) (o : List ℕ) → inCore core own ≡ true → length o ≡ n * width (kindLayout Forward n t k)
-      → forwarded n t k own core b o ≡ slots (kindLayout Forward n t k) (λ j. bytes (pieceOf k t b j)) n
+  pub forwarded-member : (run core : ℕ) (o : List ℕ) → inCore core own ≡ true → length o ≡ n * width (kindLayout run Forward n t k)
+      → forwarded run n t k own core b o ≡ slots (kindLayout run Forward n t k) (λ j. bytes (pieceOf k t b j)) n
   unfolding forwarded
-  forwarded-member core o y e =
-      let l = n * width (kindLayout Forward n t k) in
+  forwarded-member run core o y e =
+      let l = n * width (kindLayout run Forward n t k) in
       cond-yes (inCore core own) _ (replicate (length o) 0) y
-      ∙ cond-yes (isReady n t k own b (eqb (length o) l)) (slots (kindLayout Forward n t k) (λ j. bytes (pieceOf k t b j)) n) o
+      ∙ cond-yes (isReady n t k own b (eqb (length o) l)) (slots (kindLayout run Forward n t k) (λ j. bytes (pieceOf k t b j)) n) o
       (ready o l e)
 
   -- call 3t + 8
-  module _ (core : ℕ) (inbox : List ℕ) (layout : Layout) (o : List ℕ) (e : length o ≡ n * width (kindLayout Rebuild n t k)) where
-    shared-is : shared n t k own core inbox layout b o ≡ sentPiece (kindLayout Rebuild n t k) n (ownPiece n t k own core inbox layout b) o
+  module _ (core : ℕ) (inbox : List ℕ) (layout : Layout) (o : List ℕ) (e : length o ≡ n * width (kindLayout (layout .run) Rebuild n t k)) where
+    shared-is : shared n t k own core inbox layout b o ≡ sentPiece (kindLayout (layout .run) Rebuild n t k) n (ownPiece n t k own core inbox layout b) o
     unfolding shared
     shared-is =
-        let l = n * width (kindLayout Rebuild n t k) in
-        cond-yes (isReady n t k own b (eqb (length o) l)) (sentPiece (kindLayout Rebuild n t k) n (ownPiece n t k own core inbox layout b) o) o
+        let l = n * width (kindLayout (layout .run) Rebuild n t k) in
+        cond-yes (isReady n t k own b (eqb (length o) l)) (sentPiece (kindLayout (layout .run) Rebuild n t k) n (ownPiece n t k own core inbox layout b) o) o
         (ready o l e)
 
     pub shared-sends : (m : List ℕ) → ownPiece n t k own core inbox layout b ≡ m → length m ≡ k
-        → shared n t k own core inbox layout b o ≡ slots (kindLayout Rebuild n t k) (λ _. bytes m) n
+        → shared n t k own core inbox layout b o ≡ slots (kindLayout (layout .run) Rebuild n t k) (λ _. bytes m) n
     unfolding sentPiece
     shared-sends m is-m long =
-        let out = kindLayout Rebuild n t k in
+        let out = kindLayout (layout .run) Rebuild n t k in
         shared-is
         ∙ ap (λ (x : List ℕ). sentPiece out n x o) is-m
         ∙ cond-no (eqb (length m) 0) (replicate (length o) 0) (toAll out n m o) (ne-eqb (length m) 0 (λ z. omega (arith, v .k-least)))
@@ -93,7 +93,7 @@ module _ (n t k own : ℕ) (b : List ℕ) (v : Coded n t k) (w : Numbered n own)
     unfolding sentPiece
     shared-none none =
         let m = ownPiece n t k own core inbox layout b in
-        shared-is ∙ cond-yes (eqb (length m) 0) (replicate (length o) 0) (toAll (kindLayout Rebuild n t k) n m o) (eq-eqb (length m) 0 none)
+        shared-is ∙ cond-yes (eqb (length m) 0) (replicate (length o) 0) (toAll (kindLayout (layout .run) Rebuild n t k) n m o) (eq-eqb (length m) 0 none)
 
 -- a member's piece is its own
 pub own-member : (n t k own core : ℕ) (inbox : List ℕ) (layout : Layout) (b : List ℕ) → inCore core own ≡ true
@@ -179,60 +179,94 @@ module _ (n t core : ℕ) (inbox : List ℕ) (layout : Layout) (good : ℕ → B
       (and-right (not (eqb (length (M (first n q))) 0)) _ (and-right (member core (first n q)) _ passes)))
 
 -- ---- the last call
-pub finished-none : (n t k core : ℕ) (inbox b : List ℕ) → restricted core n ≡ 0 → finished n t k core inbox b ≡ finish (ending None 0) (replicate (length b) 0)
+pub finished-none : (n t : ℕ) (layout : Layout) (core : ℕ) (inbox b : List ℕ) → restricted core n ≡ 0 → finished n t layout core inbox b ≡ finish (ending None 0) (replicate (length b) 0)
 unfolding finished
-finished-none n t k core inbox b e = cond-yes (eqb (restricted core n) 0) (finish (ending None 0) (replicate (length b) 0)) _ (eq-eqb (restricted core n) 0 e)
+finished-none n t layout core inbox b e = cond-yes (eqb (restricted core n) 0) (finish (ending None 0) (replicate (length b) 0)) _ (eq-eqb (restricted core n) 0 e)
 
 -- a core: what decoding gives
-with-core : (n t k core : ℕ) (inbox b : List ℕ) → (restricted core n ≡ 0 → ⊥)
-    → finished n t k core inbox b
-    ≡ cond (eqb (decodeRefusal n t k inbox b) 0) (finishedBy n t k inbox (length b) (rebuilt n t k inbox)) (finish (ending Open 0) b)
+with-core : (n t : ℕ) (layout : Layout) (core : ℕ) (inbox b : List ℕ) → (restricted core n ≡ 0 → ⊥)
+    → finished n t layout core inbox b
+    ≡ cond (eqb (decodeRefusal n t layout inbox b) 0) (finishedBy n t layout inbox (length b) (rebuilt n t layout inbox)) (finish (ending Open 0) b)
 unfolding finished
-with-core n t k core inbox b z = cond-no (eqb (restricted core n) 0) (finish (ending None 0) (replicate (length b) 0)) _ (ne-eqb (restricted core n) 0 z)
+with-core n t layout core inbox b z = cond-no (eqb (restricted core n) 0) (finish (ending None 0) (replicate (length b) 0)) _ (ne-eqb (restricted core n) 0 z)
 
 -- the block that meets the rule, or none
-ruled : (n t k core : ℕ) (inbox b : List ℕ) → (restricted core n ≡ 0 → ⊥) → decodeRefusal n t k inbox b ≡ 0
-    → finished n t k core inbox b ≡ finishedBy n t k inbox (length b) (rebuilt n t k inbox)
-ruled n t k core inbox b z e =
-    with-core n t k core inbox b z ∙ cond-yes (eqb (decodeRefusal n t k inbox b) 0) _ (finish (ending Open 0) b) (eq-eqb (decodeRefusal n t k inbox b) 0 e)
+ruled : (n t : ℕ) (layout : Layout) (core : ℕ) (inbox b : List ℕ) → (restricted core n ≡ 0 → ⊥) → decodeRefusal n t layout inbox b ≡ 0
+    → finished n t layout core inbox b ≡ finishedBy n t layout inbox (length b) (rebuilt n t layout inbox)
+ruled n t layout core inbox b z e =
+    with-core n t layout core inbox b z ∙ cond-yes (eqb (decodeRefusal n t layout inbox b) 0) _ (finish (ending Open 0) b) (eq-eqb (decodeRefusal n t layout inbox b) 0 e)
 
 pub finished-agreed : FinishedAgreed
-finished-agreed n t k core inbox b z e B d =
-    ruled n t k core inbox b z e
-    ∙ ap (finishedBy n t k inbox (length b)) (rebuilt-block n t k inbox (omega (arith, decode-0 n t k inbox b e .0 .quorum .n-most)) B d)
+finished-agreed n t layout core inbox b z e B d =
+    ruled n t layout core inbox b z e
+    ∙ ap (finishedBy n t layout inbox (length b)) (rebuilt-block n t layout inbox (omega (arith, decode-0 n t layout inbox b e .0 .quorum .n-most)) B d)
 
 pub finished-beyond : FinishedBeyond
-finished-beyond n t k core inbox b z e d = ruled n t k core inbox b z e ∙ ap (finishedBy n t k inbox (length b)) (rebuilt-none n t k inbox d)
+finished-beyond n t layout core inbox b z e d = ruled n t layout core inbox b z e ∙ ap (finishedBy n t layout inbox (length b)) (rebuilt-none n t layout inbox d)
 
 -- decoding refused: open, and the block as it was
-pub finished-refused : (n t k core : ℕ) (inbox b : List ℕ) → (restricted core n ≡ 0 → ⊥) → (decodeRefusal n t k inbox b ≡ 0 → ⊥)
-    → finished n t k core inbox b ≡ finish (ending Open 0) b
-finished-refused n t k core inbox b z e =
-    with-core n t k core inbox b z ∙ cond-no (eqb (decodeRefusal n t k inbox b) 0) _ (finish (ending Open 0) b) (ne-eqb (decodeRefusal n t k inbox b) 0 e)
+pub finished-refused : (n t : ℕ) (layout : Layout) (core : ℕ) (inbox b : List ℕ) → (restricted core n ≡ 0 → ⊥) → (decodeRefusal n t layout inbox b ≡ 0 → ⊥)
+    → finished n t layout core inbox b ≡ finish (ending Open 0) b
+finished-refused n t layout core inbox b z e =
+    with-core n t layout core inbox b z ∙ cond-no (eqb (decodeRefusal n t layout inbox b) 0) _ (finish (ending Open 0) b) (ne-eqb (decodeRefusal n t layout inbox b) 0 e)
 
 -- what decoding answers and leaves is what the last call sets
-pub finished-answers : (n t k core : ℕ) (inbox b : List ℕ) → (restricted core n ≡ 0 → ⊥) → (d : Decoded) (after : List ℕ)
-    → Answers n t k inbox b d after → finish (decodedEnding d) after ≡ finished n t k core inbox b
-finished-answers n t k core inbox b z (Block named) after h =
-    ap (λ (m : ℕ). finish (ending outcome.Agreed m) after) (h .2) ∙ sym (finished-agreed n t k core inbox b z (h .0) after (h .1))
-finished-answers n t k core inbox b z Beyond after h =
-    ap (finish (ending outcome.Beyond 0)) (h .2 ∙ ap (λ (x : ℕ). replicate x 0) (sym (decode-0 n t k inbox b (h .0) .2)))
-    ∙ sym (finished-beyond n t k core inbox b z (h .0) (h .1))
-finished-answers n t k core inbox b z (Refused r) after h =
-    ap (finish (ending Open 0)) (h .2) ∙ sym (finished-refused n t k core inbox b z (λ e. h .1 (h .0 ∙ e)))
+pub finished-answers : (n t : ℕ) (layout : Layout) (core : ℕ) (inbox b : List ℕ) → (restricted core n ≡ 0 → ⊥) → (d : Decoded) (after : List ℕ)
+    → Answers n t layout inbox b d after → finish (decodedEnding d) after ≡ finished n t layout core inbox b
+finished-answers n t layout core inbox b z (Block named) after h =
+    ap (λ (m : ℕ). finish (ending outcome.Agreed m) after) (h .2) ∙ sym (finished-agreed n t layout core inbox b z (h .0) after (h .1))
+finished-answers n t layout core inbox b z Beyond after h =
+    ap (finish (ending outcome.Beyond 0)) (h .2 ∙ ap (λ (x : ℕ). replicate x 0) (sym (decode-0 n t layout inbox b (h .0) .2)))
+    ∙ sym (finished-beyond n t layout core inbox b z (h .0) (h .1))
+finished-answers n t layout core inbox b z (Refused r) after h =
+    ap (finish (ending Open 0)) (h .2) ∙ sym (finished-refused n t layout core inbox b z (λ e. h .1 (h .0 ∙ e)))
 
 -- whoever is named is one of 16
-pub finished-lt : (n t k core : ℕ) (inbox b : List ℕ) → n ≤ 16 → finished n t k core inbox b .ending .named < 2 ^ 16
+pub finished-lt : (n t : ℕ) (layout : Layout) (core : ℕ) (inbox b : List ℕ) → n ≤ 16 → finished n t layout core inbox b .ending .named < 2 ^ 16
 unfolding finished
-finished-lt n t k core inbox b few = go (eqb (restricted core n) 0) (eqb (decodeRefusal n t k inbox b) 0) (rebuilt n t k inbox)
+finished-lt n t layout core inbox b few = go (eqb (restricted core n) 0) (eqb (decodeRefusal n t layout inbox b) 0) (rebuilt n t layout inbox)
   where
     go : (x y : Bool) (r : Option (List ℕ))
-        → cond x (finish (ending None 0) (replicate (length b) 0)) (cond y (finishedBy n t k inbox (length b) r) (finish (ending Open 0) b)) .ending .named
+        → cond x (finish (ending None 0) (replicate (length b) 0)) (cond y (finishedBy n t layout inbox (length b) r) (finish (ending Open 0) b)) .ending .named
         < 2 ^ 16
     go true y r = lit< tt
     go false false r = lit< tt
     go false true option.none = lit< tt
-    go false true (option.some B) = named-lt n t k inbox B few
+    go false true (option.some B) = named-lt n t layout inbox B few
+
+-- ---- inboxes with one message in each slot
+module _ (layout : Layout) (inbox other : List ℕ) (h : SameMessages layout inbox other) where
+  chosen-same : (n t core : ℕ) → chosenPiece n t core inbox layout ≡ chosenPiece n t core other layout
+  unfolding chosenPiece isChosen votes
+  chosen-same n t core =
+      λ x.
+      let is : ℕ → Bool = λ i.
+      member core i
+      && (not (eqb (length (h (i + 1) x)) 0) && leb (t + 1) (count n (λ j. member core j && same (h (j + 1) x) (h (i + 1) x)))) in
+      cond (ltb (first n is) n) (h (first n is + 1) x) []
+
+  -- give one piece to send
+  pub shared-same : (n t k own core : ℕ) (b o : List ℕ) → shared n t k own core inbox layout b o ≡ shared n t k own core other layout b o
+  unfolding shared ownPiece
+  shared-same n t k own core b o =
+      let out = kindLayout (layout .run) Rebuild n t k in
+      ap (λ (p : List ℕ). cond (isReady n t k own b (eqb (length o) (n * width out)))
+      (sentPiece out n (cond (inCore core own) (pieceOf k t b own) p) o) o) (chosen-same n t core)
+
+  -- and one ending
+  pub finished-same : (n t core : ℕ) (b : List ℕ) → length inbox ≡ length other → finished n t layout core inbox b ≡ finished n t layout core other b
+  unfolding finished
+  finished-same n t core b e =
+      λ x.
+      cond (eqb (restricted core n) 0)
+      (finish (ending None 0) (replicate (length b) 0))
+      (cond (eqb (decode-refusal-same layout inbox other h n t b e x) 0)
+      ((by-same n t (length b) (rebuilt n t layout inbox) ∙ ap (finishedBy n t layout other (length b)) (rebuilt-same layout inbox other h n t)) x)
+      (finish (ending Open 0) b))
+    where
+      by-same : (n t len : ℕ) (r : Option (List ℕ)) → finishedBy n t layout inbox len r ≡ finishedBy n t layout other len r
+      by-same n t len option.none = refl
+      by-same n t len (option.some B) = ap (λ (m : ℕ). finish (ending outcome.Agreed m) B) (named-same layout inbox other h n t B)
 
 -- agreed is known by its number
 pub agreed-number : (w : Outcome) → outcomeNumber w ≡ outcomeNumber outcome.Agreed → w ≡ outcome.Agreed

@@ -89,15 +89,24 @@ fn send_coding(layout: Layout, n: usize, t: usize, k: usize, block: &[u8], outbo
 }
 
 // Call 3t + 7: a core member sends to each j piece j of its own coding; others are silent.
-// Shut out: must-fail/member_silent; must-fail/last_slots_left.
-pub fn forward(n: usize, t: usize, k: usize, own: usize, core: u16, block: &[u8], outbox: &mut [u8])
-    ensures { λ _. ⌜ now (outbox .exit) ≡ forwarded n t k own core (now (block .entry)) (now (outbox .entry)) ⌝ }
+// Shut out: run 0, whatever is given; must-fail/member_silent; must-fail/last_slots_left.
+pub fn forward(
+    run: u16,
+    n: usize,
+    t: usize,
+    k: usize,
+    own: usize,
+    core: u16,
+    block: &[u8],
+    outbox: &mut [u8],
+)
+    ensures { λ _. ⌜ now (outbox .exit) ≡ forwarded run n t k own core (now (block .entry)) (now (outbox .entry)) ⌝ }
 {
     if !in_core(core, own) {
         wire::silence(outbox);
         return;
     }
-    let layout = wire::kind_layout(Round::Forward, n, t, k);
+    let layout = wire::kind_layout(run, Round::Forward, n, t, k);
     let fits = wire::holds_exactly(outbox, n, layout);
     if reed_solomon::is_ready(n, t, k, own, block, fits) {
         send_coding(layout, n, t, k, block, outbox);
@@ -226,7 +235,7 @@ pub fn share(
 )
     ensures { λ _. ⌜ now (outbox .exit) ≡ shared n t k own core (now (inbox .entry)) layout (now (block .entry)) (now (outbox .entry)) ⌝ }
 {
-    let out = wire::kind_layout(Round::Rebuild, n, t, k);
+    let out = wire::kind_layout(layout.run, Round::Rebuild, n, t, k);
     let fits = wire::holds_exactly(outbox, n, out);
     if !reed_solomon::is_ready(n, t, k, own, block, fits) {
         return;
@@ -261,8 +270,15 @@ fn decoded_ending(d: Decoded) -> Ending
 // The last call: no core: none and a block of zeros; else agreed, the block that meets decoding's rule and the marks of the slots that do not hold
 // their piece of it, or beyond and zeros where none does; where decoding is refused, open and the block as it was. Nobody is named but with agreed.
 // Shut out: everyone named where there is no core; nobody named with agreed; must-fail/always_none; must-fail/none_for_agreed.
-pub fn finish(n: usize, t: usize, k: usize, core: u16, inbox: &[u8], block: &mut [u8]) -> Ending
-    ensures { λ r. ⌜ finish r (now (block .exit)) ≡ finished n t k core (now (inbox .entry)) (now (block .entry)) ⌝ }
+pub fn finish(
+    n: usize,
+    t: usize,
+    layout: Layout,
+    core: u16,
+    inbox: &[u8],
+    block: &mut [u8],
+) -> Ending
+    ensures { λ r. ⌜ finish r (now (block .exit)) ≡ finished n t layout core (now (inbox .entry)) (now (block .entry)) ⌝ }
 {
     if bitset::restrict(core, n) == 0 {
         wire::silence(block);
@@ -271,6 +287,6 @@ pub fn finish(n: usize, t: usize, k: usize, core: u16, inbox: &[u8], block: &mut
             named: 0,
         };
     }
-    let decoded = reed_solomon::decode(n, t, k, inbox, block);
+    let decoded = reed_solomon::decode(n, t, layout, inbox, block);
     decoded_ending(decoded)
 }

@@ -10,8 +10,11 @@ use native.Mathlib.Omega.{arith}
 use borrow.Author.Tests.{eq-eqb, ne-eqb, eqb-true, le-leb, leb-true}
 use lib.Dec.{eqb, leb, lit<}
 use lib.ListN.{length, getD}
+use Rattle.wire.specs.declared.slot.Layout.{Layout}
 use Rattle.lists.specs.Sum.{count}
 use Rattle.lists.specs.Select.{Rising}
+use Rattle.lists.specs.Same.{same}
+use Rattle.bitset.specs.Set.{setOf}
 use Rattle.lists.proofs.Sums.{count-le, count-all, count-full, count-mono, count-split}
 use Rattle.lists.proofs.Fills.{length-tabulate, getD-tabulate}
 use Rattle.lists.proofs.Tests.{true≢false, fails, and-both, cond-yes, cond-no, lt-or-le}
@@ -19,7 +22,7 @@ use Rattle.settings.specs.Refusal.{encodingRefusal, decodingRefusal}
 use Rattle.settings.specs.Valid.{Coded, Numbered}
 use Rattle.settings.proofs.Laws.{encoding-0, 0-encoding, decoding-0, 0-decoding}
 use Rattle.wire.specs.Length.{blockLength}
-use Rattle.wire.specs.Slot.{layoutWith, width, messageOf}
+use Rattle.wire.specs.Slot.{width, messageOf, SameMessages}
 use Rattle.wire.proofs.Laws.{block-length-is}
 use Rattle.polynomial.specs.Polynomial.{evaluate, Bytes}
 use Rattle.polynomial.proofs.Laws.{evaluate-lt, equal-of-values, past-end}
@@ -28,7 +31,7 @@ use Rattle.interpolation.proofs.Laws.{recovers}
 use Rattle.reed_solomon.specs.Encode.{stripe, pieceOf, encodeFits, encodeRefusal, encoded, encodeOf}
 use Rattle.reed_solomon.specs.declared.Decoded.the-variants.{Block, Beyond, Refused}
 use Rattle.reed_solomon.specs.Decode.{hasPiece, received, presentCount, differing, Decodes, decodeFits, decodeRefusal, DecodesUnique}
-use Rattle.reed_solomon.specs.Decode.{namedOf, AnswersUnique, PiecesDecode, FewBeyond}
+use Rattle.reed_solomon.specs.Decode.{isNamed, namedOf, AnswersUnique, PiecesDecode, FewBeyond}
 use Rattle.reed_solomon.specs.First.{firstBytes, isRightStripe, meets, DecodesMeets, MeetsDecodes, rebuilt, RebuiltDecodes, RebuiltBlock, RebuiltNone}
 use Rattle.reed_solomon.specs.Steps.{points, column, differences, isRight, NoneRight, Pointed}
 use Rattle.reed_solomon.proofs.Sizes.{both-true, true-both}
@@ -52,143 +55,143 @@ none-right t xs ys p wrong m hm lm =
     (λ right.
     true≢false (sym right ∙ sym (ap (isRight t xs ys) (right-candidate 16 t xs ys m (omega arith) (p .rising) hm lm right)) ∙ wrong))
 
-module _ (n t k : ℕ) (slots : List ℕ) where
+module _ (n t : ℕ) (layout : Layout) (slots : List ℕ) where
   -- ---- the number of the refusal table, and what 0 says
-  pub decode-number : (block : List ℕ) (fits : Bool) (r : ℕ) → fits ≡ decodeFits n t k slots block
-      → r ≡ decodingRefusal n t k fits → r ≡ decodeRefusal n t k slots block
+  pub decode-number : (block : List ℕ) (fits : Bool) (r : ℕ) → fits ≡ decodeFits n t layout slots block
+      → r ≡ decodingRefusal n t (layout .length) fits → r ≡ decodeRefusal n t layout slots block
   unfolding decodeRefusal
-  decode-number block fits r is-fits is-r = is-r ∙ ap (decodingRefusal n t k) is-fits
+  decode-number block fits r is-fits is-r = is-r ∙ ap (decodingRefusal n t (layout .length)) is-fits
 
-  pub decode-0 : (block : List ℕ) → decodeRefusal n t k slots block ≡ 0
-      → Coded n t k × (length slots ≡ n * width (layoutWith k)) × (length block ≡ blockLength k t)
+  pub decode-0 : (block : List ℕ) → decodeRefusal n t layout slots block ≡ 0
+      → Coded n t (layout .length) × (length slots ≡ n * width layout) × (length block ≡ blockLength (layout .length) t)
   unfolding decodeRefusal
   decode-0 block e =
-      let r = decoding-0 n t k (decodeFits n t k slots block) e in
-      let both = both-true (length slots) (n * width (layoutWith k)) (length block) (blockLength k t) (r .1) in
+      let r = decoding-0 n t (layout .length) (decodeFits n t layout slots block) e in
+      let both = both-true (length slots) (n * width layout) (length block) (blockLength (layout .length) t) (r .1) in
       (r .0, both .0, both .1)
 
-  pub 0-decode : (block : List ℕ) → Coded n t k → length slots ≡ n * width (layoutWith k) → length block ≡ blockLength k t → decodeRefusal n t k slots block ≡ 0
+  pub 0-decode : (block : List ℕ) → Coded n t (layout .length) → length slots ≡ n * width layout → length block ≡ blockLength (layout .length) t → decodeRefusal n t layout slots block ≡ 0
   unfolding decodeRefusal
   0-decode block v a b =
-      0-decoding n t k (decodeFits n t k slots block) v
-      (true-both (length slots) (n * width (layoutWith k)) (length block) (blockLength k t) a b)
+      0-decoding n t (layout .length) (decodeFits n t layout slots block) v
+      (true-both (length slots) (n * width layout) (length block) (blockLength (layout .length) t) a b)
 
   -- ---- the rule and the candidate
   abbrev xs : List ℕ
-  xs = points n k slots
+  xs = points n layout slots
 
   -- the rule at the points of the present slots
-  right-points : (s : ℕ) (m : List ℕ) → isRight t xs (column k slots s xs) m ≡ isRightStripe n t k slots s m
-  right-points s m = ap₂ (λ d c. leb (2 * d + t + 1) c) (differing-points k slots s n m) (length-points n k slots)
+  right-points : (s : ℕ) (m : List ℕ) → isRight t xs (column layout slots s xs) m ≡ isRightStripe n t layout slots s m
+  right-points s m = ap₂ (λ d c. leb (2 * d + t + 1) c) (differing-points layout slots s n m) (length-points n layout slots)
 
-  pub right-rule : (s : ℕ) (m : List ℕ) → isRight t xs (column k slots s xs) m ≡ true → 2 * differing n k slots s m + t + 1 ≤ presentCount n k slots
-  right-rule s m e = leb-true (2 * differing n k slots s m + t + 1) (presentCount n k slots) (sym (right-points s m) ∙ e)
+  pub right-rule : (s : ℕ) (m : List ℕ) → isRight t xs (column layout slots s xs) m ≡ true → 2 * differing n layout slots s m + t + 1 ≤ presentCount n layout slots
+  right-rule s m e = leb-true (2 * differing n layout slots s m + t + 1) (presentCount n layout slots) (sym (right-points s m) ∙ e)
 
-  rule-right : (s : ℕ) (m : List ℕ) → 2 * differing n k slots s m + t + 1 ≤ presentCount n k slots → isRight t xs (column k slots s xs) m ≡ true
-  rule-right s m h = right-points s m ∙ le-leb (2 * differing n k slots s m + t + 1) (presentCount n k slots) h
+  rule-right : (s : ℕ) (m : List ℕ) → 2 * differing n layout slots s m + t + 1 ≤ presentCount n layout slots → isRight t xs (column layout slots s xs) m ≡ true
+  rule-right s m h = right-points s m ∙ le-leb (2 * differing n layout slots s m + t + 1) (presentCount n layout slots) h
 
   -- where no bytes of a stripe are right, no block meets the rule
-  pub none-beyond : (s : ℕ) → s < k → NoneRight t xs (column k slots s xs) → (B : List ℕ) → Decodes n t k slots B → ⊥
+  pub none-beyond : (s : ℕ) → s < layout .length → NoneRight t xs (column layout slots s xs) → (B : List ℕ) → Decodes n t layout slots B → ⊥
   none-beyond s l h B d =
       true≢false
       (sym (rule-right s (stripe t B s) (d .right s l))
-      ∙ h (stripe t B s) (bytes-stripe t B s (d .bytes)) (length-stripe k t B s (d .size ∙ block-length-is k t) l))
+      ∙ h (stripe t B s) (bytes-stripe t B s (d .bytes)) (length-stripe (layout .length) t B s (d .size ∙ block-length-is (layout .length) t) l))
 
   -- 1 .. n are different elements of the field
   module _ (few : n < 256) where
     -- each stripe of a block that meets the rule is the candidate
-    each : (B : List ℕ) → Decodes n t k slots B → (s : ℕ) → s < k → stripe t B s ≡ candidate t xs (column k slots s xs)
+    each : (B : List ℕ) → Decodes n t layout slots B → (s : ℕ) → s < layout .length → stripe t B s ≡ candidate t xs (column layout slots s xs)
     each B d s l =
         sym
-        (right-candidate n t xs (column k slots s xs) (stripe t B s) few (rising-points n k slots) (bytes-stripe t B s (d .bytes))
-        (length-stripe k t B s (d .size ∙ block-length-is k t) l) (rule-right s (stripe t B s) (d .right s l)))
+        (right-candidate n t xs (column layout slots s xs) (stripe t B s) few (rising-points n layout slots) (bytes-stripe t B s (d .bytes))
+        (length-stripe (layout .length) t B s (d .size ∙ block-length-is (layout .length) t) l) (rule-right s (stripe t B s) (d .right s l)))
 
-    decodes-joined : (B : List ℕ) → Decodes n t k slots B → B ≡ joined (λ s. candidate t xs (column k slots s xs)) k
+    decodes-joined : (B : List ℕ) → Decodes n t layout slots B → B ≡ joined (λ s. candidate t xs (column layout slots s xs)) (layout .length)
     decodes-joined B d =
-        block-joined k t B (d .size ∙ block-length-is k t) ∙ joined-ext (stripe t B) (λ s. candidate t xs (column k slots s xs)) k (each B d)
+        block-joined (layout .length) t B (d .size ∙ block-length-is (layout .length) t) ∙ joined-ext (stripe t B) (λ s. candidate t xs (column layout slots s xs)) (layout .length) (each B d)
 
     -- where a stripe's candidate is not right, no block meets the rule
-    pub stripe-beyond : (s : ℕ) → s < k → isRight t xs (column k slots s xs) (candidate t xs (column k slots s xs)) ≡ false
-        → (B : List ℕ) → Decodes n t k slots B → ⊥
+    pub stripe-beyond : (s : ℕ) → s < layout .length → isRight t xs (column layout slots s xs) (candidate t xs (column layout slots s xs)) ≡ false
+        → (B : List ℕ) → Decodes n t layout slots B → ⊥
     stripe-beyond s l wrong B d =
-        true≢false (sym (rule-right s (stripe t B s) (d .right s l)) ∙ ap (isRight t xs (column k slots s xs)) (each B d s l) ∙ wrong)
+        true≢false (sym (rule-right s (stripe t B s) (d .right s l)) ∙ ap (isRight t xs (column layout slots s xs)) (each B d s l) ∙ wrong)
 
 -- ---- at most one block meets the rule, and there is one answer
 pub decodes-unique : DecodesUnique
-decodes-unique n t k slots few B C d e = decodes-joined n t k slots few B d ∙ sym (decodes-joined n t k slots few C e)
+decodes-unique n t layout slots few B C d e = decodes-joined n t layout slots few B d ∙ sym (decodes-joined n t layout slots few C e)
 
 pub few-beyond : FewBeyond
-few-beyond n t k slots least few B d = omega (arith, d .right 0 least)
+few-beyond n t layout slots least few B d = omega (arith, d .right 0 least)
 
 pub answers-unique : AnswersUnique
-answers-unique n t k slots before (Block a) (Block b) B C d e =
-    let same : B ≡ C = decodes-unique n t k slots (omega (arith, decode-0 n t k slots before (d .0) .0 .quorum .n-most)) B C (d .1) (e .1) in
-    (ap Block (d .2 ∙ ap (namedOf n t k slots) same ∙ sym (e .2)), same)
-answers-unique n t k slots before (Block a) Beyond B C d e = absurd (e .1 B (d .1))
-answers-unique n t k slots before (Block a) (Refused r) B C d e = absurd (e .1 (e .0 ∙ d .0))
-answers-unique n t k slots before Beyond (Block b) B C d e = absurd (d .1 C (e .1))
-answers-unique n t k slots before Beyond Beyond B C d e = (refl, d .2 ∙ sym (e .2))
-answers-unique n t k slots before Beyond (Refused r) B C d e = absurd (e .1 (e .0 ∙ d .0))
-answers-unique n t k slots before (Refused r) (Block b) B C d e = absurd (d .1 (d .0 ∙ e .0))
-answers-unique n t k slots before (Refused r) Beyond B C d e = absurd (d .1 (d .0 ∙ e .0))
-answers-unique n t k slots before (Refused r) (Refused q) B C d e = (ap Refused (d .0 ∙ sym (e .0)), d .2 ∙ sym (e .2))
+answers-unique n t layout slots before (Block a) (Block b) B C d e =
+    let same : B ≡ C = decodes-unique n t layout slots (omega (arith, decode-0 n t layout slots before (d .0) .0 .quorum .n-most)) B C (d .1) (e .1) in
+    (ap Block (d .2 ∙ ap (namedOf n t layout slots) same ∙ sym (e .2)), same)
+answers-unique n t layout slots before (Block a) Beyond B C d e = absurd (e .1 B (d .1))
+answers-unique n t layout slots before (Block a) (Refused r) B C d e = absurd (e .1 (e .0 ∙ d .0))
+answers-unique n t layout slots before Beyond (Block b) B C d e = absurd (d .1 C (e .1))
+answers-unique n t layout slots before Beyond Beyond B C d e = (refl, d .2 ∙ sym (e .2))
+answers-unique n t layout slots before Beyond (Refused r) B C d e = absurd (e .1 (e .0 ∙ d .0))
+answers-unique n t layout slots before (Refused r) (Block b) B C d e = absurd (d .1 (d .0 ∙ e .0))
+answers-unique n t layout slots before (Refused r) Beyond B C d e = absurd (d .1 (d .0 ∙ e .0))
+answers-unique n t layout slots before (Refused r) (Refused q) B C d e = (ap Refused (d .0 ∙ sym (e .0)), d .2 ∙ sym (e .2))
 
 -- ---- the rule as a test
 pub decodes-meets : DecodesMeets
 unfolding meets
-decodes-meets n t k slots B d =
-    let right : ℕ → Bool = λ s. isRightStripe n t k slots s (stripe t B s) in
-    eq-eqb (count k right) k
-    (count-all k right (λ s l. le-leb (2 * differing n k slots s (stripe t B s) + t + 1) (presentCount n k slots) (d .right s l)))
+decodes-meets n t layout slots B d =
+    let right : ℕ → Bool = λ s. isRightStripe n t layout slots s (stripe t B s) in
+    eq-eqb (count (layout .length) right) (layout .length)
+    (count-all (layout .length) right (λ s l. le-leb (2 * differing n layout slots s (stripe t B s) + t + 1) (presentCount n layout slots) (d .right s l)))
 
 pub meets-decodes : MeetsDecodes
 unfolding meets
-meets-decodes n t k slots B size bytes e =
-    let right : ℕ → Bool = λ s. isRightStripe n t k slots s (stripe t B s) in
+meets-decodes n t layout slots B size bytes e =
+    let right : ℕ → Bool = λ s. isRightStripe n t layout slots s (stripe t B s) in
     record {
       size = size;
       bytes = bytes;
       right = λ s l.
-          leb-true (2 * differing n k slots s (stripe t B s) + t + 1) (presentCount n k slots)
-          (count-full k right (omega (arith, eqb-true (count k right) k e)) s l);
+          leb-true (2 * differing n layout slots s (stripe t B s) + t + 1) (presentCount n layout slots)
+          (count-full (layout .length) right (omega (arith, eqb-true (count (layout .length) right) (layout .length) e)) s l);
     }
 
 -- ---- the block that meets the rule as a function
 -- it meets the rule, or none does
-abbrev Rebuilds : (n t k : ℕ) → List ℕ → Option (List ℕ) → Type 0
-Rebuilds n t k slots none = (B : List ℕ) → Decodes n t k slots B → ⊥
-Rebuilds n t k slots (some B) = Decodes n t k slots B
+abbrev Rebuilds : (n t : ℕ) → Layout → List ℕ → Option (List ℕ) → Type 0
+Rebuilds n t layout slots none = (B : List ℕ) → Decodes n t layout slots B → ⊥
+Rebuilds n t layout slots (some B) = Decodes n t layout slots B
 
-rebuilds : (n t k : ℕ) (slots : List ℕ) → Rebuilds n t k slots (rebuilt n t k slots)
+rebuilds : (n t : ℕ) (layout : Layout) (slots : List ℕ) → Rebuilds n t layout slots (rebuilt n t layout slots)
 unfolding rebuilt
-rebuilds n t k slots = go (firstBytes (blockLength k t) (meets n t k slots)) (first-right (blockLength k t) (meets n t k slots))
+rebuilds n t layout slots = go (firstBytes (blockLength (layout .length) t) (meets n t layout slots)) (first-right (blockLength (layout .length) t) (meets n t layout slots))
   where
-    go : (r : Option (List ℕ)) → Right (blockLength k t) (meets n t k slots) r → Rebuilds n t k slots r
-    go none h = λ B d. true≢false (sym (decodes-meets n t k slots B d) ∙ h B (d .size) (d .bytes))
-    go (some B) h = meets-decodes n t k slots B (h .0) (h .1) (h .2)
+    go : (r : Option (List ℕ)) → Right (blockLength (layout .length) t) (meets n t layout slots) r → Rebuilds n t layout slots r
+    go none h = λ B d. true≢false (sym (decodes-meets n t layout slots B d) ∙ h B (d .size) (d .bytes))
+    go (some B) h = meets-decodes n t layout slots B (h .0) (h .1) (h .2)
 
 pub rebuilt-decodes : RebuiltDecodes
-rebuilt-decodes n t k slots B e = subst (Rebuilds n t k slots) e (rebuilds n t k slots)
+rebuilt-decodes n t layout slots B e = subst (Rebuilds n t layout slots) e (rebuilds n t layout slots)
 
 pub rebuilt-block : RebuiltBlock
-rebuilt-block n t k slots few B d = go (rebuilt n t k slots) (rebuilds n t k slots)
+rebuilt-block n t layout slots few B d = go (rebuilt n t layout slots) (rebuilds n t layout slots)
   where
-    go : (r : Option (List ℕ)) → Rebuilds n t k slots r → r ≡ some B
+    go : (r : Option (List ℕ)) → Rebuilds n t layout slots r → r ≡ some B
     go none h = absurd (h B d)
-    go (some C) h = ap some (decodes-unique n t k slots few C B h d)
+    go (some C) h = ap some (decodes-unique n t layout slots few C B h d)
 
 pub rebuilt-none : RebuiltNone
-rebuilt-none n t k slots unmet = go (rebuilt n t k slots) (rebuilds n t k slots)
+rebuilt-none n t layout slots unmet = go (rebuilt n t layout slots) (rebuilds n t layout slots)
   where
-    go : (r : Option (List ℕ)) → Rebuilds n t k slots r → r ≡ none
+    go : (r : Option (List ℕ)) → Rebuilds n t layout slots r → r ≡ none
     go none h = refl
     go (some C) h = absurd (unmet C h)
 
 -- a block meets the rule, or none does
-pub decodes-or-not : (n t k : ℕ) (slots : List ℕ) → ((B : List ℕ) × Decodes n t k slots B) ⊎ ((B : List ℕ) → Decodes n t k slots B → ⊥)
-decodes-or-not n t k slots = go (rebuilt n t k slots) (rebuilds n t k slots)
+pub decodes-or-not : (n t : ℕ) (layout : Layout) (slots : List ℕ) → ((B : List ℕ) × Decodes n t layout slots B) ⊎ ((B : List ℕ) → Decodes n t layout slots B → ⊥)
+decodes-or-not n t layout slots = go (rebuilt n t layout slots) (rebuilds n t layout slots)
   where
-    go : (r : Option (List ℕ)) → Rebuilds n t k slots r → ((B : List ℕ) × Decodes n t k slots B) ⊎ ((B : List ℕ) → Decodes n t k slots B → ⊥)
+    go : (r : Option (List ℕ)) → Rebuilds n t layout slots r → ((B : List ℕ) × Decodes n t layout slots B) ⊎ ((B : List ℕ) → Decodes n t layout slots B → ⊥)
     go none h = inr h
     go (some B) h = inl (B, h)
 
@@ -264,28 +267,28 @@ blocks-equal n t k b b′ same few l l′ h h′ equal many =
         ))
 
 -- ---- true pieces in enough slots
-module _ (n t k : ℕ) (slots b : List ℕ) (right : ℕ → Bool)
-    (true-piece : (i : ℕ) → i < n → right i ≡ true → messageOf slots (layoutWith k) (i + 1) ≡ pieceOf k t b (i + 1)) where
+module _ (n t : ℕ) (layout : Layout) (slots b : List ℕ) (right : ℕ → Bool)
+    (true-piece : (i : ℕ) → i < n → right i ≡ true → messageOf slots layout (i + 1) ≡ pieceOf (layout .length) t b (i + 1)) where
   -- `right` says of an index that its slot has the block's piece: that slot is present, and its values are those of the code
-  right-present : 1 ≤ k → (i : ℕ) → i < n → right i ≡ true → hasPiece k slots (i + 1) ≡ true
+  right-present : 1 ≤ layout .length → (i : ℕ) → i < n → right i ≡ true → hasPiece layout slots (i + 1) ≡ true
   unfolding hasPiece
   right-present least i l e =
       ap not
-      (ne-eqb (length (messageOf slots (layoutWith k) (i + 1))) 0
-      (λ z. omega (arith, z, ap length (true-piece i l e), length-piece k t b (i + 1))))
+      (ne-eqb (length (messageOf slots layout (i + 1))) 0
+      (λ z. omega (arith, z, ap length (true-piece i l e), length-piece (layout .length) t b (i + 1))))
 
-  right-equal : (s : ℕ) → s < k → (i : ℕ) → i < n → right i ≡ true → eqb (evaluate (stripe t b s) (i + 1)) (received k slots s (i + 1)) ≡ true
+  right-equal : (s : ℕ) → s < layout .length → (i : ℕ) → i < n → right i ≡ true → eqb (evaluate (stripe t b s) (i + 1)) (received layout slots s (i + 1)) ≡ true
   unfolding received
   right-equal s g i l e =
-      eq-eqb (evaluate (stripe t b s) (i + 1)) (getD (messageOf slots (layoutWith k) (i + 1)) s 0)
-      (sym (getD-piece k t b (i + 1) s g) ∙ ap (λ p. getD p s 0) (sym (true-piece i l e)))
+      eq-eqb (evaluate (stripe t b s) (i + 1)) (getD (messageOf slots layout (i + 1)) s 0)
+      (sym (getD-piece (layout .length) t b (i + 1) s g) ∙ ap (λ p. getD p s 0) (sym (true-piece i l e)))
 
   -- so at most the other present ones differ
-  pub few-differ : (s : ℕ) → s < k → differing n k slots s (stripe t b s) + count n right ≤ presentCount n k slots
+  pub few-differ : (s : ℕ) → s < layout .length → differing n layout slots s (stripe t b s) + count n right ≤ presentCount n layout slots
   unfolding presentCount differing
   few-differ s g =
-      let p : ℕ → Bool = λ i. hasPiece k slots (i + 1) in
-      let q : ℕ → Bool = λ i. eqb (evaluate (stripe t b s) (i + 1)) (received k slots s (i + 1)) in
+      let p : ℕ → Bool = λ i. hasPiece layout slots (i + 1) in
+      let q : ℕ → Bool = λ i. eqb (evaluate (stripe t b s) (i + 1)) (received layout slots s (i + 1)) in
       omega (
         arith,
         count-split n p q,
@@ -293,12 +296,42 @@ module _ (n t k : ℕ) (slots b : List ℕ) (right : ℕ → Bool)
       )
 
 pub pieces-decode : PiecesDecode
-pieces-decode n t k slots b right l h true-piece many = record {
+pieces-decode n t layout slots b right l h true-piece many = record {
   size = l;
   bytes = h;
-  right = λ s g. omega (arith, few-differ n t k slots b right true-piece s g);
+  right = λ s g. omega (arith, few-differ n t layout slots b right true-piece s g);
 }
 
-pub present-count-le : (n k : ℕ) (slots : List ℕ) → presentCount n k slots ≤ n
+pub present-count-le : (n : ℕ) (layout : Layout) (slots : List ℕ) → presentCount n layout slots ≤ n
 unfolding presentCount
-present-count-le n k slots = count-le n (λ i. hasPiece k slots (i + 1))
+present-count-le n layout slots = count-le n (λ i. hasPiece layout slots (i + 1))
+
+-- ---- slots with one message each
+module _ (layout : Layout) (slots other : List ℕ) (h : SameMessages layout slots other) where
+  differing-same : (n : ℕ) → differing n layout slots ≡ differing n layout other
+  unfolding differing hasPiece received
+  differing-same n =
+      λ x s m. count n (λ i. not (eqb (length (h (i + 1) x)) 0) && not (eqb (evaluate m (i + 1)) (getD (h (i + 1) x) s 0)))
+
+  present-same : (n : ℕ) → presentCount n layout slots ≡ presentCount n layout other
+  unfolding presentCount hasPiece
+  present-same n = λ x. count n (λ i. not (eqb (length (h (i + 1) x)) 0))
+
+  -- give one block
+  pub rebuilt-same : (n t : ℕ) → rebuilt n t layout slots ≡ rebuilt n t layout other
+  unfolding rebuilt meets
+  rebuilt-same n t =
+      λ x.
+      firstBytes (blockLength (layout .length) t)
+      (λ B. eqb (count (layout .length) (λ s. leb (2 * differing-same n x s (stripe t B s) + t + 1) (present-same n x))) (layout .length))
+
+  -- and the same marks
+  pub named-same : (n t : ℕ) (B : List ℕ) → namedOf n t layout slots B ≡ namedOf n t layout other B
+  unfolding namedOf isNamed
+  named-same n t B = λ x. setOf n (λ i. not (same (h (i + 1) x) (pieceOf (layout .length) t B (i + 1))))
+
+  -- lengths are refused alike
+  pub decode-refusal-same : (n t : ℕ) (B : List ℕ) → length slots ≡ length other → decodeRefusal n t layout slots B ≡ decodeRefusal n t layout other B
+  unfolding decodeRefusal
+  decode-refusal-same n t B e =
+      ap (λ (l : ℕ). decodingRefusal n t (layout .length) (eqb l (n * width layout) && eqb (length B) (blockLength (layout .length) t))) e

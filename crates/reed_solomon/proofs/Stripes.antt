@@ -11,6 +11,7 @@ use lib.Dec.{eqb, lit<}
 use lib.ListN.{length, getD, take, drop, length-drop}
 use lib.Seq.{length-take-le, getD-take, getD-drop, take-take}
 use borrow.Rule.Slice.PartMut.{putMid}
+use Rattle.wire.specs.declared.slot.Layout.{Layout}
 use Rattle.lists.specs.Sum.{count}
 use Rattle.lists.specs.Join.{joined, part}
 use Rattle.lists.specs.Select.{Rising}
@@ -38,29 +39,29 @@ module _ (n : ℕ) (xs : List ℕ) (h : n < 256) (r : Rising n xs) where
   pub points-rising : Points (length xs) (λ i. getD xs i 0)
   points-rising = record { element = λ i l. omega (arith, r .most i l); different = rising-different n xs r }
 
-module _ (n k : ℕ) (slots : List ℕ) where
-  pub rising-points : Rising n (points n k slots)
+module _ (n : ℕ) (layout : Layout) (slots : List ℕ) where
+  pub rising-points : Rising n (points n layout slots)
   unfolding points
-  rising-points = rising-selected (hasPiece k slots) n
+  rising-points = rising-selected (hasPiece layout slots) n
 
-  pub points-yes : hasPiece k slots (n + 1) ≡ true → points (n + 1) k slots ≡ points n k slots ++ ((n + 1) ∷ [])
+  pub points-yes : hasPiece layout slots (n + 1) ≡ true → points (n + 1) layout slots ≡ points n layout slots ++ ((n + 1) ∷ [])
   unfolding points
-  points-yes e = selected-yes (hasPiece k slots) n e
+  points-yes e = selected-yes (hasPiece layout slots) n e
 
-  pub points-no : hasPiece k slots (n + 1) ≡ false → points (n + 1) k slots ≡ points n k slots
+  pub points-no : hasPiece layout slots (n + 1) ≡ false → points (n + 1) layout slots ≡ points n layout slots
   unfolding points
-  points-no e = selected-no (hasPiece k slots) n e
+  points-no e = selected-no (hasPiece layout slots) n e
 
-  pub length-points : length (points n k slots) ≡ presentCount n k slots
+  pub length-points : length (points n layout slots) ≡ presentCount n layout slots
   unfolding points presentCount
-  length-points = length-selected (hasPiece k slots) n
+  length-points = length-selected (hasPiece layout slots) n
 
-  pub points-le : length (points n k slots) ≤ n
+  pub points-le : length (points n layout slots) ≤ n
   unfolding presentCount
-  points-le = omega (arith, length-points, count-le n (λ i. hasPiece k slots (i + 1)))
+  points-le = omega (arith, length-points, count-le n (λ i. hasPiece layout slots (i + 1)))
 
   -- the present slots' numbers are different points, enough where more than t are present
-  pub pointed-points : (t : ℕ) → n ≤ 16 → t ≤ 5 → t + 1 ≤ length (points n k slots) → Pointed t (points n k slots)
+  pub pointed-points : (t : ℕ) → n ≤ 16 → t ≤ 5 → t + 1 ≤ length (points n layout slots) → Pointed t (points n layout slots)
   pointed-points t few few-faulty many = record {
     rising = record { least = rising-points .least; most = λ i l. omega (arith, rising-points .most i l); order = rising-points .order };
     many = many;
@@ -68,24 +69,24 @@ module _ (n k : ℕ) (slots : List ℕ) where
     few-faulty = few-faulty;
   }
 
-pub points-none : (k : ℕ) (slots : List ℕ) → points 0 k slots ≡ []
+pub points-none : (layout : Layout) (slots : List ℕ) → points 0 layout slots ≡ []
 unfolding points
-points-none k slots = selected-none (hasPiece k slots)
+points-none layout slots = selected-none (hasPiece layout slots)
 
-module _ (k : ℕ) (slots : List ℕ) (s : ℕ) where
+module _ (layout : Layout) (slots : List ℕ) (s : ℕ) where
   differs : List ℕ → ℕ → Bool
-  differs m j = not (eqb (evaluate m j) (received k slots s j))
+  differs m j = not (eqb (evaluate m j) (received layout slots s j))
 
-  differences-column : (xs m : List ℕ) → differences xs (column k slots s xs) m ≡ count (length xs) (λ i. differs m (getD xs i 0))
+  differences-column : (xs m : List ℕ) → differences xs (column layout slots s xs) m ≡ count (length xs) (λ i. differs m (getD xs i 0))
   unfolding column differences differs
   differences-column xs m =
-      count-ext (length xs) (λ i. not (eqb (evaluate m (getD xs i 0)) (getD (column k slots s xs) i 0))) (λ i. differs m (getD xs i 0))
-      (λ i l. ap (λ y. not (eqb (evaluate m (getD xs i 0)) y)) (getD-tabulate (λ j. received k slots s (getD xs j 0)) (length xs) i 0 l))
+      count-ext (length xs) (λ i. not (eqb (evaluate m (getD xs i 0)) (getD (column layout slots s xs) i 0))) (λ i. differs m (getD xs i 0))
+      (λ i l. ap (λ y. not (eqb (evaluate m (getD xs i 0)) y)) (getD-tabulate (λ j. received layout slots s (getD xs j 0)) (length xs) i 0 l))
 
   -- what differs at the points of the present slots is what the rule counts
-  pub differing-points : (n : ℕ) (m : List ℕ) → differences (points n k slots) (column k slots s (points n k slots)) m ≡ differing n k slots s m
+  pub differing-points : (n : ℕ) (m : List ℕ) → differences (points n layout slots) (column layout slots s (points n layout slots)) m ≡ differing n layout slots s m
   unfolding points differing differs
-  differing-points n m = differences-column (points n k slots) m ∙ count-selected (hasPiece k slots) (differs m) n
+  differing-points n m = differences-column (points n layout slots) m ∙ count-selected (hasPiece layout slots) (differs m) n
 
 pub differences-le : (xs ys m : List ℕ) → differences xs ys m ≤ length xs
 unfolding differences

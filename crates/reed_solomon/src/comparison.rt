@@ -5,9 +5,10 @@ ghost use Prim.Native.Nat.{ℕ, _+_, _*_, _≤_, _<_};
 ghost use lib.ListN.{length, getD, replicate};
 ghost use Rattle.lists.specs.Same.{same};
 ghost use Rattle.settings.specs.Valid.{Coded};
-ghost use Rattle.wire.specs.Slot.{layoutWith, messageOf};
+ghost use Rattle.wire.specs.Slot.{messageOf};
 ghost use Rattle.reed_solomon.specs.Steps.{rowValues, counted, Compared, FirstWrong, Checked};
 use crate::columns;
+use wire::Layout;
 
 // A block compared with all slots: the marks of those that do not hold their piece of it, and the first stripe in which too many differ.
 pub(crate) struct Comparison {
@@ -34,18 +35,18 @@ fn count_different(m: &[u8], piece: &[u8], counts: &mut [u8])
 // differs.
 fn compare_slot(
     t: usize,
-    k: usize,
+    layout: Layout,
     slots: &[u8],
     cols: &[u8],
     j: usize,
     piece: &mut [u8],
     counts: &mut [u8],
 ) -> bool
-    requires { ⌜ (length (now cols) ≡ k * (t + 1)) × (length (now piece) ≡ k) × (length (now counts) ≡ k) × (t ≤ 5) × (1 ≤ k) × (k ≤ 128) × (j ≤ 16) × ((s : ℕ) → getD (now counts) s 0 < 255) ⌝ }
-    ensures { λ r. ⌜ (r ≡ not (same (messageOf (now (slots .entry)) (layoutWith k) j) (rowValues k t (now (cols .entry)) j))) × (now (counts .exit) ≡ counted (messageOf (now (slots .entry)) (layoutWith k) j) (rowValues k t (now (cols .entry)) j) (now (counts .entry))) ⌝ }
+    requires { ⌜ (length (now cols) ≡ layout .length * (t + 1)) × (length (now piece) ≡ layout .length) × (length (now counts) ≡ layout .length) × (t ≤ 5) × (1 ≤ layout .length) × (layout .length ≤ 128) × (j ≤ 16) × ((s : ℕ) → getD (now counts) s 0 < 255) ⌝ }
+    ensures { λ r. ⌜ (r ≡ not (same (messageOf (now (slots .entry)) layout j) (rowValues (layout .length) t (now (cols .entry)) j))) × (now (counts .exit) ≡ counted (messageOf (now (slots .entry)) layout j) (rowValues (layout .length) t (now (cols .entry)) j) (now (counts .entry))) ⌝ }
 {
     columns::values(cols, t, j as u8, piece);
-    let m = wire::message(slots, wire::layout_with(k), j);
+    let m = wire::message(slots, layout, j);
     count_different(m, piece, counts);
     !lists::is_equal(m, piece)
 }
@@ -54,23 +55,23 @@ fn compare_slot(
 fn compare(
     n: usize,
     t: usize,
-    k: usize,
+    layout: Layout,
     slots: &[u8],
     block: &[u8],
     cols: &mut [u8],
     piece: &mut [u8],
     counts: &mut [u8],
 ) -> u16
-    requires { ⌜ Coded n t k × (length (now block) ≡ k * (t + 1)) × (length (now cols) ≡ k * (t + 1)) × (length (now piece) ≡ k) × (now counts ≡ replicate k 0) ⌝ }
-    ensures { λ r. ⌜ Compared n t k (now (slots .entry)) (now (block .entry)) r (now (counts .exit)) ⌝ }
+    requires { ⌜ Coded n t (layout .length) × (length (now block) ≡ layout .length * (t + 1)) × (length (now cols) ≡ layout .length * (t + 1)) × (length (now piece) ≡ layout .length) × (now counts ≡ replicate (layout .length) 0) ⌝ }
+    ensures { λ r. ⌜ Compared n t layout (now (slots .entry)) (now (block .entry)) r (now (counts .exit)) ⌝ }
 {
-    columns::transpose(block, k, t + 1, cols);
+    columns::transpose(block, layout.length, t + 1, cols);
     let mut named: u16 = 0;
     let mut i: usize = 0;
     while i < n {
         let index = i;
         i += 1;
-        if compare_slot(t, k, slots, cols, i, piece, counts) {
+        if compare_slot(t, layout, slots, cols, i, piece, counts) {
             named = bitset::insert(named, index);
         }
     }
@@ -96,7 +97,7 @@ fn first_wrong(counts: &[u8], t: usize, present: usize, from: usize) -> usize
 pub(crate) fn check(
     n: usize,
     t: usize,
-    k: usize,
+    layout: Layout,
     slots: &[u8],
     present: usize,
     from: usize,
@@ -104,11 +105,12 @@ pub(crate) fn check(
     cols: &mut [u8],
     piece: &mut [u8],
 ) -> Comparison
-    requires { ⌜ Coded n t k × (from ≤ k) × (length (now block) ≡ k * (t + 1)) × (length (now cols) ≡ k * (t + 1)) × (length (now piece) ≡ k) ⌝ }
-    ensures { λ r. ⌜ Checked n t k (now (slots .entry)) present (now (block .entry)) from (r .named) (r .wrong) ⌝ }
+    requires { ⌜ Coded n t (layout .length) × (from ≤ layout .length) × (length (now block) ≡ layout .length * (t + 1)) × (length (now cols) ≡ layout .length * (t + 1)) × (length (now piece) ≡ layout .length) ⌝ }
+    ensures { λ r. ⌜ Checked n t layout (now (slots .entry)) present (now (block .entry)) from (r .named) (r .wrong) ⌝ }
 {
+    let k = layout.length;
     let mut counts = [0u8; 128];
-    let named = compare(n, t, k, slots, block, cols, piece, &mut counts[..k]);
+    let named = compare(n, t, layout, slots, block, cols, piece, &mut counts[..k]);
     let wrong = first_wrong(&counts[..k], t, present, from);
     Comparison { named, wrong }
 }

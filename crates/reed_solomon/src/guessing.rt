@@ -4,6 +4,7 @@ ghost use mathlib.Core.Path.{_≡_};
 ghost use Prim.Native.Nat.{_+_, _-_, _*_, _≤_, _<_};
 ghost use lib.ListN.{length};
 use crate::columns;
+use wire::Layout;
 
 // The points of xs from index `from` to `to` that have no mark, into c from place `count` on; the place behind the last one.
 fn list_unmarked(xs: &[u8], marks: u16, from: usize, to: usize, c: &mut [u8], count: usize) -> usize
@@ -32,22 +33,22 @@ fn choose(xs: &[u8], marks: u16, start: usize, c: &mut [u8])
 }
 
 // The bytes of slot j from stripe `from` on, into a column; it stays where the slot is absent.
-fn load_column(slots: &[u8], k: usize, j: usize, from: usize, column: &mut [u8]) {
-    let m = wire::message(slots, wire::layout_with(k), j);
+fn load_column(slots: &[u8], layout: Layout, j: usize, from: usize, column: &mut [u8]) {
+    let m = wire::message(slots, layout, j);
     if from <= m.len() {
         wire::copy(column, &m[from..]);
     }
 }
 
 // The bytes of the slots c from stripe `from` on, a column for each.
-fn load(slots: &[u8], k: usize, c: &[u8], from: usize, rows: usize, cols: &mut [u8])
+fn load(slots: &[u8], layout: Layout, c: &[u8], from: usize, rows: usize, cols: &mut [u8])
     requires { ⌜ (length (now cols) ≡ length (now c) * rows) × (rows ≤ 128) × (length (now c) ≤ 6) ⌝ }
 {
     let mut j: usize = 0;
     while j < c.len() {
         let a = j * rows;
         let e = a + rows;
-        load_column(slots, k, c[j] as usize, from, &mut cols[a..e]);
+        load_column(slots, layout, c[j] as usize, from, &mut cols[a..e]);
         j += 1;
     }
 }
@@ -161,7 +162,7 @@ fn interpolate(c: &[u8], cols: &mut [u8], tmp: &mut [u8])
 pub(crate) fn guess(
     slots: &[u8],
     t: usize,
-    k: usize,
+    layout: Layout,
     from: usize,
     xs: &[u8],
     marks: u16,
@@ -175,7 +176,7 @@ pub(crate) fn guess(
     let w = t + 1;
     let mut c = [0u8; 16];
     choose(xs, marks, start, &mut c);
-    load(slots, k, &c[..w], from, tmp.len(), cols);
+    load(slots, layout, &c[..w], from, tmp.len(), cols);
     interpolate(&c[..w], cols, tmp);
     columns::transpose(cols, w, tmp.len(), out);
 }

@@ -14,6 +14,7 @@ ghost use Rattle.wire.specs.Length.{blockLength};
 ghost use Rattle.reed_solomon.specs.Encode.{pieceOf, encodeFits, encoded, encodeOf, isReady};
 ghost use Rattle.reed_solomon.specs.Decode.{hasPiece, decodeFits, decodeRefusal, Answers};
 ghost use Rattle.reed_solomon.specs.Steps.{Pointed, Mended, Rebuilds, Lent, Room, Listed};
+use wire::Layout;
 
 // What decoding answers. The block itself is in the lent bytes; with it come the marks of the slots that were absent or did not hold their piece.
 pub enum Decoded {
@@ -23,22 +24,22 @@ pub enum Decoded {
 }
 
 // Whether slot j is present.
-fn has_piece(slots: &[u8], k: usize, j: usize) -> bool
-    ensures { λ r. ⌜ r ≡ hasPiece k (now (slots .entry)) j ⌝ }
+fn has_piece(slots: &[u8], layout: Layout, j: usize) -> bool
+    ensures { λ r. ⌜ r ≡ hasPiece layout (now (slots .entry)) j ⌝ }
 {
-    1 <= wire::message(slots, wire::layout_with(k), j).len()
+    1 <= wire::message(slots, layout, j).len()
 }
 
 // The points of the present ones of n slots, rising, into the front of xs; how many they are.
-fn list_points(n: usize, k: usize, slots: &[u8], xs: &mut [u8]) -> usize
+fn list_points(n: usize, layout: Layout, slots: &[u8], xs: &mut [u8]) -> usize
     requires { ⌜ (n ≤ 16) × (n ≤ length (now xs)) ⌝ }
-    ensures { λ r. ⌜ Listed n k (now (slots .entry)) r (now (xs .exit)) ⌝ }
+    ensures { λ r. ⌜ Listed n layout (now (slots .entry)) r (now (xs .exit)) ⌝ }
 {
     let mut count: usize = 0;
     let mut j: usize = 0;
     while j < n {
         j += 1;
-        if has_piece(slots, k, j) {
+        if has_piece(slots, layout, j) {
             xs[count] = j as u8;
             count += 1;
         }
@@ -50,7 +51,7 @@ fn list_points(n: usize, k: usize, slots: &[u8], xs: &mut [u8]) -> usize
 fn guess_rest(
     slots: &[u8],
     t: usize,
-    k: usize,
+    layout: Layout,
     from: usize,
     xs: &[u8],
     marks: u16,
@@ -59,16 +60,16 @@ fn guess_rest(
     cols: &mut [u8],
     tmp: &mut [u8],
 )
-    requires { ⌜ Pointed t (now xs) × (start ≤ length (now xs)) × (from ≤ k) × Room t k (now block) (now cols) (now tmp) ⌝ }
+    requires { ⌜ Pointed t (now xs) × (start ≤ length (now xs)) × (from ≤ layout .length) × Room t (layout .length) (now block) (now cols) (now tmp) ⌝ }
     ensures { λ _. ⌜ take (from * (t + 1)) (now (block .exit)) ≡ take (from * (t + 1)) (now (block .entry)) ⌝ }
 {
-    let rows = k - from;
+    let rows = layout.length - from;
     let size = rows * (t + 1);
     let a = from * (t + 1);
     guessing::guess(
         slots,
         t,
-        k,
+        layout,
         from,
         xs,
         marks,
@@ -83,7 +84,7 @@ fn guess_rest(
 fn mend(
     slots: &[u8],
     t: usize,
-    k: usize,
+    layout: Layout,
     s: usize,
     xs: &[u8],
     marks: u16,
@@ -91,17 +92,17 @@ fn mend(
     cols: &mut [u8],
     tmp: &mut [u8],
 ) -> settling::Search
-    requires { ⌜ Pointed t (now xs) × (s < k) × Room t k (now block) (now cols) (now tmp) ⌝ }
-    ensures { λ r. ⌜ Mended t k (now (slots .entry)) (now (xs .entry)) s (r .found) (now (block .entry)) (now (block .exit)) ⌝ }
+    requires { ⌜ Pointed t (now xs) × (s < layout .length) × Room t (layout .length) (now block) (now cols) (now tmp) ⌝ }
+    ensures { λ r. ⌜ Mended t layout (now (slots .entry)) (now (xs .entry)) s (r .found) (now (block .entry)) (now (block .exit)) ⌝ }
 {
     let a = s * (t + 1);
     let e = a + (t + 1);
-    let search = settling::settle(slots, t, k, s, xs, marks, &mut block[a..e]);
+    let search = settling::settle(slots, t, layout, s, xs, marks, &mut block[a..e]);
     if search.found {
         guess_rest(
             slots,
             t,
-            k,
+            layout,
             s + 1,
             xs,
             search.marks,
@@ -119,7 +120,7 @@ fn mend(
 fn mend_all(
     n: usize,
     t: usize,
-    k: usize,
+    layout: Layout,
     slots: &[u8],
     xs: &[u8],
     marks: u16,
@@ -127,20 +128,20 @@ fn mend_all(
     cols: &mut [u8],
     tmp: &mut [u8],
 ) -> Decoded
-    requires { ⌜ Lent n t k (now slots) (now xs) × Room t k (now block) (now cols) (now tmp) ⌝ }
-    ensures { λ r. ⌜ Rebuilds n t k (now (slots .entry)) r (now (block .exit)) ⌝ }
+    requires { ⌜ Lent n t layout (now slots) (now xs) × Room t (layout .length) (now block) (now cols) (now tmp) ⌝ }
+    ensures { λ r. ⌜ Rebuilds n t layout (now (slots .entry)) r (now (block .exit)) ⌝ }
 {
     let mut known = marks;
-    let first = comparison::check(n, t, k, slots, xs.len(), 0, block, cols, tmp);
+    let first = comparison::check(n, t, layout, slots, xs.len(), 0, block, cols, tmp);
     let mut named = first.named;
     let mut s = first.wrong;
-    while s < k {
-        let search = mend(slots, t, k, s, xs, known, block, cols, tmp);
+    while s < layout.length {
+        let search = mend(slots, t, layout, s, xs, known, block, cols, tmp);
         if !search.found {
             return Decoded::Beyond;
         }
         known = search.marks;
-        let next = comparison::check(n, t, k, slots, xs.len(), s + 1, block, cols, tmp);
+        let next = comparison::check(n, t, layout, slots, xs.len(), s + 1, block, cols, tmp);
         named = next.named;
         s = next.wrong;
     }
@@ -152,25 +153,25 @@ fn mend_all(
 fn decode_present(
     n: usize,
     t: usize,
-    k: usize,
+    layout: Layout,
     slots: &[u8],
     xs: &[u8],
     block: &mut [u8],
     cols: &mut [u8],
     tmp: &mut [u8],
 ) -> Decoded
-    requires { ⌜ Lent n t k (now slots) (now xs) × Room t k (now block) (now cols) (now tmp) ⌝ }
-    ensures { λ r. ⌜ Rebuilds n t k (now (slots .entry)) r (now (block .exit)) ⌝ }
+    requires { ⌜ Lent n t layout (now slots) (now xs) × Room t (layout .length) (now block) (now cols) (now tmp) ⌝ }
+    ensures { λ r. ⌜ Rebuilds n t layout (now (slots .entry)) r (now (block .exit)) ⌝ }
 {
     let mut m = [0u8; 6];
-    let search = settling::settle(slots, t, k, k - 1, xs, 0, &mut m[..t + 1]);
+    let search = settling::settle(slots, t, layout, layout.length - 1, xs, 0, &mut m[..t + 1]);
     if !search.found {
         return Decoded::Beyond;
     }
     guess_rest(
         slots,
         t,
-        k,
+        layout,
         0,
         xs,
         search.marks,
@@ -179,37 +180,54 @@ fn decode_present(
         cols,
         tmp,
     );
-    mend_all(n, t, k, slots, xs, search.marks, block, cols, tmp)
+    mend_all(n, t, layout, slots, xs, search.marks, block, cols, tmp)
 }
 
 // The same, with bytes of its own to work with.
-fn decode_points(n: usize, t: usize, k: usize, slots: &[u8], xs: &[u8], block: &mut [u8]) -> Decoded
-    requires { ⌜ Lent n t k (now slots) (now xs) × (length (now block) ≡ k * (t + 1)) ⌝ }
-    ensures { λ r. ⌜ Rebuilds n t k (now (slots .entry)) r (now (block .exit)) ⌝ }
+fn decode_points(
+    n: usize,
+    t: usize,
+    layout: Layout,
+    slots: &[u8],
+    xs: &[u8],
+    block: &mut [u8],
+) -> Decoded
+    requires { ⌜ Lent n t layout (now slots) (now xs) × (length (now block) ≡ layout .length * (t + 1)) ⌝ }
+    ensures { λ r. ⌜ Rebuilds n t layout (now (slots .entry)) r (now (block .exit)) ⌝ }
 {
     let size = block.len();
+    let k = layout.length;
     let mut cols = [0u8; 768];
     let mut tmp = [0u8; 128];
-    decode_present(n, t, k, slots, xs, block, &mut cols[..size], &mut tmp[..k])
+    decode_present(
+        n,
+        t,
+        layout,
+        slots,
+        xs,
+        block,
+        &mut cols[..size],
+        &mut tmp[..k],
+    )
 }
 
 // The same from n slots, the points of the present ones of which are written to xs. Fewer than t + 1 determine nothing.
 fn decode_slots(
     n: usize,
     t: usize,
-    k: usize,
+    layout: Layout,
     slots: &[u8],
     xs: &mut [u8],
     block: &mut [u8],
 ) -> Decoded
-    requires { ⌜ Coded n t k × (n ≤ length (now xs)) × (length (now block) ≡ k * (t + 1)) ⌝ }
-    ensures { λ r. ⌜ Rebuilds n t k (now (slots .entry)) r (now (block .exit)) ⌝ }
+    requires { ⌜ Coded n t (layout .length) × (n ≤ length (now xs)) × (length (now block) ≡ layout .length * (t + 1)) ⌝ }
+    ensures { λ r. ⌜ Rebuilds n t layout (now (slots .entry)) r (now (block .exit)) ⌝ }
 {
-    let count = list_points(n, k, slots, xs);
+    let count = list_points(n, layout, slots, xs);
     if count <= t {
         return Decoded::Beyond;
     }
-    decode_points(n, t, k, slots, &xs[..count], block)
+    decode_points(n, t, layout, slots, &xs[..count], block)
 }
 
 // Whether a list is exactly as long as a block of k stripes.
@@ -228,13 +246,13 @@ fn is_block(block: &[u8], t: usize, k: usize) -> bool
     block.len() / k - 1 == t
 }
 
-fn decode_fits(n: usize, t: usize, k: usize, slots: &[u8], block: &[u8]) -> bool
-    ensures { λ r. ⌜ r ≡ decodeFits n t k (now (slots .entry)) (now (block .entry)) ⌝ }
+fn decode_fits(n: usize, t: usize, layout: Layout, slots: &[u8], block: &[u8]) -> bool
+    ensures { λ r. ⌜ r ≡ decodeFits n t layout (now (slots .entry)) (now (block .entry)) ⌝ }
 {
-    if !wire::holds_exactly(slots, n, wire::layout_with(k)) {
+    if !wire::holds_exactly(slots, n, layout) {
         return false;
     }
-    is_block(block, t, k)
+    is_block(block, t, layout.length)
 }
 
 fn encode_fits(k: usize, t: usize, block: &[u8], piece: &[u8]) -> bool
@@ -247,12 +265,12 @@ fn encode_fits(k: usize, t: usize, block: &[u8], piece: &[u8]) -> bool
 }
 
 // The block and its marks, or zeros.
-fn rebuild(n: usize, t: usize, k: usize, slots: &[u8], block: &mut [u8]) -> Decoded
-    requires { ⌜ decodeRefusal n t k (now slots) (now block) ≡ 0 ⌝ }
-    ensures { λ r. ⌜ Answers n t k (now (slots .entry)) (now (block .entry)) r (now (block .exit)) ⌝ }
+fn rebuild(n: usize, t: usize, layout: Layout, slots: &[u8], block: &mut [u8]) -> Decoded
+    requires { ⌜ decodeRefusal n t layout (now slots) (now block) ≡ 0 ⌝ }
+    ensures { λ r. ⌜ Answers n t layout (now (slots .entry)) (now (block .entry)) r (now (block .exit)) ⌝ }
 {
     let mut xs = [0u8; 16];
-    let decoded = decode_slots(n, t, k, slots, &mut xs, block);
+    let decoded = decode_slots(n, t, layout, slots, &mut xs, block);
     if let Decoded::Beyond = decoded {
         wire::silence(block);
     }
@@ -265,14 +283,19 @@ fn rebuild(n: usize, t: usize, k: usize, slots: &[u8], block: &mut [u8]) -> Deco
 // Shut out: must-fail/guess_unchecked; must-fail/bound_off_by_one; must-fail/stripe_bound_off_by_one; must-fail/another_point;
 // must-fail/absent_as_zeros; must-fail/absent_differ; must-fail/points_renumbered; must-fail/beyond_keeps_the_block;
 // must-fail/refusal_clears_the_block; must-fail/named_without_absent; must-fail/named_by_first_stripe.
-pub fn decode(n: usize, t: usize, k: usize, slots: &[u8], block: &mut [u8]) -> Decoded
-    ensures { λ r. ⌜ Answers n t k (now (slots .entry)) (now (block .entry)) r (now (block .exit)) ⌝ }
+pub fn decode(n: usize, t: usize, layout: Layout, slots: &[u8], block: &mut [u8]) -> Decoded
+    ensures { λ r. ⌜ Answers n t layout (now (slots .entry)) (now (block .entry)) r (now (block .exit)) ⌝ }
 {
-    let refused = settings::decoding_refusal(n, t, k, decode_fits(n, t, k, slots, block));
+    let refused = settings::decoding_refusal(
+        n,
+        t,
+        layout.length,
+        decode_fits(n, t, layout, slots, block),
+    );
     if refused != 0 {
         return Decoded::Refused(refused);
     }
-    rebuild(n, t, k, slots, block)
+    rebuild(n, t, layout, slots, block)
 }
 
 // The values at x of the stripes of a block, into `piece`, by way of `column`.

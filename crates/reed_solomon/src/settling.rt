@@ -8,6 +8,7 @@ ghost use lib.ListN.{length};
 ghost use Rattle.reed_solomon.specs.Decode.{received};
 ghost use Rattle.reed_solomon.specs.Steps.{column, valuesAt, unequal, different, isRight, Pointed, Settled};
 use crate::guessing;
+use wire::Layout;
 
 // From where the next guess is made, where the stripe looked at was found: the marks of the points that were seen to be false, by index, and the index
 // to start from.
@@ -75,10 +76,10 @@ fn is_right(xs: &[u8], ys: &[u8], t: usize, m: &[u8]) -> bool
 }
 
 // The value of stripe s in slot j; 0 where the slot is absent.
-fn received(slots: &[u8], k: usize, s: usize, j: usize) -> u8
-    ensures { λ r. ⌜ r ≡ received k (now (slots .entry)) s j ⌝ }
+fn received(slots: &[u8], layout: Layout, s: usize, j: usize) -> u8
+    ensures { λ r. ⌜ r ≡ received layout (now (slots .entry)) s j ⌝ }
 {
-    let m = wire::message(slots, wire::layout_with(k), j);
+    let m = wire::message(slots, layout, j);
     if s < m.len() {
         return m[s];
     }
@@ -86,13 +87,13 @@ fn received(slots: &[u8], k: usize, s: usize, j: usize) -> u8
 }
 
 // The values of stripe s at the points xs, into ys.
-fn gather(slots: &[u8], k: usize, s: usize, xs: &[u8], ys: &mut [u8])
+fn gather(slots: &[u8], layout: Layout, s: usize, xs: &[u8], ys: &mut [u8])
     requires { ⌜ length (now ys) ≡ length (now xs) ⌝ }
-    ensures { λ _. ⌜ now (ys .exit) ≡ column k (now (slots .entry)) s (now (xs .entry)) ⌝ }
+    ensures { λ _. ⌜ now (ys .exit) ≡ column layout (now (slots .entry)) s (now (xs .entry)) ⌝ }
 {
     let mut i: usize = 0;
     while i < xs.len() {
-        ys[i] = received(slots, k, s, xs[i] as usize);
+        ys[i] = received(slots, layout, s, xs[i] as usize);
         i += 1;
     }
 }
@@ -101,7 +102,7 @@ fn gather(slots: &[u8], k: usize, s: usize, xs: &[u8], ys: &mut [u8])
 fn guess_stripe(
     slots: &[u8],
     t: usize,
-    k: usize,
+    layout: Layout,
     s: usize,
     xs: &[u8],
     marks: u16,
@@ -116,7 +117,7 @@ fn guess_stripe(
     guessing::guess(
         slots,
         t,
-        k,
+        layout,
         s,
         xs,
         marks,
@@ -132,7 +133,7 @@ fn guess_stripe(
 fn try_guesses(
     slots: &[u8],
     t: usize,
-    k: usize,
+    layout: Layout,
     s: usize,
     xs: &[u8],
     marks: u16,
@@ -144,7 +145,7 @@ fn try_guesses(
 {
     let mut start: usize = 0;
     while start < xs.len() {
-        guess_stripe(slots, t, k, s, xs, marks, start, m);
+        guess_stripe(slots, t, layout, s, xs, marks, start, m);
         if is_right(xs, ys, t, m) {
             return start;
         }
@@ -158,7 +159,7 @@ fn try_guesses(
 fn find(
     slots: &[u8],
     t: usize,
-    k: usize,
+    layout: Layout,
     s: usize,
     xs: &[u8],
     marks: u16,
@@ -168,7 +169,7 @@ fn find(
     requires { ⌜ (length (now ys) ≡ length (now xs)) × Pointed t (now xs) × (length (now m) ≡ t + 1) ⌝ }
     ensures { λ r. ⌜ Settled t (now (xs .entry)) (now (ys .entry)) (ltb r (length (now (xs .entry)))) (now (m .exit)) × (r ≤ length (now (xs .entry))) ⌝ }
 {
-    let start = try_guesses(slots, t, k, s, xs, marks, ys, m);
+    let start = try_guesses(slots, t, layout, s, xs, marks, ys, m);
     if start < xs.len() {
         return start;
     }
@@ -193,7 +194,7 @@ fn add_marks(marks: u16, new: u16, most: usize) -> u16 {
 fn settle_column(
     slots: &[u8],
     t: usize,
-    k: usize,
+    layout: Layout,
     s: usize,
     xs: &[u8],
     marks: u16,
@@ -201,10 +202,10 @@ fn settle_column(
     m: &mut [u8],
 ) -> Search
     requires { ⌜ (length (now ys) ≡ length (now xs)) × Pointed t (now xs) × (length (now m) ≡ t + 1) ⌝ }
-    ensures { λ r. ⌜ Settled t (now (xs .entry)) (column k (now (slots .entry)) s (now (xs .entry))) (r .found) (now (m .exit)) × (r .start ≤ length (now (xs .entry))) ⌝ }
+    ensures { λ r. ⌜ Settled t (now (xs .entry)) (column layout (now (slots .entry)) s (now (xs .entry))) (r .found) (now (m .exit)) × (r .start ≤ length (now (xs .entry))) ⌝ }
 {
-    gather(slots, k, s, xs, ys);
-    let start = find(slots, t, k, s, xs, marks, ys, m);
+    gather(slots, layout, s, xs, ys);
+    let start = find(slots, t, layout, s, xs, marks, ys, m);
     let new = mark_different(xs, ys, m);
     Search {
         found: start < xs.len(),
@@ -217,16 +218,16 @@ fn settle_column(
 pub(crate) fn settle(
     slots: &[u8],
     t: usize,
-    k: usize,
+    layout: Layout,
     s: usize,
     xs: &[u8],
     marks: u16,
     m: &mut [u8],
 ) -> Search
     requires { ⌜ Pointed t (now xs) × (length (now m) ≡ t + 1) ⌝ }
-    ensures { λ r. ⌜ Settled t (now (xs .entry)) (column k (now (slots .entry)) s (now (xs .entry))) (r .found) (now (m .exit)) × (r .start ≤ length (now (xs .entry))) ⌝ }
+    ensures { λ r. ⌜ Settled t (now (xs .entry)) (column layout (now (slots .entry)) s (now (xs .entry))) (r .found) (now (m .exit)) × (r .start ≤ length (now (xs .entry))) ⌝ }
 {
     let n = xs.len();
     let mut ys = [0u8; 16];
-    settle_column(slots, t, k, s, xs, marks, &mut ys[..n], m)
+    settle_column(slots, t, layout, s, xs, marks, &mut ys[..n], m)
 }

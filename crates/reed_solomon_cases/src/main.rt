@@ -1,20 +1,22 @@
 // Codes and decodes blocks for each n from 4 to 16, each t that n allows and 1, 2, 32 and 128 stripes. A line `code` has n, t, k and a
 // digest of the n pieces. A line `decode` has n, t, k and how false pieces are made, then how many calls answered a block, how many beyond, how
 // many a row of marks that is not empty (document 02, U1), and a digest of all answers, rows and blocks: any number of pieces are false or absent,
-// at n 4 and n 7 every set of them, else scattered ones. Then come calls that are refused or just taken, with the answer, the row of marks and a
-// digest of all lent bytes after each, examples c, d and e of document 01, a block of zeros with an absent slot, three stripes with a false value
-// each, and at n 7 and t 2 the block from four true pieces (document 02, U2), and the answers with 0 to 3 of them: answer, row and block.
+// some of these by their run number (document 02, U11), at n 4 and n 7 every set of them, else scattered ones. Then come calls that are refused or just
+// taken, with the answer, the row of marks and a digest of all lent bytes after each, examples c, d and e of document 01, a block of zeros with an absent
+// slot, three stripes with a false value each, slots of another run, and at n 7 and t 2 the block from four true pieces (document 02, U2), and the
+// answers with 0 to 3 of them: answer, row and block.
 // The expected output comes from the independent reference, which decodes by trying sets of t + 1 present slots:
 //     cargo run --release --bin code_vectors > crates/reed_solomon_cases/stdout
 use reed_solomon::Decoded;
 ghost use mathlib.Core.Path.{_≡_};
 ghost use Prim.Native.Nat.{_<_, _≤_};
 
-// The settings, how false pieces are made, what random bytes come from, and which slots have one: the bit worth 1 for controller 1.
+// The settings, the run number, how false pieces are made, what random bytes come from, and which slots have one: the bit worth 1 for controller 1.
 struct Case {
     n: usize,
     t: usize,
     k: usize,
+    run: u16,
     manner: usize,
     seed: u64,
     mask: u64,
@@ -92,43 +94,49 @@ const ENCODINGS: [[usize; 6]; 43] = [
     [4, 1, 1, 257, 2, 1],
 ];
 
-// n, t, k, and the lengths of slots and block: the same.
-const DECODINGS: [[usize; 5]; 35] = [
-    [3, 1, 1, 6, 2],
-    [17, 1, 1, 34, 2],
-    [4, 0, 1, 8, 1],
-    [4, 2, 1, 8, 3],
-    [16, 6, 1, 32, 7],
-    [4, 1, 0, 4, 0],
-    [4, 1, 129, 520, 258],
-    [4, 1, 1, 8, 2],
-    [4, 1, 1, 7, 2],
-    [4, 1, 1, 9, 2],
-    [4, 1, 1, 6, 2],
-    [4, 1, 1, 10, 2],
-    [4, 1, 1, 8, 1],
-    [4, 1, 1, 8, 3],
-    [4, 1, 1, 4, 2],
-    [4, 1, 1, 0, 0],
-    [7, 2, 128, 903, 384],
-    [7, 2, 128, 902, 384],
-    [7, 2, 128, 904, 384],
-    [7, 2, 128, 903, 383],
-    [7, 2, 128, 903, 385],
-    [16, 5, 128, 2064, 768],
-    [3, 0, 0, 0, 0],
-    [3, 1, 129, 390, 258],
-    [3, 1, 1, 5, 2],
-    [4, 0, 129, 520, 129],
-    [4, 2, 1, 8, 2],
-    [4, 1, 0, 8, 2],
-    [4, 1, 129, 519, 258],
-    [0, 0, 0, 0, 0],
-    [18446744073709551615, 18446744073709551615, 1, 8, 2],
-    [4, 18446744073709551615, 18446744073709551615, 8, 2],
-    [4, 6148914691236517206, 1, 8, 2],
-    [4, 1, 18446744073709551615, 0, 0],
-    [4, 1, 9223372036854775808, 4, 0],
+// n, t, k, the run number, and the lengths of slots and block: the same. All slots are of run 257; with another they are absent.
+const DECODINGS: [[usize; 6]; 41] = [
+    [3, 1, 1, 257, 12, 2],
+    [17, 1, 1, 257, 68, 2],
+    [4, 0, 1, 257, 16, 1],
+    [4, 2, 1, 257, 16, 3],
+    [16, 6, 1, 257, 64, 7],
+    [4, 1, 0, 257, 12, 0],
+    [4, 1, 129, 257, 528, 258],
+    [4, 1, 1, 257, 16, 2],
+    [4, 1, 1, 257, 15, 2],
+    [4, 1, 1, 257, 17, 2],
+    [4, 1, 1, 257, 12, 2],
+    [4, 1, 1, 257, 20, 2],
+    [4, 1, 1, 257, 16, 1],
+    [4, 1, 1, 257, 16, 3],
+    [4, 1, 1, 257, 8, 2],
+    [4, 1, 1, 257, 0, 0],
+    [7, 2, 128, 257, 917, 384],
+    [7, 2, 128, 257, 916, 384],
+    [7, 2, 128, 257, 918, 384],
+    [7, 2, 128, 257, 917, 383],
+    [7, 2, 128, 257, 917, 385],
+    [16, 5, 128, 257, 2096, 768],
+    [4, 1, 1, 0, 16, 2],
+    [4, 1, 1, 1, 16, 2],
+    [4, 1, 1, 256, 16, 2],
+    [7, 2, 128, 65535, 917, 384],
+    [7, 2, 128, 256, 917, 383],
+    [3, 0, 0, 257, 0, 0],
+    [3, 1, 129, 257, 396, 258],
+    [3, 1, 1, 257, 11, 2],
+    [4, 0, 129, 257, 528, 129],
+    [4, 2, 1, 257, 16, 2],
+    [4, 1, 0, 257, 16, 2],
+    [4, 1, 129, 257, 527, 258],
+    [0, 0, 0, 257, 0, 0],
+    [18446744073709551615, 18446744073709551615, 1, 257, 16, 2],
+    [4, 18446744073709551615, 18446744073709551615, 257, 16, 2],
+    [4, 6148914691236517206, 1, 257, 16, 2],
+    [4, 1, 18446744073709551613, 257, 0, 0],
+    [4, 1, 18446744073709551615, 257, 8, 0],
+    [4, 1, 9223372036854775808, 257, 12, 0],
 ];
 
 // The library's functions, each called in one place.
@@ -137,7 +145,7 @@ fn encode(c: Case, number: usize, block: &[u8], piece: &mut [u8]) -> u8 {
 }
 
 fn decode(c: Case, slots: &[u8], block: &mut [u8]) -> Answer {
-    match reed_solomon::decode(c.n, c.t, c.k, slots, block) {
+    match reed_solomon::decode(c.n, c.t, wire::layout_with(c.run, c.k), slots, block) {
         Decoded::Block(named) => Answer { number: 0, named },
         Decoded::Beyond => Answer {
             number: 9,
@@ -151,7 +159,7 @@ fn decode(c: Case, slots: &[u8], block: &mut [u8]) -> Answer {
 }
 
 fn send(c: Case, slots: &mut [u8], number: usize, piece: &[u8]) {
-    wire::send_one(slots, wire::layout_with(c.k), number, piece);
+    wire::send_one(slots, wire::layout_with(c.run, c.k), number, piece);
 }
 
 fn block_length(c: Case) -> usize {
@@ -164,13 +172,14 @@ fn slots_length(c: Case) -> usize
     wire::outbox_length(c.n, c.t, c.k, 3 * c.t + 8)
 }
 
-fn case_of(n: usize, t: usize, k: usize, manner: usize) -> Case
+fn case_of(n: usize, t: usize, k: usize, run: u16, manner: usize) -> Case
     ensures { λ r. ⌜ (r .n ≡ n) × (r .t ≡ t) × (r .k ≡ k) ⌝ }
 {
     Case {
         n,
         t,
         k,
+        run,
         manner,
         seed: cases::seed(n as u64, t, k, manner),
         mask: 0,
@@ -259,15 +268,17 @@ fn spoil(m: &mut [u8], c: Case, i: usize)
     }
 }
 
-// A header byte that is not 01.
-fn header(c: Case, i: usize) -> u8 {
-    cases::byte(2 + cases::draw(c.seed, 4, i, 0) % 255)
+// Another byte.
+fn other_byte(x: u8, c: Case, i: usize) -> u8 {
+    x ^ cases::byte(1 + cases::draw(c.seed, 4, i, 0) % 255)
 }
 
-// Makes slot i, which starts at a, absent; its piece stays behind the header.
+// Makes slot i, which starts at a, absent: it has another first byte, or the number of another run, which differs in the low or in the high byte. Its
+// piece stays.
 fn hide(slots: &mut [u8], c: Case, i: usize, a: usize) {
-    if a < slots.len() {
-        slots[a] = header(c, i);
+    let b = std::num::wrapping_add_usize(a, cases::draw(c.seed, 6, i, 0) % 3);
+    if b < slots.len() {
+        slots[b] = other_byte(slots[b], c, i);
     }
 }
 
@@ -311,7 +322,7 @@ fn gather(slots: &mut [u8], m: &mut [u8], block: &[u8], other: &[u8], c: Case) -
     requires { ⌜ (c .n ≤ 16) × (c .k ≤ 128) ⌝ }
 {
     let n = c.n;
-    let width = c.k + 1;
+    let width = c.k + 3;
     let mut d: u64 = 0;
     let mut a: usize = 0;
     let mut i: usize = 0;
@@ -537,6 +548,17 @@ fn play_parts(
     );
 }
 
+// One of four run numbers.
+fn run_number(n: usize, manner: usize) -> u16 {
+    let choice = (n % 4 + manner % 4) % 4;
+    match choice {
+        0 => 0,
+        1 => 1,
+        2 => 256,
+        _ => 65535,
+    }
+}
+
 // A manner with settings, if n allows t.
 fn play_case(n: usize, t: usize, k: usize, manner: usize)
     requires { ⌜ (n ≤ 16) × (t ≤ 5) × (k ≤ 128) ⌝ }
@@ -555,7 +577,7 @@ fn play_case(n: usize, t: usize, k: usize, manner: usize)
         &mut block,
         &mut other,
         &mut out,
-        case_of(n, t, k, manner),
+        case_of(n, t, k, run_number(n, manner), manner),
     );
 }
 
@@ -590,7 +612,7 @@ fn try_encode(r: [usize; 6], block: &[u8], piece: &mut [u8]) {
     let size = cases::fitting(r[4], block);
     let end = cases::fitting(r[5], piece);
     let a = encode(
-        case_of(r[0], r[1], r[2], 0),
+        case_of(r[0], r[1], r[2], 0, 0),
         r[3],
         &block[..size],
         &mut piece[..end],
@@ -601,11 +623,11 @@ fn try_encode(r: [usize; 6], block: &[u8], piece: &mut [u8]) {
 }
 
 // The same for decoding.
-fn try_decode(r: [usize; 5], slots: &[u8], block: &mut [u8]) {
-    let end = cases::fitting(r[3], slots);
-    let size = cases::fitting(r[4], block);
+fn try_decode(r: [usize; 6], slots: &[u8], block: &mut [u8]) {
+    let end = cases::fitting(r[4], slots);
+    let size = cases::fitting(r[5], block);
     let a = decode(
-        case_of(r[0], r[1], r[2], 0),
+        case_of(r[0], r[1], r[2], cases::word(r[3]), 0),
         &slots[..end],
         &mut block[..size],
     );
@@ -620,8 +642,8 @@ fn encoding(i: usize) -> [usize; 6]
     ENCODINGS[i]
 }
 
-fn decoding(i: usize) -> [usize; 5]
-    requires { ⌜ i < 35 ⌝ }
+fn decoding(i: usize) -> [usize; 6]
+    requires { ⌜ i < 41 ⌝ }
 {
     DECODINGS[i]
 }
@@ -638,9 +660,9 @@ fn try_encoding(i: usize)
     try_encode(encoding(i), block, piece);
 }
 
-// All slots are present with pieces of 01.
+// All slots are present in run 257, with pieces of 01.
 fn try_decoding(i: usize)
-    requires { ⌜ i < 35 ⌝ }
+    requires { ⌜ i < 41 ⌝ }
 {
     let mut slots_space = io::buffer();
     let mut block_space = io::buffer();
@@ -661,7 +683,7 @@ fn try_encodings() {
 
 fn try_decodings() {
     let mut i: usize = 0;
-    while i < 35 {
+    while i < 41 {
         try_decoding(i);
         i += 1;
     }
@@ -669,7 +691,7 @@ fn try_decodings() {
 
 fn example_piece(number: usize) {
     let mut piece = [0u8; 1];
-    encode(case_of(4, 1, 1, 0), number, b"\x0a\x14", &mut piece);
+    encode(case_of(4, 1, 1, 0, 0), number, b"\x0a\x14", &mut piece);
     cases::text(b"c");
     cases::hex(&piece);
     cases::newline();
@@ -682,9 +704,9 @@ fn example_decoded(name: &[u8], c: Case, slots: &[u8], block: &mut [u8]) {
     cases::newline();
 }
 
-fn example_slots(name: &[u8], slots: &[u8]) {
+fn example_slots(name: &[u8], run: u16, slots: &[u8]) {
     let mut block = [255u8; 2];
-    example_decoded(name, case_of(4, 1, 1, 0), slots, &mut block);
+    example_decoded(name, case_of(4, 1, 1, run, 0), slots, &mut block);
 }
 
 // Slots of three stripes 0a14: 4 is false in the first, 1 in the second, 2 in the third.
@@ -692,8 +714,8 @@ fn example_stripes() {
     let mut block = [255u8; 6];
     example_decoded(
         b"apart",
-        case_of(4, 1, 3, 0),
-        b"\x01\x1e\x00\x1e\x01\x22\x22\x00\x01\x36\x36\x36\x01\x00\x5a\x5a",
+        case_of(4, 1, 3, 0, 0),
+        b"\x01\x00\x00\x1e\x00\x1e\x01\x00\x00\x22\x22\x00\x01\x00\x00\x36\x36\x36\x01\x00\x00\x00\x5a\x5a",
         &mut block,
     );
 }
@@ -701,7 +723,7 @@ fn example_stripes() {
 // Slots of seven controllers, t 2: those that are present have their pieces of 0a141e.
 fn example_present(name: &[u8], slots: &[u8]) {
     let mut block = [255u8; 3];
-    example_decoded(name, case_of(7, 2, 1, 0), slots, &mut block);
+    example_decoded(name, case_of(7, 2, 1, 256, 0), slots, &mut block);
 }
 
 // Examples c, d and e of document 01, example d with slot 1 absent too; zeros, which code to zeros, with slot 1 absent.
@@ -710,34 +732,80 @@ fn examples() {
     example_piece(2);
     example_piece(3);
     example_piece(4);
-    example_slots(b"d", b"\x01\x00\x01\x22\x01\x36\x01\x5a");
-    example_slots(b"d", b"\x00\x1e\x01\x22\x01\x36\x01\x5a");
-    example_slots(b"e", b"\x01\x1e\x01\x22\x01\x37\x01\x5b");
-    example_slots(b"zeros", b"\x00\x00\x01\x00\x01\x00\x01\x00");
+    example_slots(
+        b"d",
+        1,
+        b"\x01\x01\x00\x00\x01\x01\x00\x22\x01\x01\x00\x36\x01\x01\x00\x5a",
+    );
+    example_slots(
+        b"d",
+        1,
+        b"\x00\x01\x00\x1e\x01\x01\x00\x22\x01\x01\x00\x36\x01\x01\x00\x5a",
+    );
+    example_slots(
+        b"e",
+        65535,
+        b"\x01\xff\xff\x1e\x01\xff\xff\x22\x01\xff\xff\x37\x01\xff\xff\x5b",
+    );
+    example_slots(
+        b"zeros",
+        0,
+        b"\x00\x00\x00\x00\x01\x00\x00\x00\x01\x00\x00\x00\x01\x00\x00\x00",
+    );
     example_stripes();
+}
+
+// Pieces of 0a14 in run 258, of which 1 carries number 2, and 3 number 257, with a true piece or a false one; then 2 carries another too, and nothing is
+// determined. Last, slots of which 1 and 4 are of run 1 with pieces of 0a14, 2 and 3 of run 2 with pieces of 0b14: each run has its block.
+fn late_examples() {
+    example_slots(
+        b"late",
+        258,
+        b"\x01\x02\x00\x1e\x01\x02\x01\x22\x01\x01\x01\x36\x01\x02\x01\x5a",
+    );
+    example_slots(
+        b"late, false",
+        258,
+        b"\x01\x02\x00\x1f\x01\x02\x01\x22\x01\x01\x01\x37\x01\x02\x01\x5a",
+    );
+    example_slots(
+        b"too late",
+        258,
+        b"\x01\x02\x00\x1e\x01\x01\x02\x22\x01\x01\x01\x36\x01\x02\x01\x5a",
+    );
+    example_slots(
+        b"run 1",
+        1,
+        b"\x01\x01\x00\x1e\x01\x02\x00\x23\x01\x02\x00\x37\x01\x01\x00\x5a",
+    );
+    example_slots(
+        b"run 2",
+        2,
+        b"\x01\x01\x00\x1e\x01\x02\x00\x23\x01\x02\x00\x37\x01\x01\x00\x5a",
+    );
 }
 
 // Three of seven silent, and at most t + 1 present.
 fn silent_examples() {
     example_present(
         b"silent",
-        b"\x00\xff\x01\x5a\x00\xff\x01\xa7\x01\xad\x00\xff\x01\xfd",
+        b"\x00\x00\x01\xff\x01\x00\x01\x5a\x00\x00\x01\xff\x01\x00\x01\xa7\x01\x00\x01\xad\x00\x00\x01\xff\x01\x00\x01\xfd",
     );
     example_present(
         b"present 0",
-        b"\x00\x00\x00\x00\x00\x00\x00\x00\x00\x00\x00\x00\x00\x00",
+        b"\x00\x00\x00\x00\x00\x00\x00\x00\x00\x00\x00\x00\x00\x00\x00\x00\x00\x00\x00\x00\x00\x00\x00\x00\x00\x00\x00\x00",
     );
     example_present(
         b"present 1",
-        b"\x01\x00\x00\x00\x00\x00\x00\x00\x00\x00\x00\x00\x00\x00",
+        b"\x01\x00\x01\x00\x00\x00\x00\x00\x00\x00\x00\x00\x00\x00\x00\x00\x00\x00\x00\x00\x00\x00\x00\x00\x00\x00\x00\x00",
     );
     example_present(
         b"present 2",
-        b"\x01\x00\x01\x5a\x00\x00\x00\x00\x00\x00\x00\x00\x00\x00",
+        b"\x01\x00\x01\x00\x01\x00\x01\x5a\x00\x00\x00\x00\x00\x00\x00\x00\x00\x00\x00\x00\x00\x00\x00\x00\x00\x00\x00\x00",
     );
     example_present(
         b"present 3",
-        b"\x01\x00\x01\x5a\x01\x50\x00\x00\x00\x00\x00\x00\x00\x00",
+        b"\x01\x00\x01\x00\x01\x00\x01\x5a\x01\x00\x01\x50\x00\x00\x00\x00\x00\x00\x00\x00\x00\x00\x00\x00\x00\x00\x00\x00",
     );
 }
 
@@ -746,5 +814,6 @@ fn main() {
     try_encodings();
     try_decodings();
     examples();
+    late_examples();
     silent_examples();
 }

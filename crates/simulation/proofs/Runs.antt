@@ -15,12 +15,12 @@ use Rattle.settings.specs.declared.Settings.{Settings}
 use Rattle.wire.specs.Length.{roundLayout, outboxLength}
 use Rattle.wire.specs.Slot.{slotOf, written}
 use Rattle.protocol.specs.Step.{startOf, stepOf}
-use Rattle.simulation.specs.Run.{layoutAt, Scenario, Playing, began, sentAs, slotTo, inboxOf, outboxOf, called, played}
+use Rattle.simulation.specs.Run.{runNumber, layoutAt, Scenario, Playing, began, sentAs, slotTo, inboxOf, outboxOf, called, played}
 
 -- ---- what is made and lent
 module _ (F : Scenario) where
   pub began-is : (i : ℕ) → began F i ≡ record {
-    state = startOf (F .settings) i (length (F .block)) .state;
+    state = startOf (F .settings) i runNumber (length (F .block)) .state;
     block = F .block;
     outbox = [];
   }
@@ -110,8 +110,8 @@ module _ (s : Settings) (block : List ℕ) (faulty faulty′ : ℕ → Bool) (sa
       → slotTo one c now i j ≡ slotTo other c now i j
   unfolding slotTo one other
   slot-alike c now i j a b d e f g =
-      ap₂ (λ (x : Bool) (m : List ℕ). cond x (written (roundLayout (s .n) (s .t) (s .k) c) (sentAs m))
-      (slotOf (now j .outbox) (roundLayout (s .n) (s .t) (s .k) c) i))
+      ap₂ (λ (x : Bool) (m : List ℕ). cond x (written (roundLayout runNumber (s .n) (s .t) (s .k) c) (sentAs m))
+      (slotOf (now j .outbox) (roundLayout runNumber (s .n) (s .t) (s .k) c) i))
       (same-faulty j f g) (same-said c j i a b f g d e)
 
   inbox-alike : (c : ℕ) (now : ℕ → Playing) (i : ℕ) → c ≤ 3 * s .t + 8 → 1 ≤ i → i ≤ s .n → inboxOf one c now i ≡ inboxOf other c now i

@@ -2,6 +2,7 @@
 -- steps, in lockstep.
 --   Scenario            settings, the block given, who is faulty, and what the faulty ones say: the message of a round from one to another, empty for
 --                       none
+--   runNumber           the run number of a simulated run, 0 (document 02, U11)
 --   layoutAt F c        the layout of the slots of round c
 --   Proper F            the settings are in range, the block has its length, each message its round's length, and all are bytes
 --   Playing             one controller between two calls: its state, its block, and what its last call sent
@@ -37,8 +38,11 @@ pub record Scenario : Type 0 where
   pub faulty : ℕ → Bool
   pub said : (round from to : ℕ) → List ℕ
 
+abbrev pub runNumber : ℕ
+runNumber = 0
+
 abbrev pub layoutAt : Scenario → ℕ → Layout
-layoutAt F c = roundLayout (F .settings .n) (F .settings .t) (F .settings .k) c
+layoutAt F c = roundLayout runNumber (F .settings .n) (F .settings .t) (F .settings .k) c
 
 pub record Proper (F : Scenario) : Type 0 where
   pub coded : Coded (F .settings .n) (F .settings .t) (F .settings .k)
@@ -55,7 +59,7 @@ pub record Playing : Type 0 where
 
 unfoldable pub began : Scenario → ℕ → Playing
 began F i = record {
-  state = startOf (F .settings) i (length (F .block)) .state;
+  state = startOf (F .settings) i runNumber (length (F .block)) .state;
   block = F .block;
   outbox = [];
 }

@@ -4,7 +4,7 @@ use mathlib.Core.Path.{_≡_, refl, sym, ap, subst, _∙_}
 use mathlib.Core.Bool.{true, false}
 use mathlib.Core.List.{List, [], _∷_}
 use mathlib.Core.Logic.{_⊎_, ⊎-elim}
-use Prim.Native.Nat.{ℕ, zero, suc, _+_, _-_, _*_, _≤_}
+use Prim.Native.Nat.{ℕ, zero, suc, _+_, _-_, _*_, _≤_, _<_}
 use native.Mathlib.Nat.{mul-le-mul-right}
 use native.Mathlib.Numerals.{add-one}
 use native.Mathlib.Omega.{arith}
@@ -21,7 +21,8 @@ use Rattle.wire.specs.Length.{blockLength, messageLength, inboxLength, outboxLe
 use Rattle.wire.specs.Slot.{width, slotOf}
 use Rattle.wire.proofs.Laws.{length-pos, outbox-is, inbox-is, first-inbox, Sized, sized-silence, sized-bytes, content, written-each, slot-is, length-slot}
 use Rattle.protocol.specs.Step.{After, stepOf}
-use Rattle.simulation.specs.Run.{layoutAt, Scenario, Proper, Playing, sentAs, slotTo, inboxOf, outboxOf, played}
+use Rattle.protocol.proofs.Laws.{start-run, step-run}
+use Rattle.simulation.specs.Run.{runNumber, layoutAt, Scenario, Proper, Playing, sentAs, slotTo, inboxOf, outboxOf, played}
 use Rattle.simulation.proofs.Laws.{began-is, called-is, inbox-first, inbox-later, slot-faulty, slot-correct, cleared, played-start, played-correct}
 use Rattle.simulation.proofs.Laws.{played-faulty}
 use Rattle.simulation_agreement.proofs.Bytes.{IsBytes, Byte, zeros-bytes, bytes-step}
@@ -48,7 +49,7 @@ module _ (F : Scenario) (p : Proper F) where
       ⊎-elim
       (λ (y : F .faulty j ≡ true).
       subst Bytes (sym (slot-faulty F c now i j y))
-      (written-each Byte (lit< tt) (lit< tt) (layoutAt F c) (sentAs (F .said c j i)) (subst Bytes (sym (sent-content (F .said c j i))) (p .said-bytes c j i))))
+      (written-each Byte (layoutAt F c) (lit< tt) (lit< tt) (lit< tt) (lit< tt) (sentAs (F .said c j i)) (subst Bytes (sym (sent-content (F .said c j i))) (p .said-bytes c j i))))
       (λ (y : F .faulty j ≡ false). subst Bytes (sym (slot-correct F c now i j y)) (slot-bytes (now j .outbox) (layoutAt F c) i (h j)))
       (either (F .faulty j))
 
@@ -65,10 +66,11 @@ module _ (F : Scenario) (p : Proper F) where
       subst (IsBytes (outboxLength (F .settings .n) (F .settings .t) (F .settings .k) c)) (sym (cleared F c))
       (zeros-bytes (outboxLength (F .settings .n) (F .settings .t) (F .settings .k) c))
 
-  -- block and outbox of a controller after c calls
+  -- block, outbox and run number of a controller after c calls
   pub record HoldsBytes (c i : ℕ) : Type 0 where
     pub block-is : IsBytes (blockLength (F .settings .k) (F .settings .t)) (played F c i .block)
     pub sends : Bytes (played F c i .outbox)
+    pub run-most : played F c i .state .run < 65536
 
   -- a call of a correct controller
   after : ℕ → ℕ → After
@@ -81,12 +83,18 @@ module _ (F : Scenario) (p : Proper F) where
   unfolding after taken
   step-is c i f = played-correct F c i f ∙ called-is F c (played F c) i
 
-  after-bytes : (c i : ℕ) → Bytes (played F c i .block) → ((j : ℕ) → Bytes (played F c j .outbox))
+  after-bytes : (c i : ℕ) → played F c i .state .run < 65536 → Bytes (played F c i .block) → ((j : ℕ) → Bytes (played F c j .outbox))
       → IsBytes (length (played F c i .block)) (after c i .block) × IsBytes (length (outboxOf F (c + 1))) (after c i .outbox)
   unfolding after
-  after-bytes c i h g =
-      bytes-step (played F c i .state) (played F c i .block) (inboxOf F c (played F c) i) (outboxOf F (c + 1)) h (box-bytes c (played F c) g i)
+  after-bytes c i word h g =
+      bytes-step (played F c i .state) (played F c i .block) (inboxOf F c (played F c) i) (outboxOf F (c + 1)) word h (box-bytes c (played F c) g i)
       (lent-bytes (c + 1) .bytes)
+
+  run-after : (c i : ℕ) → played F c i .state .run < 65536 → after c i .answer .state .run < 65536
+  unfolding after
+  run-after c i h =
+      subst (λ (x : ℕ). x < 65536)
+      (sym (step-run (played F c i .state) (played F c i .block) (inboxOf F c (played F c) i) (outboxOf F (c + 1)))) h
 
   pub holds-bytes : (c i : ℕ) → HoldsBytes c i
   unfolding taken
@@ -96,6 +104,8 @@ module _ (F : Scenario) (p : Proper F) where
         block-is = subst (λ (x : Playing). IsBytes (blockLength (F .settings .k) (F .settings .t)) (x .block)) (sym e)
             (record { size = p .block-length; bytes = p .block-bytes });
         sends = subst (λ (x : Playing). Bytes (x .outbox)) (sym e) (λ x. lit< tt);
+        run-most = subst (λ (x : Playing). x .state .run < 65536) (sym e)
+            (start-run (λ x. x < 65536) (F .settings) i runNumber (length (F .block)) (lit< tt) (lit< tt));
       }
   holds-bytes (suc c) i =
       let q = holds-bytes c i in
@@ -105,15 +115,17 @@ module _ (F : Scenario) (p : Proper F) where
       record {
         block-is = subst (λ (x : Playing). IsBytes (blockLength (F .settings .k) (F .settings .t)) (x .block)) e (q .block-is);
         sends = subst (λ (x : Playing). Bytes (x .outbox)) e (q .sends);
+        run-most = subst (λ (x : Playing). x .state .run < 65536) e (q .run-most);
       })
       (λ (y : F .faulty i ≡ false).
       let e = sym (step-is c i y) in
-      let r = after-bytes c i (q .block-is .bytes) (λ j. holds-bytes c j .sends) in
+      let r = after-bytes c i (q .run-most) (q .block-is .bytes) (λ j. holds-bytes c j .sends) in
       record {
         block-is =
             subst (λ (x : Playing). IsBytes (blockLength (F .settings .k) (F .settings .t)) (x .block)) e
             (subst (λ (m : ℕ). IsBytes m (after c i .block)) (q .block-is .size) (r .0));
         sends = subst (λ (x : Playing). Bytes (x .outbox)) e (r .1 .bytes);
+        run-most = subst (λ (x : Playing). x .state .run < 65536) e (run-after c i (q .run-most));
       })
       (either (F .faulty i))
 
@@ -126,7 +138,7 @@ module _ (F : Scenario) (p : Proper F) where
   unfolding taken
   sent-size c i y =
       ap (λ (x : Playing). length (x .outbox)) (step-is c i y)
-      ∙ after-bytes c i (holds-bytes c i .block-is .bytes) (λ j. holds-bytes c j .sends) .1 .size
+      ∙ after-bytes c i (holds-bytes c i .run-most) (holds-bytes c i .block-is .bytes) (λ j. holds-bytes c j .sends) .1 .size
       ∙ lent-bytes (c + 1) .size
       ∙ ap (outboxLength (F .settings .n) (F .settings .t) (F .settings .k)) (add-one c)
 
@@ -143,7 +155,7 @@ module _ (F : Scenario) (p : Proper F) where
       ap length (slot-correct F (suc c) (played F (suc c)) i j y)
       ∙ length-slot (played F (suc c) j .outbox) (layoutAt F (suc c)) i (v .least)
       (subst (λ (m : ℕ). i * width (layoutAt F (suc c)) ≤ m)
-      (sym (sent-size c j y ∙ outbox-is (F .settings .n) (F .settings .t) (F .settings .k) (suc c) (some-length c l)))
+      (sym (sent-size c j y ∙ outbox-is runNumber (F .settings .n) (F .settings .t) (F .settings .k) (suc c) (some-length c l)))
       (mul-le-mul-right (width (layoutAt F (suc c))) (v .most))))
       (either (F .faulty j))
 
@@ -153,7 +165,7 @@ module _ (F : Scenario) (p : Proper F) where
   inbox-size (suc c) i l v =
       ap length (inbox-later F c (played F (suc c)) i)
       ∙ length-joined (width (layoutAt F (suc c))) (λ x. slotTo F (suc c) (played F (suc c)) i (x + 1)) (F .settings .n) (λ x b. slot-size c i (x + 1) l v)
-      ∙ sym (inbox-is (F .settings .n) (F .settings .t) (F .settings .k) (suc c) (some-length c l))
+      ∙ sym (inbox-is runNumber (F .settings .n) (F .settings .t) (F .settings .k) (suc c) (some-length c l))
 
   -- slot i of an inbox is what came from i
   pub in-slot : (c i j : ℕ) → suc c ≤ 3 * F .settings .t + 8 → Numbered (F .settings .n) i → Numbered (F .settings .n) j

@@ -55,33 +55,33 @@ Byte x = x < 256
 pub zeros-bytes : (m : ℕ) → IsBytes m (replicate m 0)
 zeros-bytes m = record { size = length-replicate m 0; bytes = all-zeros Byte (lit< tt) m }
 
-slots-bytes : (layout : Layout) (f : ℕ → Sent) (n : ℕ) → ((j : ℕ) → Sized layout (f j)) → ((j : ℕ) → Bytes (content (f j)))
+slots-bytes : (layout : Layout) (f : ℕ → Sent) (n : ℕ) → layout .run < 65536 → ((j : ℕ) → Sized layout (f j)) → ((j : ℕ) → Bytes (content (f j)))
     → IsBytes (n * width layout) (slots layout f n)
-slots-bytes layout f n sized each = record {
+slots-bytes layout f n word sized each = record {
   size = length-slots layout f sized n;
-  bytes = slots-each Byte (lit< tt) (lit< tt) layout f each n;
+  bytes = slots-each Byte layout (lit< tt) (lit< tt) (omega arith) (omega arith) f each n;
 }
 
 -- one message to all
-one-bytes : (layout : Layout) (m : List ℕ) (n : ℕ) → IsBytes (layout .length) m → IsBytes (n * width layout) (slots layout (λ _. bytes m) n)
-one-bytes layout m n h = slots-bytes layout (λ _. bytes m) n (λ j. sized-bytes layout m (h .size)) (λ j. h .bytes)
+one-bytes : (layout : Layout) (m : List ℕ) (n : ℕ) → layout .run < 65536 → IsBytes (layout .length) m → IsBytes (n * width layout) (slots layout (λ _. bytes m) n)
+one-bytes layout m n word h = slots-bytes layout (λ _. bytes m) n word (λ j. sized-bytes layout m (h .size)) (λ j. h .bytes)
 
-to-all-bytes : (layout : Layout) (n : ℕ) (m o : List ℕ) → Bytes m → Bytes o → IsBytes (length o) (toAll layout n m o)
-to-all-bytes layout n m o h g = go (eqb (length m) (layout .length) && eqb (length o) (n * width layout)) refl
+to-all-bytes : (layout : Layout) (n : ℕ) (m o : List ℕ) → layout .run < 65536 → Bytes m → Bytes o → IsBytes (length o) (toAll layout n m o)
+to-all-bytes layout n m o word h g = go (eqb (length m) (layout .length) && eqb (length o) (n * width layout)) refl
   where
     go : (b : Bool) → (eqb (length m) (layout .length) && eqb (length o) (n * width layout)) ≡ b
         → IsBytes (length o) (cond b (slots layout (λ _. bytes m) n) o)
     go true e =
         subst (λ (x : ℕ). IsBytes x (slots layout (λ _. bytes m) n))
         (sym (eqb-true (length o) (n * width layout) (and-right (eqb (length m) (layout .length)) _ e)))
-        (one-bytes layout m n (record { size = eqb-true (length m) (layout .length) (and-left _ (eqb (length o) (n * width layout)) e); bytes = h }))
+        (one-bytes layout m n word (record { size = eqb-true (length m) (layout .length) (and-left _ (eqb (length o) (n * width layout)) e); bytes = h }))
     go false e = record { size = refl; bytes = g }
 
 piece-of-bytes : (k t : ℕ) (b : List ℕ) (j : ℕ) → IsBytes k (pieceOf k t b j)
 piece-of-bytes k t b j = record { size = length-piece k t b j; bytes = bytes-piece k t b j }
 
 -- ---- calls
-module _ (s : State) (b i o : List ℕ) (r : Ready s (length b) (length i) (length o)) (block : Bytes b) (inbox : Bytes i) (outbox : Bytes o) where
+module _ (s : State) (b i o : List ℕ) (r : Ready s (length b) (length i) (length o)) (word : s .run < 65536) (block : Bytes b) (inbox : Bytes i) (outbox : Bytes o) where
   coded : Coded (s .settings .n) (s .settings .t) (s .settings .k)
   coded = r .valid .coded
 
@@ -94,15 +94,15 @@ module _ (s : State) (b i o : List ℕ) (r : Ready s (length b) (length i) (leng
   row c k e = message-length-is coded c ∙ ap (λ (x : Round). rowLength x (s .settings .n) (s .settings .t) (s .settings .k)) e
 
   kind-is : (c : ℕ) (k : Round) → s .next ≡ c → roundKind (s .settings .t) c ≡ k
-      → outboxLayout s ≡ kindLayout k (s .settings .n) (s .settings .t) (s .settings .k)
-  kind-is c k at e = ap (λ (x : Round). kindLayout x (s .settings .n) (s .settings .t) (s .settings .k)) (ap (roundKind (s .settings .t)) at ∙ e)
+      → outboxLayout s ≡ kindLayout (s .run) k (s .settings .n) (s .settings .t) (s .settings .k)
+  kind-is c k at e = ap (λ (x : Round). kindLayout (s .run) x (s .settings .n) (s .settings .t) (s .settings .k)) (ap (roundKind (s .settings .t)) at ∙ e)
 
   -- the outbox is n slots
   room : 1 ≤ s .next → s .next ≤ 3 * s .settings .t + 8 → length o ≡ s .settings .n * width (outboxLayout s)
-  room least most = r .outbox-length ∙ outbox-is (s .settings .n) (s .settings .t) (s .settings .k) (s .next) (length-pos coded (s .next) least most)
+  room least most = r .outbox-length ∙ outbox-is (s .run) (s .settings .n) (s .settings .t) (s .settings .k) (s .next) (length-pos coded (s .next) least most)
 
   kind-room : (c : ℕ) (k : Round) → s .next ≡ c → roundKind (s .settings .t) c ≡ k → 1 ≤ c → c ≤ 3 * s .settings .t + 8
-      → length o ≡ s .settings .n * width (kindLayout k (s .settings .n) (s .settings .t) (s .settings .k))
+      → length o ≡ s .settings .n * width (kindLayout (s .run) k (s .settings .n) (s .settings .t) (s .settings .k))
   kind-room c k at e least most =
       room (omega arith) (omega arith) ∙ ap (λ (x : Layout). s .settings .n * width x) (kind-is c k at e)
 
@@ -123,7 +123,7 @@ module _ (s : State) (b i o : List ℕ) (r : Ready s (length b) (length i) (leng
       ⊎-elim
       (λ (e : s .own ≡ s .settings .sender).
       filled L _ (slots L (λ _. bytes b) (s .settings .n)) l (sent-block L (s .settings .n) (s .own) (s .settings .sender) b o e long l)
-      (one-bytes L b (s .settings .n) (record { size = long; bytes = block })))
+      (one-bytes L b (s .settings .n) word (record { size = long; bytes = block })))
       (λ (z : s .own ≡ s .settings .sender → ⊥). silent _ (sent-silence L (s .settings .n) (s .own) (s .settings .sender) b o z))
       (same-or-not (s .own) (s .settings .sender))
 
@@ -138,15 +138,15 @@ module _ (s : State) (b i o : List ℕ) (r : Ready s (length b) (length i) (leng
             ∙ row 1 Block (round-block (s .settings .t)) ∙ row-block (s .settings .n) (s .settings .t) (s .settings .k)));
       }
 
-  pieces : s .next ≡ 2 → (b′ : List ℕ) → length b′ ≡ length b → IsBytes (length o) (sentPieces (s .settings .n) (s .settings .t) (s .settings .k) (s .own) b′ o)
+  pieces : s .next ≡ 2 → (b′ : List ℕ) → length b′ ≡ length b → IsBytes (length o) (sentPieces (s .run) (s .settings .n) (s .settings .t) (s .settings .k) (s .own) b′ o)
   pieces at b′ long =
-      let L = kindLayout Pieces (s .settings .n) (s .settings .t) (s .settings .k) in
+      let L = kindLayout (s .run) Pieces (s .settings .n) (s .settings .t) (s .settings .k) in
       let l = kind-room 2 Pieces at (round-pieces (s .settings .t)) (omega arith) (omega arith) in
       let p : ℕ → List ℕ = pieceOf (s .settings .k) (s .settings .t) b′ in
       let two : L .length ≡ 2 * s .settings .k = kind-length-is coded Pieces ∙ row-pieces (s .settings .n) (s .settings .t) (s .settings .k) in
       filled L _ (slots L (twoPieces (s .settings .k) (s .settings .t) (s .own) b′) (s .settings .n)) l
-      (sent-pieces (s .settings .n) (s .settings .t) (s .settings .k) (s .own) b′ coded (r .valid .number) (long ∙ r .block-length) o l)
-      (slots-bytes L (twoPieces (s .settings .k) (s .settings .t) (s .own) b′) (s .settings .n)
+      (sent-pieces (s .settings .n) (s .settings .t) (s .settings .k) (s .own) b′ coded (r .valid .number) (long ∙ r .block-length) (s .run) o l)
+      (slots-bytes L (twoPieces (s .settings .k) (s .settings .t) (s .own) b′) (s .settings .n) word
       (λ j. subst (Sized L) (sym (two-pieces-is (s .settings .k) (s .settings .t) (s .own) b′ j))
       (sized-bytes L (p (s .own) ++ p j)
       (length-append (p (s .own)) (p j) ∙ omega
@@ -162,11 +162,11 @@ module _ (s : State) (b i o : List ℕ) (r : Ready s (length b) (length i) (leng
       let two : L .length ≡ 2 = ap (λ (x : Layout). x .length) (kind-is 3 Marks at (round-marks (s .settings .t))) ∙ kind-length-is coded Marks
       ∙ row-marks (s .settings .n) (s .settings .t) (s .settings .k) in
       filled L _ (slots L (λ _. bytes (marksMessage (s .settings .n) m)) (s .settings .n)) l (sent-marks L (s .settings .n) m o two l)
-      (one-bytes L (marksMessage (s .settings .n) m) (s .settings .n)
+      (one-bytes L (marksMessage (s .settings .n) m) (s .settings .n) word
       (record { size = length-marks (s .settings .n) m ∙ sym two; bytes = bytes-marks (s .settings .n) m few }))
 
   matrix : (n : ℕ) (m : List ℕ) → IsBytes (length o) (toAll (outboxLayout s) n (rowsOf (s .settings .n) m) o)
-  matrix n m = to-all-bytes (outboxLayout s) n (rowsOf (s .settings .n) m) o (bytes-rows (s .settings .n) m few) outbox
+  matrix n m = to-all-bytes (outboxLayout s) n (rowsOf (s .settings .n) m) o word (bytes-rows (s .settings .n) m few) outbox
 
   king : (p : ℕ) (m : List ℕ) → IsBytes (length o) (sentByKing (outboxLayout s) (s .own) p (s .settings .n) m o)
   king p m =
@@ -175,19 +175,19 @@ module _ (s : State) (b i o : List ℕ) (r : Ready s (length b) (length i) (leng
       (λ (e : s .own ≡ p → ⊥). silent _ (king-none (outboxLayout s) (s .own) p (s .settings .n) m o e))
       (same-or-not (s .own) p)
 
-  forward : s .next ≡ 3 * s .settings .t + 7 → (core : ℕ) → IsBytes (length o) (forwarded (s .settings .n) (s .settings .t) (s .settings .k) (s .own) core b o)
+  forward : s .next ≡ 3 * s .settings .t + 7 → (core : ℕ) → IsBytes (length o) (forwarded (s .run) (s .settings .n) (s .settings .t) (s .settings .k) (s .own) core b o)
   forward at core =
-      let L = kindLayout Forward (s .settings .n) (s .settings .t) (s .settings .k) in
+      let L = kindLayout (s .run) Forward (s .settings .n) (s .settings .t) (s .settings .k) in
       let l = kind-room (3 * s .settings .t + 7) Forward at (round-forward (s .settings .t)) (omega arith) (omega arith) in
       let p : ℕ → List ℕ = pieceOf (s .settings .k) (s .settings .t) b in
       ⊎-elim
       (λ (y : inCore core (s .own) ≡ true).
       filled L _ (slots L (λ j. bytes (p j)) (s .settings .n)) l
-      (forwarded-member (s .settings .n) (s .settings .t) (s .settings .k) (s .own) b coded (r .valid .number) (r .block-length) core o y l)
-      (slots-bytes L (λ j. bytes (p j)) (s .settings .n)
+      (forwarded-member (s .settings .n) (s .settings .t) (s .settings .k) (s .own) b coded (r .valid .number) (r .block-length) (s .run) core o y l)
+      (slots-bytes L (λ j. bytes (p j)) (s .settings .n) word
       (λ j. sized-bytes L (p j) (length-piece (s .settings .k) (s .settings .t) b j ∙ sym (kind-forward coded)))
       (λ j. bytes-piece (s .settings .k) (s .settings .t) b j)))
-      (λ (y : inCore core (s .own) ≡ false). silent _ (forwarded-other (s .settings .n) (s .settings .t) (s .settings .k) (s .own) core b o y))
+      (λ (y : inCore core (s .own) ≡ false). silent _ (forwarded-other (s .run) (s .settings .n) (s .settings .t) (s .settings .k) (s .own) core b o y))
       (either (inCore core (s .own)))
 
   -- the own piece: that of the own coding, or the chosen one, or none
@@ -216,7 +216,7 @@ module _ (s : State) (b i o : List ℕ) (r : Ready s (length b) (length i) (leng
   choose : s .next ≡ 3 * s .settings .t + 8 → (core : ℕ)
       → IsBytes (length o) (shared (s .settings .n) (s .settings .t) (s .settings .k) (s .own) core i (inboxLayout s) b o)
   choose at core =
-      let L = kindLayout Rebuild (s .settings .n) (s .settings .t) (s .settings .k) in
+      let L = kindLayout (s .run) Rebuild (s .settings .n) (s .settings .t) (s .settings .k) in
       let l = kind-room (3 * s .settings .t + 8) Rebuild at (round-rebuild (s .settings .t)) (omega arith) (omega arith) in
       let e : s .next - 1 ≡ 3 * s .settings .t + 7 = omega arith in
       let m = ownPiece (s .settings .n) (s .settings .t) (s .settings .k) (s .own) core i (inboxLayout s) b in
@@ -227,35 +227,41 @@ module _ (s : State) (b i o : List ℕ) (r : Ready s (length b) (length i) (leng
       filled L _ (slots L (λ _. bytes m) (s .settings .n)) l
       (shared-sends (s .settings .n) (s .settings .t) (s .settings .k) (s .own) b coded (r .valid .number) (r .block-length) core i (inboxLayout s) o l m refl
       (h .size))
-      (one-bytes L m (s .settings .n) (record { size = h .size ∙ sym (kind-rebuild coded); bytes = h .bytes })))
+      (one-bytes L m (s .settings .n) word (record { size = h .size ∙ sym (kind-rebuild coded); bytes = h .bytes })))
       (piece core (inboxLayout s) (ap (λ (c : ℕ). messageLength (s .settings .n) (s .settings .t) (s .settings .k) c) e
       ∙ row (3 * s .settings .t + 7) Forward (round-forward (s .settings .t)) ∙ row-forward (s .settings .n) (s .settings .t) (s .settings .k)))
 
-  finish : s .next ≡ 3 * s .settings .t + 9 → (core : ℕ) → IsBytes (length b) (finished (s .settings .n) (s .settings .t) (s .settings .k) core i b .block)
+  finish : s .next ≡ 3 * s .settings .t + 9 → (core : ℕ) → IsBytes (length b) (finished (s .settings .n) (s .settings .t) (inboxLayout s) core i b .block)
   finish at core =
-      let long : length i ≡ s .settings .n * width (layoutWith (s .settings .k)) =
+      let back : s .next - 1 ≡ 3 * s .settings .t + 8 = omega arith in
+      let layout-is : inboxLayout s ≡ layoutWith (s .run) (s .settings .k) =
+      ap (λ (c : ℕ). layoutWith (s .run) (messageLength (s .settings .n) (s .settings .t) (s .settings .k) c)) back
+      ∙ ap (layoutWith (s .run))
+      (row (3 * s .settings .t + 8) Rebuild (round-rebuild (s .settings .t)) ∙ row-rebuild (s .settings .n) (s .settings .t) (s .settings .k)) in
+      let long : length i ≡ s .settings .n * width (layoutWith (s .run) (s .settings .k)) =
       r .inbox-length
       ∙ ap (inboxLength (s .settings .n) (s .settings .t) (s .settings .k)) (omega arith)
-      ∙ inbox-is (s .settings .n) (s .settings .t) (s .settings .k) (3 * s .settings .t + 8)
+      ∙ inbox-is (s .run) (s .settings .n) (s .settings .t) (s .settings .k) (3 * s .settings .t + 8)
       (length-pos coded (3 * s .settings .t + 8) (omega arith) (omega arith))
-      ∙ ap (λ (x : ℕ). s .settings .n * width (layoutWith x))
+      ∙ ap (λ (x : ℕ). s .settings .n * width (layoutWith (s .run) x))
       (row (3 * s .settings .t + 8) Rebuild (round-rebuild (s .settings .t)) ∙ row-rebuild (s .settings .n) (s .settings .t) (s .settings .k)) in
-      ⊎-elim
+      subst (λ (l : Layout). IsBytes (length b) (finished (s .settings .n) (s .settings .t) l core i b .block)) (sym layout-is)
+      (⊎-elim
       (λ (z : restricted core (s .settings .n) ≡ 0).
-      subst (λ (x : Finished). IsBytes (length b) (x .block)) (sym (finished-none (s .settings .n) (s .settings .t) (s .settings .k) core i b z))
+      subst (λ (x : Finished). IsBytes (length b) (x .block)) (sym (finished-none (s .settings .n) (s .settings .t) (layoutWith (s .run) (s .settings .k)) core i b z))
       (zeros-bytes (length b)))
       (λ (z : restricted core (s .settings .n) ≡ 0 → ⊥).
-      let e = 0-decode (s .settings .n) (s .settings .t) (s .settings .k) i b coded long (r .block-length) in
+      let e = 0-decode (s .settings .n) (s .settings .t) (layoutWith (s .run) (s .settings .k)) i b coded long (r .block-length) in
       ⊎-elim
-      (λ (d : (B : List ℕ) × Decodes (s .settings .n) (s .settings .t) (s .settings .k) i B).
+      (λ (d : (B : List ℕ) × Decodes (s .settings .n) (s .settings .t) (layoutWith (s .run) (s .settings .k)) i B).
       subst (λ (x : Finished). IsBytes (length b) (x .block))
-      (sym (finished-agreed (s .settings .n) (s .settings .t) (s .settings .k) core i b z e (d .0) (d .1)))
+      (sym (finished-agreed (s .settings .n) (s .settings .t) (layoutWith (s .run) (s .settings .k)) core i b z e (d .0) (d .1)))
       (record { size = d .1 .size ∙ sym (r .block-length); bytes = d .1 .bytes }))
-      (λ (d : (B : List ℕ) → Decodes (s .settings .n) (s .settings .t) (s .settings .k) i B → ⊥).
-      subst (λ (x : Finished). IsBytes (length b) (x .block)) (sym (finished-beyond (s .settings .n) (s .settings .t) (s .settings .k) core i b z e d))
+      (λ (d : (B : List ℕ) → Decodes (s .settings .n) (s .settings .t) (layoutWith (s .run) (s .settings .k)) i B → ⊥).
+      subst (λ (x : Finished). IsBytes (length b) (x .block)) (sym (finished-beyond (s .settings .n) (s .settings .t) (layoutWith (s .run) (s .settings .k)) core i b z e d))
       (zeros-bytes (length b)))
-      (decodes-or-not (s .settings .n) (s .settings .t) (s .settings .k) i))
-      (same-or-not (restricted core (s .settings .n)) 0)
+      (decodes-or-not (s .settings .n) (s .settings .t) (layoutWith (s .run) (s .settings .k)) i))
+      (same-or-not (restricted core (s .settings .n)) 0))
 
   abbrev Left : Carried → Type 0
   Left c = IsBytes (length b) (c .block) × IsBytes (length o) (c .outbox)
@@ -274,7 +280,7 @@ module _ (s : State) (b i o : List ℕ) (r : Ready s (length b) (length i) (leng
       let z = zerosOf i (inboxLayout s) (s .settings .n) (s .settings .t) in
       let a = onesOf i (inboxLayout s) (s .settings .n) (s .settings .t) in
       subst Left (sym (of-tally s b i o))
-      (same, to-all-bytes (outboxLayout s) (s .settings .n) (seenMessage (s .settings .n) z a) o (bytes-seen (s .settings .n) z a few) outbox)
+      (same, to-all-bytes (outboxLayout s) (s .settings .n) (seenMessage (s .settings .n) z a) o word (bytes-seen (s .settings .n) z a few) outbox)
   by-kind Hold at = subst Left (sym (of-hold s b i o)) (same, king (writePhase s) _)
   by-kind Settle at = subst Left (sym (of-settle s b i o)) (same, matrix _ _)
   by-kind Core at = subst Left (sym (of-core s b i o)) (same, forward at _)
@@ -286,13 +292,13 @@ module _ (s : State) (b i o : List ℕ) (r : Ready s (length b) (length i) (leng
   call-bytes = by-kind (callKind (s .settings .t) (s .next)) (call-fact (s .settings .t) (s .next))
 
 -- ---- steps
-pub bytes-step : (s : State) (b i o : List ℕ) → Bytes b → Bytes i → Bytes o
+pub bytes-step : (s : State) (b i o : List ℕ) → s .run < 65536 → Bytes b → Bytes i → Bytes o
     → IsBytes (length b) (stepOf s b i o .block) × IsBytes (length o) (stepOf s b i o .outbox)
-bytes-step s b i o hb hi ho =
+bytes-step s b i o word hb hi ho =
     let Left : After → Type 0 = λ a. IsBytes (length b) (a .block) × IsBytes (length o) (a .outbox) in
     ⊎-elim
     (λ (z : stepRefusal s (length b) (length i) (length o) ≡ 0).
-    subst Left (sym (step-carried s b i o z)) (call-bytes s b i o (step-0 s (length b) (length i) (length o) z) hb hi ho))
+    subst Left (sym (step-carried s b i o z)) (call-bytes s b i o (step-0 s (length b) (length i) (length o) z) word hb hi ho))
     (λ (z : stepRefusal s (length b) (length i) (length o) ≡ 0 → ⊥).
     subst Left (sym (step-refused s b i o z)) (record { size = refl; bytes = hb }, record { size = refl; bytes = ho }))
     (same-or-not (stepRefusal s (length b) (length i) (length o)) 0)

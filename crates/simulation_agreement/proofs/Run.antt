@@ -6,7 +6,7 @@ use mathlib.Core.List.{List}
 use Prim.Native.Nat.{ℕ, zero, suc, _+_, _-_, _≤_, _<_}
 use native.Mathlib.Omega.{arith}
 use borrow.Author.Tests.{eq-eqb, not-true}
-use lib.Dec.{eqb}
+use lib.Dec.{eqb, lit<}
 use lib.ListN.{length, getD}
 use Rattle.lists.specs.Fill.{tabulate}
 use Rattle.lists.proofs.Tests.{not-not}
@@ -24,7 +24,7 @@ use Rattle.protocol.proofs.Laws.{start-number, start-state, start-by-size, step
 use Rattle.agreement.specs.Run.{Lent, Local, Made, stepped, left, leftAfter, made, calls}
 use Rattle.agreement.specs.Agreement.{System, Correct, Supposed, atStart, callsOf, atEnd, noCall, call, Arrives}
 use Rattle.agreement.proofs.Laws.{stepNumber, At, step-at, valid-at}
-use Rattle.simulation.specs.Run.{layoutAt, Scenario, Proper, Playing, inboxOf, outboxOf, played, last, ended}
+use Rattle.simulation.specs.Run.{runNumber, layoutAt, Scenario, Proper, Playing, inboxOf, outboxOf, played, last, ended}
 use Rattle.simulation.proofs.Laws.{began-is, called-is, slot-correct, played-start, played-correct}
 use Rattle.simulation_agreement.specs.Simulation.{Tolerated}
 use Rattle.simulation_agreement.proofs.Boxes.{holds-bytes, inbox-bytes, lent-bytes, inbox-size, in-slot}
@@ -43,6 +43,8 @@ lentTo F p i c = record { inbox = inboxOf F c (played F c) i; outbox = outboxOf 
 abbrev pub systemOf : (F : Scenario) → Proper F → System
 systemOf F p = record {
   settings = F .settings;
+  run = runNumber;
+  run-most = lit< tt;
   correct = λ i. not (F .faulty i);
   block = λ i. F .block;
   block-bytes = λ i. p .block-bytes;
@@ -54,9 +56,9 @@ module _ (F : Scenario) (p : Proper F) (i : ℕ) (v : Numbered (F .settings .n) 
   valid : Valid (F .settings) i
   valid = record { coded = p .coded; number = v; sender = p .sender-most }
 
-  pub start-carried : startOf (F .settings) i (length (F .block)) .number ≡ 0
+  pub start-carried : startOf (F .settings) i runNumber (length (F .block)) .number ≡ 0
   start-carried =
-      start-number (F .settings) i (length (F .block))
+      start-number (F .settings) i runNumber (length (F .block))
       ∙ sym (start-by-size (F .settings) i (length (F .block)))
       ∙ 0-starting (F .settings) i (eqb (length (F .block)) (blockSize (F .settings .n) (F .settings .t) (F .settings .k))) valid
       (eq-eqb (length (F .block)) (blockSize (F .settings .n) (F .settings .t) (F .settings .k)) (p .block-length ∙ sym (block-size-is (p .coded))))
@@ -72,7 +74,7 @@ module _ (F : Scenario) (p : Proper F) (i : ℕ) (v : Numbered (F .settings .n) 
   begins = sym (ap holding (played-start F i ∙ began-is F i))
 
   -- each call is carried out
-  carried : (c : ℕ) → c < last F → At (F .settings) i (c + 1) (heldBy F i c) → stepNumber (heldBy F i c) (lentTo F p i c) ≡ 0
+  carried : (c : ℕ) → c < last F → At (F .settings) i runNumber (c + 1) (heldBy F i c) → stepNumber (heldBy F i c) (lentTo F p i c) ≡ 0
   carried c l a =
       0-step (played F c i .state) (length (played F c i .block)) (length (inboxOf F c (played F c) i)) (length (outboxOf F (c + 1)))
       (record {
@@ -86,20 +88,21 @@ module _ (F : Scenario) (p : Proper F) (i : ℕ) (v : Numbered (F .settings .n) 
       })
 
   -- after c calls the next one is c + 1
-  at : (c : ℕ) → c ≤ last F → At (F .settings) i (c + 1) (heldBy F i c)
+  at : (c : ℕ) → c ≤ last F → At (F .settings) i runNumber (c + 1) (heldBy F i c)
   at zero l =
-      let e = sym (ap (λ (h : Local). h .state) begins) ∙ start-state (F .settings) i (length (F .block)) start-carried in
+      let e = sym (ap (λ (h : Local). h .state) begins) ∙ start-state (F .settings) i runNumber (length (F .block)) start-carried in
       record {
         settings-is = ap (λ (s : State). s .settings) e;
         own-is = ap (λ (s : State). s .own) e;
+        run-is = ap (λ (s : State). s .run) e;
         next-is = ap (λ (s : State). s .next) e;
       }
   at (suc c) l =
       let a = at c (omega arith) in
       let e : c + 1 + 1 ≡ suc c + 1 = omega arith in
-      subst (λ (x : ℕ). At (F .settings) i x (heldBy F i (suc c))) e
-      (subst (At (F .settings) i (c + 1 + 1)) (goes-on c)
-      (step-at (F .settings) i (c + 1) (heldBy F i c) (lentTo F p i c) a (carried c (omega arith) a)))
+      subst (λ (x : ℕ). At (F .settings) i runNumber x (heldBy F i (suc c))) e
+      (subst (At (F .settings) i runNumber (c + 1 + 1)) (goes-on c)
+      (step-at (F .settings) i runNumber (c + 1) (heldBy F i c) (lentTo F p i c) a (carried c (omega arith) a)))
 
   goes : (c : ℕ) → c < last F → Goes (heldBy F i) (lentTo F p i) c
   goes c l = record {

@@ -23,14 +23,14 @@ use Rattle.protocol.specs.declared.State.{State}
 use Rattle.protocol.specs.State.{zeroState}
 use Rattle.protocol.specs.Step.{startOf}
 use Rattle.system_file.specs.Table.{textOf, placeIn}
-use Rattle.simulation.specs.Run.{Scenario, Playing, played}
+use Rattle.simulation.specs.Run.{runNumber, Scenario, Playing, played}
 use Rattle.simulation.proofs.Laws.{called-ext, called-other, played-correct, played-faulty}
 use Rattle.simulator.specs.Steps.{FileSettings, Rooms, Calling, Called, AfterCalls, tableScenario, nowOf}
 use Rattle.simulator.proofs.Running.{inbox-le, outbox-le}
 
 -- a run finds what each call finds
 pub playable-calling : (input places : List ℕ) (S : Settings) (c : ℕ) (blocks₀ blocks sent sending : List ℕ) → FileSettings S → Rooms input places S
-    → S .n * blockLength (S .k) (S .t) ≤ length blocks₀ → length blocks ≡ length blocks₀ → length sent ≡ 49408 → length sending ≡ 49408 → c ≤ 3 * S .t + 8
+    → S .n * blockLength (S .k) (S .t) ≤ length blocks₀ → length blocks ≡ length blocks₀ → length sent ≡ 49920 → length sending ≡ 49920 → c ≤ 3 * S .t + 8
     → Calling input places S c blocks sent sending
 playable-calling input places S c blocks₀ blocks sent sending v rooms room same is-sent is-sending most =
     let few = v .coded .quorum .n-most in
@@ -39,12 +39,12 @@ playable-calling input places S c blocks₀ blocks sent sending v rooms room sam
       rooms = rooms;
       calls-most = most;
       blocks-room = omega (arith, room, same);
-      sent-room = omega (arith, is-sent, mul-le-mul {n₁ = S .n} {m₁ = inboxLength (S .n) (S .t) (S .k) (c + 1)} {n₂ = 16} {m₂ = 3088} few (inbox-le v c most));
+      sent-room = omega (arith, is-sent, mul-le-mul {n₁ = S .n} {m₁ = inboxLength (S .n) (S .t) (S .k) (c + 1)} {n₂ = 16} {m₂ = 3120} few (inbox-le v c most));
       sent-most = omega (arith, is-sent);
       sending-room = omega (
         arith,
         is-sending,
-        mul-le-mul {n₁ = S .n} {m₁ = outboxLength (S .n) (S .t) (S .k) (c + 1)} {n₂ = 16} {m₂ = 3088} few
+        mul-le-mul {n₁ = S .n} {m₁ = outboxLength (S .n) (S .t) (S .k) (c + 1)} {n₂ = 16} {m₂ = 3120} few
             (outbox-le v (c + 1) (omega arith) (omega arith)),
       );
     }
@@ -92,7 +92,7 @@ module _ (S : Settings) (block : List ℕ) (faulty : ℕ) (places input : List �
           outbox = λ i a b l f.
               let pos = length-pos (v .coded) (c + 1) (omega arith) (omega arith) in
               ap (λ (x : List ℕ). part (inboxLength (S .n) (S .t) (S .k) (c + 1 + 1)) x (i - 1)) is-sent
-              ∙ ap (λ (w : ℕ). part w sending (i - 1)) (inbox-is (S .n) (S .t) (S .k) (c + 1) pos ∙ sym (outbox-is (S .n) (S .t) (S .k) (c + 1) pos))
+              ∙ ap (λ (w : ℕ). part w sending (i - 1)) (inbox-is runNumber (S .n) (S .t) (S .k) (c + 1) pos ∙ sym (outbox-is runNumber (S .n) (S .t) (S .k) (c + 1) pos))
               ∙ ap (λ (p : Playing). p .outbox) (correct-is i a b f);
         })
 
@@ -123,19 +123,19 @@ module _ (n i : ℕ) (block blocks v : List ℕ) (l : i < n) (room : n * length 
       (ap length copied-is ∙ omega arith)
 
 -- the states that start returns
-pub first-state : (S : Settings) (block : List ℕ) (s : State) → s ≡ startOf S 1 (length block) .state → (x : ℕ) → x < 1
-    → getD (replicate 16 s) x zeroState ≡ startOf S (x + 1) (length block) .state
+pub first-state : (S : Settings) (block : List ℕ) (s : State) → s ≡ startOf S 1 runNumber (length block) .state → (x : ℕ) → x < 1
+    → getD (replicate 16 s) x zeroState ≡ startOf S (x + 1) runNumber (length block) .state
 first-state S block s e x l =
     let z : x ≡ 0 = omega arith in
-    getD-replicate 16 x s zeroState (omega arith) ∙ e ∙ ap (λ (y : ℕ). startOf S (y + 1) (length block) .state) (sym z)
+    getD-replicate 16 x s zeroState (omega arith) ∙ e ∙ ap (λ (y : ℕ). startOf S (y + 1) runNumber (length block) .state) (sym z)
 
-pub next-state : (S : Settings) (block : List ℕ) (states : List State) (i : ℕ) (s : State) → i < length states → s ≡ startOf S (i + 1) (length block) .state
-    → ((x : ℕ) → x < i → getD states x zeroState ≡ startOf S (x + 1) (length block) .state)
-    → (x : ℕ) → x < i + 1 → getD (set states i s) x zeroState ≡ startOf S (x + 1) (length block) .state
+pub next-state : (S : Settings) (block : List ℕ) (states : List State) (i : ℕ) (s : State) → i < length states → s ≡ startOf S (i + 1) runNumber (length block) .state
+    → ((x : ℕ) → x < i → getD states x zeroState ≡ startOf S (x + 1) runNumber (length block) .state)
+    → (x : ℕ) → x < i + 1 → getD (set states i s) x zeroState ≡ startOf S (x + 1) runNumber (length block) .state
 next-state S block states i s l e h x g =
     ⊎-elim
     (λ (q : x ≡ i).
     ap (λ (y : ℕ). getD (set states i s) y zeroState) q ∙ getD-set-same states i s zeroState l ∙ e
-    ∙ ap (λ (y : ℕ). startOf S (y + 1) (length block) .state) (sym q))
+    ∙ ap (λ (y : ℕ). startOf S (y + 1) runNumber (length block) .state) (sym q))
     (λ (d : x < i). getD-set-other states i x s zeroState (λ q. omega arith) ∙ h x d)
     (below-suc (omega arith))

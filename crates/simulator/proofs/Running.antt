@@ -31,7 +31,7 @@ use Rattle.wire.proofs.Laws.{put-into, relay-into}
 use Rattle.protocol.specs.declared.State.{State}
 use Rattle.system_file.specs.Table.{textOf, placeIn}
 use Rattle.system_file.proofs.Laws.{text-none, text-some}
-use Rattle.simulation.specs.Run.{Scenario, Playing, sentAs, slotTo, inboxOf}
+use Rattle.simulation.specs.Run.{runNumber, Scenario, Playing, sentAs, slotTo, inboxOf}
 use Rattle.simulation.proofs.Laws.{slot-faulty, slot-correct, inbox-first, inbox-later}
 use Rattle.simulator.specs.Steps.{layoutIn, FileSettings, Filling, Making, Parted, tableScenario, sentBy}
 
@@ -257,21 +257,21 @@ module _ {S : Settings} (v : FileSettings S) where
             (omega (arith, v .coded .quorum .t-most, v .coded .quorum .n-most)) (v .few-stripes),
       )
 
-  box-most : (layout : Layout) → layout .length ≤ 192 → S .n * width layout ≤ 3088
+  box-most : (layout : Layout) → layout .length ≤ 192 → S .n * width layout ≤ 3120
   box-most layout l =
-      omega (arith, mul-le-mul {n₁ = S .n} {m₁ = width layout} {n₂ = 16} {m₂ = 193} (v .coded .quorum .n-most) (omega (arith, width-le layout)))
+      omega (arith, mul-le-mul {n₁ = S .n} {m₁ = width layout} {n₂ = 16} {m₂ = 195} (v .coded .quorum .n-most) (omega (arith, width-le layout)))
 
-  pub inbox-le : (c : ℕ) → c ≤ 3 * S .t + 8 → inboxLength (S .n) (S .t) (S .k) (c + 1) ≤ 3088
+  pub inbox-le : (c : ℕ) → c ≤ 3 * S .t + 8 → inboxLength (S .n) (S .t) (S .k) (c + 1) ≤ 3120
   inbox-le zero l = omega (arith, first-inbox (S .n) (S .t) (S .k))
   inbox-le (suc c) l =
-      omega (arith, inbox-is (S .n) (S .t) (S .k) (suc c) (length-pos (v .coded) (suc c) (omega arith) l), box-most (layoutIn S (suc c)) (message-le (suc c)))
+      omega (arith, inbox-is runNumber (S .n) (S .t) (S .k) (suc c) (length-pos (v .coded) (suc c) (omega arith) l), box-most (layoutIn S (suc c)) (message-le (suc c)))
 
-  pub outbox-le : (c : ℕ) → 1 ≤ c → c ≤ 3 * S .t + 9 → outboxLength (S .n) (S .t) (S .k) c ≤ 3088
+  pub outbox-le : (c : ℕ) → 1 ≤ c → c ≤ 3 * S .t + 9 → outboxLength (S .n) (S .t) (S .k) c ≤ 3120
   outbox-le c least most =
       ⊎-elim
       (λ (e : c ≡ 3 * S .t + 9). omega (arith, ap (outboxLength (S .n) (S .t) (S .k)) e, last-outbox (S .n) (S .t) (S .k)))
       (λ (d : c ≡ 3 * S .t + 9 → ⊥).
-      omega (arith, outbox-is (S .n) (S .t) (S .k) c (length-pos (v .coded) c least (omega arith)), box-most (layoutIn S c) (message-le c)))
+      omega (arith, outbox-is runNumber (S .n) (S .t) (S .k) c (length-pos (v .coded) c least (omega arith)), box-most (layoutIn S c) (message-le c)))
       (same-or-not c (3 * S .t + 9))
 
 -- ---- the inbox of a call
@@ -302,7 +302,7 @@ making-filling input places S c i sent m inbox h some =
       number-least = h .number-least;
       number-most = h .number-most;
       some = omega (arith, pos);
-      outbox-is = size ∙ inbox-is (S .n) (S .t) (S .k) c pos;
+      outbox-is = size ∙ inbox-is runNumber (S .n) (S .t) (S .k) c pos;
       sent-room = subst (λ (x : ℕ). S .n * x ≤ length sent) (sym size) (h .sent-room);
       sent-most = h .sent-most;
       message-is = h .message-is;

@@ -22,7 +22,7 @@ use Rattle.system_file.specs.declared.Form.the-variants.{Right}
 use Rattle.system_file.specs.Form.{Contents, right, readOf}
 use Rattle.system_file.specs.Table.{isFaulty, tableOf, fileOf, Properly}
 use Rattle.system_file.proofs.Laws.{read-right, table-room, file-right}
-use Rattle.simulation.specs.Run.{Playing, ended, played}
+use Rattle.simulation.specs.Run.{runNumber, Playing, ended, played}
 use Rattle.simulation.proofs.Laws.{began-is, played-start}
 use Rattle.simulator.specs.Output.{namesLine, results, outputOf, simulated}
 use Rattle.simulator.specs.Steps.{FileSettings, AfterCalls, Playable, Runnable, Wrote, tableScenario}
@@ -49,16 +49,16 @@ module _ {input places : List ℕ} {S : Settings} {block blocks sent sending out
 -- what the run begins with
 pub held-start : (S : Settings) (block : List ℕ) (faulty : ℕ) (places input : List ℕ) (states : List State) (blocks sent : List ℕ)
     → length block ≡ blockLength (S .k) (S .t)
-    → ((x : ℕ) → x < S .n → getD states x zeroState ≡ startOf S (x + 1) (length block) .state)
+    → ((x : ℕ) → x < S .n → getD states x zeroState ≡ startOf S (x + 1) runNumber (length block) .state)
     → ((x : ℕ) → x < S .n → part (length block) blocks x ≡ block)
     → AfterCalls (tableScenario S block faulty places input) 0 states blocks (blockLength (S .k) (S .t)) sent (inboxLength (S .n) (S .t) (S .k) 1)
 held-start S block faulty places input states blocks sent size s b =
     let F = tableScenario S block faulty places input in
-    let is : (i : ℕ) → played F 0 i ≡ record { state = startOf S i (length block) .state; block = block; outbox = [] } = λ i. played-start F i ∙ began-is F i in
+    let is : (i : ℕ) → played F 0 i ≡ record { state = startOf S i runNumber (length block) .state; block = block; outbox = [] } = λ i. played-start F i ∙ began-is F i in
     record {
       state = λ i l m.
           let e : i - 1 + 1 ≡ i = omega arith in
-          s (i - 1) (omega arith) ∙ ap (λ (x : ℕ). startOf S x (length block) .state) e ∙ sym (ap (λ (p : Playing). p .state) (is i));
+          s (i - 1) (omega arith) ∙ ap (λ (x : ℕ). startOf S x runNumber (length block) .state) e ∙ sym (ap (λ (p : Playing). p .state) (is i));
       block = λ i l m. ap (λ (w : ℕ). part w blocks (i - 1)) (sym size) ∙ b (i - 1) (omega arith) ∙ sym (ap (λ (p : Playing). p .block) (is i));
       outbox = λ i l m _ _.
           ap (λ (w : ℕ). part w sent (i - 1)) (first-inbox (S .n) (S .t) (S .k)) ∙ part-take 0 sent (i - 1) ∙ sym (ap (λ (p : Playing). p .outbox) (is i));
@@ -87,7 +87,7 @@ cleared-wrote {out} {s} {out′} {r} e w = zeros-wrote 6400 (subst (λ (o : List
 pub record FileRun (input : List ℕ) (file : SystemFile) (b : ℕ) : Type 0 where
   pub block-le : b ≤ length (file .block)
   pub block-long : length (take b (file .block)) ≡ b
-  pub runnable : Runnable input (file .places) (file .settings) (take b (file .block)) (replicate 3072 0) (replicate 49408 0) (replicate 49408 0)
+  pub runnable : Runnable input (file .places) (file .settings) (take b (file .block)) (replicate 3072 0) (replicate 49920 0) (replicate 49920 0)
       (replicate 6400 0)
   pub output : outputOf (tableScenario (file .settings) (take b (file .block)) (file .faulty) (file .places) input) ≡ simulated input
 
@@ -116,8 +116,8 @@ module _ (input : List ℕ) (c : Contents) (e : readOf input ≡ right c) (b : �
       rooms = record { input-most = proper .size; room = table-room input c e };
       block-is = ap length block-is ∙ proper .block-length;
       blocks-is = length-replicate {A = ℕ} 3072 0;
-      sent-is = length-replicate {A = ℕ} 49408 0;
-      sending-is = length-replicate {A = ℕ} 49408 0;
+      sent-is = length-replicate {A = ℕ} 49920 0;
+      sending-is = length-replicate {A = ℕ} 49920 0;
       out-is = refl;
     };
     output =

@@ -34,10 +34,10 @@ use Rattle.protocol.specs.declared.State.{State}
 use Rattle.protocol.specs.State.{zeroState}
 use Rattle.protocol.specs.Step.{After, stepOf}
 use Rattle.system_file.specs.Table.{textOf, placeIn}
-use Rattle.simulation.specs.Run.{Scenario, Playing, called, played}
+use Rattle.simulation.specs.Run.{runNumber, Scenario, Playing, called, played}
 
 abbrev pub layoutIn : Settings → ℕ → Layout
-layoutIn S c = roundLayout (S .n) (S .t) (S .k) c
+layoutIn S c = roundLayout runNumber (S .n) (S .t) (S .k) c
 
 pub record FileSettings (S : Settings) : Type 0 where
   pub coded : Coded (S .n) (S .t) (S .k)
@@ -57,7 +57,7 @@ pub record Filling (input places : List ℕ) (S : Settings) (c i o : ℕ) (sent 
   pub some : 0 < messageLength (S .n) (S .t) (S .k) c
   pub outbox-is : o ≡ S .n * width (layoutIn S c)
   pub sent-room : S .n * o ≤ length sent
-  pub sent-most : length sent ≤ 49408
+  pub sent-most : length sent ≤ 49920
   pub message-is : length m ≡ messageLength (S .n) (S .t) (S .k) c
   pub cleared : inbox ≡ replicate o 0
 
@@ -90,7 +90,7 @@ pub record Making (input places : List ℕ) (S : Settings) (c i : ℕ) (sent m i
   pub number-least : 1 ≤ i
   pub number-most : i ≤ S .n
   pub sent-room : S .n * inboxLength (S .n) (S .t) (S .k) (c + 1) ≤ length sent
-  pub sent-most : length sent ≤ 49408
+  pub sent-most : length sent ≤ 49920
   pub message-is : length m ≡ messageLength (S .n) (S .t) (S .k) c
   pub cleared : inbox ≡ replicate (inboxLength (S .n) (S .t) (S .k) (c + 1)) 0
 
@@ -101,7 +101,7 @@ pub record Calling (input places : List ℕ) (S : Settings) (c : ℕ) (blocks se
   pub calls-most : c ≤ 3 * S .t + 8
   pub blocks-room : S .n * blockLength (S .k) (S .t) ≤ length blocks
   pub sent-room : S .n * inboxLength (S .n) (S .t) (S .k) (c + 1) ≤ length sent
-  pub sent-most : length sent ≤ 49408
+  pub sent-most : length sent ≤ 49920
   pub sending-room : S .n * outboxLength (S .n) (S .t) (S .k) (c + 1) ≤ length sending
 
 -- a step, with what is held after it
@@ -132,16 +132,16 @@ pub record Playable (input places : List ℕ) (S : Settings) (blocks sent sendin
   pub small : FileSettings S
   pub rooms : Rooms input places S
   pub blocks-room : S .n * blockLength (S .k) (S .t) ≤ length blocks
-  pub sent-is : length sent ≡ 49408
-  pub sending-is : length sending ≡ 49408
+  pub sent-is : length sent ≡ 49920
+  pub sending-is : length sending ≡ 49920
 
 pub record Runnable (input places : List ℕ) (S : Settings) (block blocks sent sending out : List ℕ) : Type 0 where
   pub small : FileSettings S
   pub rooms : Rooms input places S
   pub block-is : length block ≡ blockLength (S .k) (S .t)
   pub blocks-is : length blocks ≡ 3072
-  pub sent-is : length sent ≡ 49408
-  pub sending-is : length sending ≡ 49408
+  pub sent-is : length sent ≡ 49920
+  pub sending-is : length sending ≡ 49920
   pub out-is : out ≡ replicate 6400 0
 
 pub record Room (out : List ℕ) (at m : ℕ) : Type 0 where

@@ -11,6 +11,7 @@ ghost use Rattle.wire.specs.Slot.{putSlot, relayed};
 ghost use Rattle.system_file.specs.Table.{textOf};
 ghost use Rattle.simulation.specs.Run.{slotTo, inboxOf};
 ghost use Rattle.simulator.specs.Steps.{Filling, Making, tableScenario, sentBy};
+use crate::RUN;
 use settings::Settings;
 use wire::Layout;
 
@@ -65,7 +66,7 @@ fn fill_inbox(
     requires { ⌜ Filling (now input) (now places) settings c i o (now sent) (now m) (now inbox) ⌝ }
     ensures { λ _. ⌜ now (inbox .exit) ≡ joined (λ x. slotTo (tableScenario settings [] faulty (now (places .entry)) (now (input .entry))) c (sentBy (now (sent .entry)) o) i (x + 1)) (settings .n) ⌝ }
 {
-    let layout = wire::round_layout(settings.n, settings.t, settings.k, c);
+    let layout = wire::round_layout(RUN, settings.n, settings.t, settings.k, c);
     let mut j: usize = 0;
     while j < settings.n {
         let place = system_file::place_of(places, c, j + 1, i);

@@ -15,6 +15,9 @@ use settings::Settings;
 use system_file::Form;
 use system_file::SystemFile;
 
+// The run number of a simulated run (document 02, U11).
+pub(crate) const RUN: u16 = 0;
+
 // The output: its bytes stand at the front of `bytes`, `length` of them, and zeros follow.
 pub struct Output {
     pub bytes: [u8; 6400],
@@ -63,8 +66,8 @@ fn play_file(input: &[u8], file: SystemFile) -> Output
     let places = file.places;
     let b = wire::block_length(settings.n, settings.t, settings.k);
     let mut blocks = [0u8; 3072];
-    let mut sent = [0u8; 49408];
-    let mut sending = [0u8; 49408];
+    let mut sent = [0u8; 49920];
+    let mut sending = [0u8; 49920];
     let mut bytes = [0u8; 6400];
     let length = write_run(
         input,

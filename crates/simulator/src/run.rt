@@ -7,8 +7,9 @@ ghost use Rattle.lists.specs.Join.{part};
 ghost use Rattle.wire.specs.Length.{blockLength, messageLength, inboxLength, outboxLength};
 ghost use Rattle.protocol.specs.State.{zeroState};
 ghost use Rattle.protocol.specs.Step.{startOf, stepOf};
-ghost use Rattle.simulation.specs.Run.{inboxOf};
+ghost use Rattle.simulation.specs.Run.{runNumber, inboxOf};
 ghost use Rattle.simulator.specs.Steps.{Calling, AfterCalls, Playable, Parted, tableScenario, sentBy, nowOf, taken, Called};
+use crate::RUN;
 use crate::inbox;
 use protocol::State;
 use settings::Settings;
@@ -32,7 +33,7 @@ fn step_part(
     sending: &mut [u8],
     o: usize,
 ) -> State
-    requires { ⌜ (i < 16) × (b ≤ 192) × (o ≤ 3088) × (i * b + b ≤ length (now blocks)) × (i * o + o ≤ length (now sending)) ⌝ }
+    requires { ⌜ (i < 16) × (b ≤ 192) × (o ≤ 3120) × (i * b + b ≤ length (now blocks)) × (i * o + o ≤ length (now sending)) ⌝ }
     ensures { λ r. ⌜ Parted b o i s (now (inbox .entry)) (now (blocks .entry)) (now (sending .entry)) r (now (blocks .exit)) (now (sending .exit)) ⌝ }
 {
     let a = i * b;
@@ -82,7 +83,7 @@ fn call_one(
     requires { ⌜ Calling (now input) (now places) settings c (now blocks) (now sent) (now sending) × (i < settings .n) ⌝ }
     ensures { λ r. ⌜ Parted (blockLength (settings .k) (settings .t)) (outboxLength (settings .n) (settings .t) (settings .k) (c + 1)) i s (inboxOf (tableScenario settings [] faulty (now (places .entry)) (now (input .entry))) c (sentBy (now (sent .entry)) (inboxLength (settings .n) (settings .t) (settings .k) (c + 1))) (i + 1)) (now (blocks .entry)) (now (sending .entry)) r (now (blocks .exit)) (now (sending .exit)) ⌝ }
 {
-    let mut inbox = [0u8; 3088];
+    let mut inbox = [0u8; 3120];
     let mut m = [0u8; 192];
     let len = wire::message_length(settings.n, settings.t, settings.k, c);
     let size = wire::inbox_length(settings.n, settings.t, settings.k, c + 1);
@@ -184,15 +185,15 @@ pub(crate) fn play(
 // The states that start returns.
 pub(crate) fn start_all(settings: Settings, block: &[u8]) -> [State; 16]
     requires { ⌜ (1 ≤ settings .n) × (settings .n ≤ 16) ⌝ }
-    ensures { λ r. ⌜ ((x : ℕ) → x < settings .n → getD r x zeroState ≡ startOf settings (x + 1) (length (now (block .entry))) .state) ⌝ }
+    ensures { λ r. ⌜ ((x : ℕ) → x < settings .n → getD r x zeroState ≡ startOf settings (x + 1) runNumber (length (now (block .entry))) .state) ⌝ }
 {
     let n = settings.n;
-    let first = controller::start(settings, 1, block);
+    let first = controller::start(settings, 1, RUN, block);
     let state = first.state;
     let mut states = [state; 16];
     let mut i: usize = 1;
     while i < n {
-        let started = controller::start(settings, i + 1, block);
+        let started = controller::start(settings, i + 1, RUN, block);
         let next = started.state;
         states[i] = next;
         i += 1;

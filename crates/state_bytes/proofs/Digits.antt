@@ -65,6 +65,14 @@ number-fits x b m h l g =
     let p : 256 ^ (m + 1) ≤ 256 ^ 8 = pow-le-pow-right (zero-lt-suc 255) s in
     lt-of-lt-of-le (number-more x b m l g) p
 
+-- the number of two bytes
+pub word-number : (l : List ℕ) → length l ≡ 2 → getD l 0 0 + 256 * getD l 1 0 ≡ numberOf l
+unfolding numberOf
+word-number [] e = absurd (omega arith)
+word-number (a ∷ []) e = absurd (omega arith)
+word-number (a ∷ b ∷ []) e = omega arith
+word-number (a ∷ b ∷ c ∷ l) e = absurd (omega arith)
+
 -- ---- what was written is read back
 pub number-back : (w x : ℕ) → x < 256 ^ w → numberOf (littleEndian w x) ≡ x
 unfolding littleEndian numberOf

@@ -83,7 +83,8 @@ length-field-bytes s (suc (suc (suc (suc (suc (suc (suc zero))))))) = length-row
 length-field-bytes s (suc (suc (suc (suc (suc (suc (suc (suc zero)))))))) = length-rows-few 16 (s .weak) (omega arith)
 length-field-bytes s (suc (suc (suc (suc (suc (suc (suc (suc (suc zero))))))))) = length-digits (widthOf 9) (s .core)
 length-field-bytes s (suc (suc (suc (suc (suc (suc (suc (suc (suc (suc zero)))))))))) = length-digits (widthOf 10) (s .named)
-length-field-bytes s (suc (suc (suc (suc (suc (suc (suc (suc (suc (suc (suc i))))))))))) = refl
+length-field-bytes s (suc (suc (suc (suc (suc (suc (suc (suc (suc (suc (suc zero))))))))))) = length-digits (widthOf 11) (s .run)
+length-field-bytes s (suc (suc (suc (suc (suc (suc (suc (suc (suc (suc (suc (suc i)))))))))))) = refl
 
 -- the first six are numbers
 pub number-field : (s : State) (i : ℕ) → i < 6 → fieldBytes s i ≡ littleEndian (widthOf i) (getD (sixNumbers s) i 0)
@@ -117,6 +118,10 @@ module _ (s : State) (i : ℕ) where
   pub named-field : i ≡ 10 → fieldBytes s i ≡ littleEndian (widthOf i) (s .named)
   unfolding fieldBytes
   named-field e = subst (λ (j : ℕ). fieldBytes s j ≡ littleEndian (widthOf j) (s .named)) (sym e) refl
+
+  pub run-field : i ≡ 11 → fieldBytes s i ≡ littleEndian (widthOf i) (s .run)
+  unfolding fieldBytes
+  run-field e = subst (λ (j : ℕ). fieldBytes s j ≡ littleEndian (widthOf j) (s .run)) (sym e) refl
 
 joined-suc : (f : ℕ → List ℕ) (n : ℕ) → joined f (suc n) ≡ joined f n ++ f n
 joined-suc f n = ap (joined f) (sym (add-one n)) ∙ joined-more f n
@@ -207,20 +212,21 @@ length-field bytes i size h =
     length-take-le (widthOf i) (drop (offset i) bytes) (omega (arith, length-drop (offset i) bytes, field-within (length widths) i h))
 
 -- a state that is put together field by field
-pub built : {first told voted ready all : State} {s : Settings} {own next : ℕ} {o : Outcome} {m w : List ℕ} {c r : ℕ} → first ≡ initial s own next
+pub built : {first told voted ready all : State} {s : Settings} {own run next : ℕ} {o : Outcome} {m w : List ℕ} {c r : ℕ} → first ≡ initial s own run next
     → told ≡ withCall first next o → voted ≡ withVotes told m w → ready ≡ withCore voted m c → all ≡ withNamed ready r
-    → _≡_ {A = State} all (record { settings = s; own = own; next = next; outcome = o; matrix = m; weak = w; core = c; named = r })
-built {first} {told} {voted} {ready} {all} {s} {own} {next} {o} {m} {w} {c} {r} e-first e-told e-voted e-ready e-all =
+    → _≡_ {A = State} all (record { settings = s; own = own; run = run; next = next; outcome = o; matrix = m; weak = w; core = c; named = r })
+built {first} {told} {voted} {ready} {all} {s} {own} {run} {next} {o} {m} {w} {c} {r} e-first e-told e-voted e-ready e-all =
     e-all
     ∙ ap (λ (x : State). withNamed x r) e-ready
     ∙ ap (λ (x : State). withNamed (withCore x m c) r) (e-voted ∙ ap (λ (x : State). withVotes x m w) (e-told ∙ ap (λ (x : State). withCall x next o) e-first))
 
-pub made : (b : List ℕ) {n t k own sender next : ℕ} {o : Outcome} {m w : List ℕ} {c r : ℕ} → n ≡ fieldNumber b 0 → t ≡ fieldNumber b 1 → k ≡ fieldNumber b 2
+pub made : (b : List ℕ) {n t k own run sender next : ℕ} {o : Outcome} {m w : List ℕ} {c r : ℕ} → n ≡ fieldNumber b 0 → t ≡ fieldNumber b 1 → k ≡ fieldNumber b 2
     → own ≡ fieldNumber b 3 → sender ≡ fieldNumber b 4 → next ≡ fieldNumber b 5 → o ≡ outcomeFrom (fieldNumber b 6) → m ≡ fieldRows b 7 → w ≡ fieldRows b 8
-    → c ≡ rowOf 16 (fieldIn b 9) 0 → r ≡ rowOf 16 (fieldIn b 10) 0
+    → c ≡ rowOf 16 (fieldIn b 9) 0 → r ≡ rowOf 16 (fieldIn b 10) 0 → run ≡ fieldNumber b 11
     → _≡_ {A = State} (record {
       settings = record { n = n; t = t; k = k; sender = sender };
       own = own;
+      run = run;
       next = next;
       outcome = o;
       matrix = m;
@@ -229,4 +235,4 @@ pub made : (b : List ℕ) {n t k own sender next : ℕ} {o : Outcome} {m w : Lis
       named = r;
     }) (stateIn b)
 unfolding stateIn
-made b e-n e-t e-k e-own e-sender e-next e-o e-m e-w e-c e-r = rw (e-n, e-t, e-k, e-own, e-sender, e-next, e-o, e-m, e-w, e-c, e-r)
+made b e-n e-t e-k e-own e-sender e-next e-o e-m e-w e-c e-r e-run = rw (e-n, e-t, e-k, e-own, e-sender, e-next, e-o, e-m, e-w, e-c, e-r, e-run)

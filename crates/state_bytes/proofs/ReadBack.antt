@@ -82,6 +82,7 @@ fields-back s w =
     (sym (ap rowsIn (field-back s 8 (omega arith)) ∙ rows-back (s .weak) (w .weak-length) (w .weak-rows)))
     (sym (ap (λ (x : List ℕ). rowOf 16 x 0) (field-back s 9 (omega arith)) ∙ row-back (s .core) (w .core-row)))
     (sym (ap (λ (x : List ℕ). rowOf 16 x 0) (field-back s 10 (omega arith)) ∙ row-back (s .named) (w .named-row)))
+    (sym (ap numberOf (field-back s 11 (omega arith)) ∙ number-back 2 (s .run) (w .run-word)))
 
 pub read-written : (s : State) → Words s → stateOf (stateBytes s) ≡ s
 unfolding stateOf
@@ -126,7 +127,7 @@ module _ (l : List ℕ) (bytes : (i : ℕ) → getD l i 0 < 256) where
       (lt-or-le i 16)
 
   fields-words : Words (stateIn l)
-  unfolding stateIn
+  unfolding stateIn widthOf
   fields-words = record {
     numbers = numbers-bound;
     matrix-length = length-tabulate (rowOf 16 (fieldIn l 7)) 16;
@@ -135,6 +136,7 @@ module _ (l : List ℕ) (bytes : (i : ℕ) → getD l i 0 < 256) where
     weak-rows = rows-bound (fieldIn l 8);
     core-row = row-lt 16 (fieldIn l 9) 0;
     named-row = row-lt 16 (fieldIn l 10) 0;
+    run-word = number-bound 11;
   }
 
   pub state-words : length l ≡ stateLength → Words (stateOf l)

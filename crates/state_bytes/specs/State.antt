@@ -1,14 +1,14 @@
--- The state of a controller as bytes, for callers that keep it in a buffer: eleven fields, one behind the other, each of a width of its own, a number
+-- The state of a controller as bytes, for callers that keep it in a buffer: twelve fields, one behind the other, each of a width of its own, a number
 -- with its lowest byte first. The main law is `read-written` (proofs/Laws.antt): what was written is read back.
 --   littleEndian w x     the w low bytes of the number x, the lowest first
 --   numberOf bytes       the number that such bytes stand for
 --   widths               how many bytes each field takes: n, t, k, own number, sender, next call, outcome, matrix, weak matrix, core, those
---                        named
+--                        named, run number
 --   widthOf i            the width of field i, counted from 0
 --   offset i             where field i starts: the sum of the widths before it
 --   stateLength          how many bytes a state takes: the sum of all widths
 --   sixNumbers s          the first six fields, which are numbers
---   fieldsOf s           the bytes of the eleven fields: numbers, and 16 rows of marks for each matrix
+--   fieldsOf s           the bytes of the twelve fields: numbers, and 16 rows of marks for each matrix
 --   fieldBytes s i       those of field i
 --   stateBytes s         the bytes of a state
 --   fieldIn bytes i      field i in the bytes of a state
@@ -17,7 +17,7 @@
 --   outcomeFrom x        the outcome of a number (the listing is reconstruction's `outcomeNumber`); open where it is no outcome's
 --   stateIn bytes        the state whose fields stand in the bytes
 --   stateOf bytes        the state that the bytes stand for: every list of that length is a state; the zero state where it has another length
---   Words s              the bounds of a state's fields: numbers below 2 ^ 64, and rows of 16 bits
+--   Words s              the bounds of a state's fields: numbers below 2 ^ 64, and rows and a run number of 16 bits
 use mathlib.Core.Path.{_≡_}
 use mathlib.Core.Bool.{cond}
 use mathlib.Core.List.{List, [], _∷_}
@@ -42,7 +42,7 @@ numberOf [] = 0
 numberOf (b ∷ bytes) = b + 256 * numberOf bytes
 
 abbrev pub widths : List ℕ
-widths = 8 ∷ 8 ∷ 8 ∷ 8 ∷ 8 ∷ 8 ∷ 1 ∷ 32 ∷ 32 ∷ 2 ∷ 2 ∷ []
+widths = 8 ∷ 8 ∷ 8 ∷ 8 ∷ 8 ∷ 8 ∷ 1 ∷ 32 ∷ 32 ∷ 2 ∷ 2 ∷ 2 ∷ []
 
 unfoldable pub widthOf : ℕ → ℕ
 widthOf i = getD widths i 0
@@ -61,7 +61,7 @@ fieldsOf s =
     littleEndian (widthOf 0) (s .settings .n) ∷ littleEndian (widthOf 1) (s .settings .t) ∷ littleEndian (widthOf 2) (s .settings .k)
     ∷ littleEndian (widthOf 3) (s .own) ∷ littleEndian (widthOf 4) (s .settings .sender) ∷ littleEndian (widthOf 5) (s .next)
     ∷ littleEndian (widthOf 6) (outcomeNumber (s .outcome)) ∷ rowsOf 16 (s .matrix) ∷ rowsOf 16 (s .weak) ∷ littleEndian (widthOf 9) (s .core)
-    ∷ littleEndian (widthOf 10) (s .named) ∷ []
+    ∷ littleEndian (widthOf 10) (s .named) ∷ littleEndian (widthOf 11) (s .run) ∷ []
 
 unfoldable pub fieldBytes : State → ℕ → List ℕ
 fieldBytes s i = getD (fieldsOf s) i []
@@ -85,6 +85,7 @@ unfoldable pub stateIn : List ℕ → State
 stateIn bytes = record {
   settings = record { n = fieldNumber bytes 0; t = fieldNumber bytes 1; k = fieldNumber bytes 2; sender = fieldNumber bytes 4 };
   own = fieldNumber bytes 3;
+  run = fieldNumber bytes 11;
   next = fieldNumber bytes 5;
   outcome = outcomeFrom (fieldNumber bytes 6);
   matrix = fieldRows bytes 7;
@@ -104,3 +105,4 @@ pub record Words (s : State) : Type 0 where
   pub weak-rows : (i : ℕ) → getD (s .weak) i 0 < 2 ^ 16
   pub core-row : s .core < 2 ^ 16
   pub named-row : s .named < 2 ^ 16
+  pub run-word : s .run < 2 ^ 16

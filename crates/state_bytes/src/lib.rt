@@ -12,11 +12,11 @@ use reconstruction::Outcome;
 use settings::Settings;
 
 // How many fields a state has.
-const FIELDS: usize = 11;
+const FIELDS: usize = 12;
 
 // How many bytes each field takes: n, t, k, own number, sender, next call, outcome, matrix, weak matrix, core,
-// those named.
-const WIDTHS: [usize; FIELDS] = [8, 8, 8, 8, 8, 8, 1, 32, 32, 2, 2];
+// those named, run number.
+const WIDTHS: [usize; FIELDS] = [8, 8, 8, 8, 8, 8, 1, 32, 32, 2, 2, 2];
 
 // The width of field i.
 fn width(i: usize) -> usize
@@ -118,7 +118,11 @@ fn put_field(bytes: &mut [u8], s: State, i: usize)
         put(bytes, s.core as usize);
         return;
     }
-    put(bytes, s.named as usize);
+    if i == 10 {
+        put(bytes, s.named as usize);
+        return;
+    }
+    put(bytes, s.run as usize);
 }
 
 // Writes the fields one behind the other.
@@ -137,7 +141,7 @@ fn put_fields(bytes: &mut [u8], s: State)
 }
 
 // Writes a state to a buffer of its length; nothing is written to one of another length.
-// Shut out: the weak matrix for the matrix; own number and sender the other way round; the core for those named.
+// Shut out: the weak matrix for the matrix; own number and sender the other way round; the core for those named; the next call for the run number.
 pub fn write(s: State, bytes: &mut [u8])
     ensures { λ _. ⌜ now (bytes .exit) ≡ cond (eqb (length (now (bytes .entry))) stateLength) (stateBytes s) (now (bytes .entry)) ⌝ }
 {
@@ -186,6 +190,15 @@ fn field_number(bytes: &[u8], i: usize) -> usize
     get(field(bytes, i))
 }
 
+// The run number, in the two bytes of field 11.
+fn run_number(bytes: &[u8]) -> u16
+    requires { ⌜ length (now bytes) ≡ stateLength ⌝ }
+    ensures { λ r. ⌜ r ≡ fieldNumber (now (bytes .entry)) 11 ⌝ }
+{
+    let f = field(bytes, 11);
+    lists::word(f[0], f[1])
+}
+
 // The outcome of a number; open where it is no outcome's.
 fn outcome_from(x: usize) -> Outcome
     ensures { λ r. ⌜ r ≡ outcomeFrom x ⌝ }
@@ -232,8 +245,9 @@ fn state_in(bytes: &[u8]) -> State
     let weak = get_rows(field(bytes, 8));
     let core = bitset::read_row(field(bytes, 9), 16, 0);
     let named = bitset::read_row(field(bytes, 10), 16, 0);
+    let run = run_number(bytes);
     let settings = Settings { n, t, k, sender };
-    let first = protocol::initial(settings, own, next);
+    let first = protocol::initial(settings, own, run, next);
     let told = protocol::with_call(first, next, outcome);
     let voted = protocol::with_votes(told, matrix, weak);
     let ready = protocol::with_core(voted, matrix, core);

@@ -1,7 +1,8 @@
 // Plays votes of 4, 7, 10 and 16 controllers, call 4 and rounds 3p + 1 to 3p + 3, on inboxes and outboxes of bytes through `phase_king`: faulty
-// kings, two-faced and silent controllers, starting bits that are split. For each vote: a line with n, t, the choice of faulty controllers
-// and the seed; a line for each round, from 3 on, with a digest of all matrices that the correct controllers then have; a line for each
-// correct controller with its number and the digest of its last matrix. The expected output comes from the independent reference:
+// kings, two-faced and silent controllers, slots of another run (document 02, U11), starting bits that are split. For each vote: a line with n, t, the
+// choice of faulty controllers, the seed and the run number; a line for each round, from 3 on, with a digest of all matrices that the correct
+// controllers then have; a line for each correct controller with its number and the digest of its last matrix. The expected output comes from the
+// independent reference:
 //     cargo run --release --bin vote_vectors > crates/vote_cases/stdout
 use wire::Layout;
 use wire::Round;
@@ -43,9 +44,22 @@ fn faulty(s: Setup, i: usize) -> bool {
     cases::is_third(s.t, i)
 }
 
-// How a faulty controller behaves: 0 silent, 1 all ones to every other receiver and zeros to the rest, 2 any bytes, 3 any bytes or absent.
+// The run number: one of four, each with each choice of faulty controllers.
+fn run_number(s: Setup) -> u16 {
+    let x = s.seed % 16;
+    let choice = (x + x / 4) % 4;
+    match choice {
+        0 => 0,
+        1 => 1,
+        2 => 256,
+        _ => 65535,
+    }
+}
+
+// How a faulty controller behaves: 0 silent, 1 all ones to every other receiver and zeros to the rest, 2 any bytes, 3 any bytes or absent, 4 any bytes,
+// to every other receiver in a slot of another run.
 fn manner(s: Setup, i: usize) -> usize {
-    draw(s.seed, 0, i, 0, 0) % 4
+    draw(s.seed, 0, i, 0, 0) % 5
 }
 
 fn present(s: Setup, c: usize, i: usize, j: usize) -> bool {
@@ -91,6 +105,22 @@ fn put_part(inbox: &mut [u8], layout: Layout, i: usize, m: &[u8])
     put(inbox, layout, i, &m[..end]);
 }
 
+// Slots of a run whose number differs in one byte only.
+fn other_run(layout: Layout, c: usize) -> Layout {
+    if c % 2 == 0 {
+        return wire::layout_with(layout.run ^ 1, layout.length);
+    }
+    wire::layout_with(layout.run ^ 256, layout.length)
+}
+
+// What a faulty controller's slot to j is.
+fn fault_layout(s: Setup, c: usize, layout: Layout, i: usize, j: usize) -> Layout {
+    if manner(s, i) == 4 && j % 2 == 1 {
+        return other_run(layout, c);
+    }
+    layout
+}
+
 // From a faulty controller.
 fn from_faulty(inbox: &mut [u8], s: Setup, c: usize, layout: Layout, i: usize, j: usize)
     requires { ⌜ i < 16 ⌝ }
@@ -98,16 +128,16 @@ fn from_faulty(inbox: &mut [u8], s: Setup, c: usize, layout: Layout, i: usize, j
     if present(s, c, i, j) {
         let mut m = [0u8; 64];
         fault_message(&mut m, s, c, i, j);
-        put_part(inbox, layout, i, &m);
+        put_part(inbox, fault_layout(s, c, layout, i, j), i, &m);
     }
 }
 
-// From a correct controller: what its outbox has for j. The outboxes lie 1040 bytes apart.
+// From a correct controller: what its outbox has for j. The outboxes lie 1072 bytes apart.
 fn from_correct(inbox: &mut [u8], boxes: &[u8], layout: Layout, i: usize, j: usize)
     requires { ⌜ (i < 16) × (j < 16) × (length (now boxes) ≡ 65536) ⌝ }
 {
-    let a = i * 1040;
-    let e = a + 1040;
+    let a = i * 1072;
+    let e = a + 1072;
     put(inbox, layout, i, wire::message(&boxes[a..e], layout, j + 1));
 }
 
@@ -217,7 +247,7 @@ fn on_seen(s: Setup, layout: Layout, inbox: &[u8], state: &mut [u16], j: usize)
 }
 
 fn layout_of(s: Setup, c: usize) -> Layout {
-    wire::round_layout(s.n, s.t, 1, c)
+    wire::round_layout(run_number(s), s.n, s.t, 1, c)
 }
 
 fn phase(c: usize) -> usize {
@@ -315,10 +345,10 @@ fn send_one(s: Setup, c: usize, state: &[u16], boxes: &mut [u8], i: usize)
     requires { ⌜ (i < 16) × (length (now state) ≡ 1024) × (length (now boxes) ≡ 65536) ⌝ }
 {
     let size = wire::outbox_length(s.n, s.t, 1, c);
-    if 1040 < size {
+    if 1072 < size {
         return;
     }
-    let a = i * 1040;
+    let a = i * 1072;
     let e = a + size;
     emit(s, c, state, &mut boxes[a..e], i);
 }
@@ -378,7 +408,11 @@ fn rounds(s: Setup, state: &mut [u16], boxes: &mut [u8])
 }
 
 fn print_setup(s: Setup) {
-    cases::numbers(b"vote", &[s.n, s.t, s.faults, s.seed as usize]);
+    let run = run_number(s);
+    cases::numbers(
+        b"vote",
+        &[s.n, s.t, s.faults, s.seed as usize, run as usize],
+    );
     cases::newline();
 }
 

@@ -12,6 +12,8 @@
 --     Sized, sized-silence, sized-bytes   what fills a slot of a layout; content: what is read of it
 --     arrived                             a slot that arrived as it was sent is read as what was sent; read-back: so is slot j of what was written
 --     length-message, message-all         a message has the layout's length; what holds of every byte of the inbox holds of its bytes
+--     other-run-absent                    a slot that carries another run's number has no message; late-absent: whatever round it was written for
+--     length-silenced, silenced-reads     a slot without a message can be made silent: the length stays, and every slot reads as it did
 --   Slots as lists
 --     width-le, slot-is, length-slot      a slot is a part of the box
 --     length-slots, written-each, slots-each   the slots of an outbox; what holds of each byte of the messages holds of theirs
@@ -26,4 +28,5 @@ pub use Rattle.wire.proofs.Lengths.{kind-length-is, message-length-is, 
 pub use Rattle.wire.proofs.Lengths.{last-outbox}
 pub use Rattle.wire.proofs.Slots.{Sized, sized-silence, sized-bytes, content, arrived, read-back, length-message, message-all, width-le, slot-is}
 pub use Rattle.wire.proofs.Slots.{length-slot, length-slots, written-each, slots-each, to-all, slots-start, put-next-slot, length-rest, slots-all}
-pub use Rattle.wire.proofs.Slots.{silent-slot, put-into, relay-into, copied-all, length-copied}
+pub use Rattle.wire.proofs.Slots.{silent-slot, put-into, relay-into, copied-all, length-copied, other-run-absent, late-absent, length-silenced}
+pub use Rattle.wire.proofs.Slots.{silenced-reads}

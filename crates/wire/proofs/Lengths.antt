@@ -14,7 +14,7 @@ use Rattle.wire.specs.declared.Round.{Round}
 use Rattle.wire.specs.declared.Round.the-variants.{Block, Pieces, Marks, Matrix, Seen, King, Forward, Rebuild, Outside}
 use Rattle.wire.specs.Round.{phaseRound, roundKind}
 use Rattle.wire.specs.Length.{blockLength, rowLength, inSettings, blockSize, kindLength, roundLayout, messageLength, boxLength, inboxLength, outboxLength}
-use Rattle.wire.specs.Slot.{width}
+use Rattle.wire.specs.Slot.{header, width}
 use Rattle.wire.proofs.Numbers.{from-four}
 use Rattle.wire.proofs.Factors.{row-le}
 use Rattle.wire.proofs.RoundKinds.{round-block, round-pieces, round-marks, round-vote, round-forward, round-rebuild, round-past, round-zero}
@@ -140,22 +140,22 @@ length-none n t k c e =
 
 box-none : (n t k c : ℕ) → messageLength n t k c ≡ 0 → boxLength n t k c ≡ 0
 unfolding boxLength
-box-none n t k c e = cond-yes (eqb (messageLength n t k c) 0) 0 (n * width (roundLayout n t k c)) (eq-eqb (messageLength n t k c) 0 e)
+box-none n t k c e = cond-yes (eqb (messageLength n t k c) 0) 0 (n * (header + messageLength n t k c)) (eq-eqb (messageLength n t k c) 0 e)
 
-box-some : (n t k c : ℕ) → 1 ≤ messageLength n t k c → boxLength n t k c ≡ n * width (roundLayout n t k c)
-unfolding boxLength
-box-some n t k c l = cond-no (eqb (messageLength n t k c) 0) 0 (n * width (roundLayout n t k c)) (ne-eqb (messageLength n t k c) 0 (λ e. omega arith))
+box-some : (run n t k c : ℕ) → 1 ≤ messageLength n t k c → boxLength n t k c ≡ n * width (roundLayout run n t k c)
+unfolding boxLength width
+box-some run n t k c l = cond-no (eqb (messageLength n t k c) 0) 0 (n * (header + messageLength n t k c)) (ne-eqb (messageLength n t k c) 0 (λ e. omega arith))
 
--- the outbox of a call whose round has messages, and the inbox of the call after it: n slots
-pub outbox-is : (n t k c : ℕ) → 1 ≤ messageLength n t k c → outboxLength n t k c ≡ n * width (roundLayout n t k c)
+-- the outbox of a call whose round has messages, and the inbox of the call after it: n slots, whatever the run
+pub outbox-is : (run n t k c : ℕ) → 1 ≤ messageLength n t k c → outboxLength n t k c ≡ n * width (roundLayout run n t k c)
 unfolding outboxLength
 outbox-is = box-some
 
-pub inbox-is : (n t k c : ℕ) → 1 ≤ messageLength n t k c → inboxLength n t k (c + 1) ≡ n * width (roundLayout n t k c)
+pub inbox-is : (run n t k c : ℕ) → 1 ≤ messageLength n t k c → inboxLength n t k (c + 1) ≡ n * width (roundLayout run n t k c)
 unfolding inboxLength
-inbox-is n t k c l =
+inbox-is run n t k c l =
     let e : c + 1 - 1 ≡ c = omega arith in
-    ap (boxLength n t k) e ∙ box-some n t k c l
+    ap (boxLength n t k) e ∙ box-some run n t k c l
 
 pub first-inbox : (n t k : ℕ) → inboxLength n t k 1 ≡ 0
 unfolding inboxLength

@@ -4,8 +4,8 @@ use mathlib.Core.Path.{_≡_, refl, sym, ap, ap₂, subst, _∙_}
 use mathlib.Core.Bool.{Bool, cond, true, false, not, _&&_}
 use mathlib.Core.List.{List, [], _∷_, _++_, append-nil}
 use mathlib.Core.Logic.{_⊎_, inl, inr, ⊎-elim}
-use Prim.Native.Nat.{ℕ, zero, suc, _+_, _-_, _*_, _/_, _<_, _≤_, min}
-use native.Mathlib.Nat.{add-zero, suc-mul, zero-mul, mul-le-mul-right, le-div-iff-mul-le, div-lt-iff-lt-mul, le-of-eq}
+use Prim.Native.Nat.{ℕ, zero, suc, _+_, _-_, _*_, _/_, _%_, _<_, _≤_, min}
+use native.Mathlib.Nat.{suc-mul, zero-mul, mul-le-mul-right, le-div-iff-mul-le, div-lt-iff-lt-mul, le-of-eq}
 use native.Mathlib.Numerals.{add-one}
 use native.Mathlib.Omega.{arith}
 use borrow.Author.Tests.{eq-eqb, ne-eqb, le-leb, lt-leb, eqb-false, leb-true}
@@ -13,13 +13,14 @@ use lib.Dec.{leb, eqb}
 use lib.ListN.{length, getD, set, take, drop, replicate, length-append, length-drop, length-take, replicate-append-replicate, drop-of-length-le}
 use lib.ListN.{getD-replicate, length-replicate}
 use lib.Seq.{length-take-le, take-all, take-append-le, drop-append-le, take-at, drop-at, drop-drop, getD-take, getD-drop}
-use Rattle.lists.proofs.Tests.{either, and-left, and-right, and-both, and-no-left, and-no-right, cond-yes, cond-no, lt-or-le}
+use Rattle.lists.proofs.Tests.{either, and-left, and-right, and-both, and-no-left, and-no-right, and-tail, cond-yes, cond-no, lt-or-le, same-or-not}
 use Rattle.lists.specs.Join.{part}
-use Rattle.lists.proofs.Parts.{all-take, all-drop, all-zeros, next-offset, drop-take}
-use Rattle.lists.proofs.Joins.{part-take, getD-part, joined-none, joined-more, joined-ext, length-joined, part-joined, all-joined, joined-zeros}
+use Rattle.lists.proofs.Parts.{all-take, all-drop, all-zeros, next-offset, drop-take, length-put}
+use Rattle.lists.proofs.Joins.{part-take, joined-none, joined-more, joined-ext, length-joined, part-joined, all-joined, joined-zeros, part-put-same}
+use Rattle.lists.proofs.Joins.{part-put-other}
 use Rattle.wire.specs.declared.slot.Layout.{Layout}
-use Rattle.wire.specs.Slot.{header, width, slotOf, holds, isPresent, messageOf, offsetOf, Sent, silence, bytes, written, slots, toAll, putSlot, relayed}
-use Rattle.wire.specs.Slot.{copied}
+use Rattle.wire.specs.Slot.{header, width, slotOf, holds, runIn, isPresent, messageOf, offsetOf, Sent, silence, bytes, written, slots, toAll, putSlot}
+use Rattle.wire.specs.Slot.{relayed, silenced, copied, SameMessages, OtherRun, OtherRunAbsent, LateAbsent}
 
 -- ---- the layout
 pub width-pos : (layout : Layout) → 0 < width layout
@@ -57,20 +58,20 @@ module _ (box : List ℕ) (layout : Layout) (j : ℕ) where
   pub message-none : holds box layout j ≡ false → messageOf box layout j ≡ []
   unfolding messageOf
   message-none e =
-      cond-no (holds box layout j && isPresent (slotOf box layout j)) (drop header (slotOf box layout j)) []
-      (and-no-left (holds box layout j) (isPresent (slotOf box layout j)) e)
+      cond-no (holds box layout j && isPresent layout (slotOf box layout j)) (drop header (slotOf box layout j)) []
+      (and-no-left (holds box layout j) (isPresent layout (slotOf box layout j)) e)
 
-  pub message-absent : isPresent (slotOf box layout j) ≡ false → messageOf box layout j ≡ []
+  pub message-absent : isPresent layout (slotOf box layout j) ≡ false → messageOf box layout j ≡ []
   unfolding messageOf
   message-absent e =
-      cond-no (holds box layout j && isPresent (slotOf box layout j)) (drop header (slotOf box layout j)) []
-      (and-no-right (holds box layout j) (isPresent (slotOf box layout j)) e)
+      cond-no (holds box layout j && isPresent layout (slotOf box layout j)) (drop header (slotOf box layout j)) []
+      (and-no-right (holds box layout j) (isPresent layout (slotOf box layout j)) e)
 
-  pub message-held : holds box layout j ≡ true → isPresent (slotOf box layout j) ≡ true → messageOf box layout j ≡ drop header (slotOf box layout j)
+  pub message-held : holds box layout j ≡ true → isPresent layout (slotOf box layout j) ≡ true → messageOf box layout j ≡ drop header (slotOf box layout j)
   unfolding messageOf
   message-held h e =
-      cond-yes (holds box layout j && isPresent (slotOf box layout j)) (drop header (slotOf box layout j)) []
-      (and-both (holds box layout j) (isPresent (slotOf box layout j)) h e)
+      cond-yes (holds box layout j && isPresent layout (slotOf box layout j)) (drop header (slotOf box layout j)) []
+      (and-both (holds box layout j) (isPresent layout (slotOf box layout j)) h e)
 
   -- the slot as a part that is lent
   slot-take : slotOf box layout j ≡ take (width layout) (drop ((j - 1) * width layout) box)
@@ -85,38 +86,61 @@ module _ (box : List ℕ) (layout : Layout) (j : ℕ) where
       ∙ length-take-le (width layout) (drop ((j - 1) * width layout) box)
       (subst (λ (m : ℕ). width layout ≤ m) (sym (length-drop ((j - 1) * width layout) box)) (omega (arith, slot-end j (width layout) (f .0), f .1)))
 
-  first-byte : getD (slotOf box layout j) 0 0 ≡ getD box ((j - 1) * width layout) 0
-  unfolding slotOf
-  first-byte =
-      getD-part (width layout) box (j - 1) 0 (width-pos layout) ∙ ap (λ (x : ℕ). getD box x 0) (add-zero ((j - 1) * width layout))
+  -- and is present as the part that is lent is
+  pub present-part : isPresent layout (take ((j - 1) * width layout + width layout - (j - 1) * width layout) (drop ((j - 1) * width layout) box))
+      ≡ isPresent layout (slotOf box layout j)
+  present-part =
+      let a = (j - 1) * width layout in
+      let l : a + width layout - a ≡ width layout = omega arith in
+      ap (λ (x : ℕ). isPresent layout (take x (drop a box))) l ∙ ap (isPresent layout) (sym slot-take)
 
-  pub yes-present : getD box ((j - 1) * width layout) 0 ≡ 1 → isPresent (slotOf box layout j) ≡ true
-  unfolding isPresent
-  yes-present e = eq-eqb (getD (slotOf box layout j) 0 0) 1 (first-byte ∙ e)
+-- ---- what a slot carries
+-- 01 in front, and the run's number
+pub yes-present : (layout : Layout) (slot : List ℕ) → getD slot 0 0 ≡ 1 → runIn slot ≡ layout .run → isPresent layout slot ≡ true
+unfolding isPresent
+yes-present layout slot e r =
+    and-both (eqb (getD slot 0 0) 1) (eqb (runIn slot) (layout .run)) (eq-eqb (getD slot 0 0) 1 e) (eq-eqb (runIn slot) (layout .run) r)
 
-  pub no-present : (getD box ((j - 1) * width layout) 0 ≡ 1 → ⊥) → isPresent (slotOf box layout j) ≡ false
-  unfolding isPresent
-  no-present n = ne-eqb (getD (slotOf box layout j) 0 0) 1 (λ e. n (sym first-byte ∙ e))
+pub no-present : (layout : Layout) (slot : List ℕ) → (getD slot 0 0 ≡ 1 → ⊥) → isPresent layout slot ≡ false
+unfolding isPresent
+no-present layout slot n = and-no-left (eqb (getD slot 0 0) 1) (eqb (runIn slot) (layout .run)) (ne-eqb (getD slot 0 0) 1 n)
+
+pub other-present : (layout : Layout) (slot : List ℕ) → (runIn slot ≡ layout .run → ⊥) → isPresent layout slot ≡ false
+unfolding isPresent
+other-present layout slot n = and-no-right (eqb (getD slot 0 0) 1) (eqb (runIn slot) (layout .run)) (ne-eqb (runIn slot) (layout .run) n)
+
+-- behind 01 only the run's number tells
+pub run-present : (layout : Layout) (slot : List ℕ) → getD slot 0 0 ≡ 1 → isPresent layout slot ≡ eqb (runIn slot) (layout .run)
+unfolding isPresent
+run-present layout slot e = and-tail (eqb (getD slot 0 0) 1) (eqb (runIn slot) (layout .run)) (eq-eqb (getD slot 0 0) 1 e)
+
+-- a number in two bytes, low byte first, is read back
+run-bytes : (run : ℕ) → run % 256 + 256 * (run / 256) ≡ run
+run-bytes run = omega arith
+
+run-written : (layout : Layout) (m : List ℕ) → runIn (written layout (bytes m)) ≡ layout .run
+unfolding runIn written
+run-written layout m = run-bytes (layout .run)
 
 -- ---- where a message starts
 module _ (box : List ℕ) (layout : Layout) (j : ℕ) where
   pub offset-none : holds box layout j ≡ false → offsetOf box layout j ≡ 0
   unfolding offsetOf
   offset-none e =
-      cond-no (holds box layout j && isPresent (slotOf box layout j)) ((j - 1) * width layout + header) 0
-      (and-no-left (holds box layout j) (isPresent (slotOf box layout j)) e)
+      cond-no (holds box layout j && isPresent layout (slotOf box layout j)) ((j - 1) * width layout + header) 0
+      (and-no-left (holds box layout j) (isPresent layout (slotOf box layout j)) e)
 
-  pub offset-absent : isPresent (slotOf box layout j) ≡ false → offsetOf box layout j ≡ 0
+  pub offset-absent : isPresent layout (slotOf box layout j) ≡ false → offsetOf box layout j ≡ 0
   unfolding offsetOf
   offset-absent e =
-      cond-no (holds box layout j && isPresent (slotOf box layout j)) ((j - 1) * width layout + header) 0
-      (and-no-right (holds box layout j) (isPresent (slotOf box layout j)) e)
+      cond-no (holds box layout j && isPresent layout (slotOf box layout j)) ((j - 1) * width layout + header) 0
+      (and-no-right (holds box layout j) (isPresent layout (slotOf box layout j)) e)
 
-  pub offset-held : holds box layout j ≡ true → isPresent (slotOf box layout j) ≡ true → offsetOf box layout j ≡ (j - 1) * width layout + header
+  pub offset-held : holds box layout j ≡ true → isPresent layout (slotOf box layout j) ≡ true → offsetOf box layout j ≡ (j - 1) * width layout + header
   unfolding offsetOf
   offset-held h e =
-      cond-yes (holds box layout j && isPresent (slotOf box layout j)) ((j - 1) * width layout + header) 0
-      (and-both (holds box layout j) (isPresent (slotOf box layout j)) h e)
+      cond-yes (holds box layout j && isPresent layout (slotOf box layout j)) ((j - 1) * width layout + header) 0
+      (and-both (holds box layout j) (isPresent layout (slotOf box layout j)) h e)
 
 -- a message starts at 0 only where there is none
 pub record Placed (box : List ℕ) (layout : Layout) (j : ℕ) : Type 0 where
@@ -130,7 +154,7 @@ placed-or-none box layout j =
     ⊎-elim
     (λ (h : holds box layout j ≡ true).
     ⊎-elim
-    (λ (p : isPresent (slotOf box layout j) ≡ true).
+    (λ (p : isPresent layout (slotOf box layout j) ≡ true).
     let f = holds-yes box layout j h in
     let e : offsetOf box layout j ≡ (j - 1) * width layout + header = offset-held box layout j h p in
     let inner : width layout - header ≡ layout .length = omega arith in
@@ -144,8 +168,8 @@ placed-or-none box layout j =
           ∙ ap (λ (x : ℕ). take x (drop header (drop ((j - 1) * width layout) box))) inner
           ∙ ap (take (layout .length)) (drop-drop header ((j - 1) * width layout) box ∙ ap (λ (i : ℕ). drop i box) (sym e));
     }))
-    (λ (p : isPresent (slotOf box layout j) ≡ false). inr (offset-absent box layout j p, message-absent box layout j p))
-    (either (isPresent (slotOf box layout j))))
+    (λ (p : isPresent layout (slotOf box layout j) ≡ false). inr (offset-absent box layout j p, message-absent box layout j p))
+    (either (isPresent layout (slotOf box layout j))))
     (λ (h : holds box layout j ≡ false). inr (offset-none box layout j h, message-none box layout j h))
     (either (holds box layout j))
 
@@ -180,10 +204,10 @@ length-message box layout j n =
     ⊎-elim
     (λ (h : holds box layout j ≡ true).
     ⊎-elim
-    (λ (p : isPresent (slotOf box layout j) ≡ true).
+    (λ (p : isPresent layout (slotOf box layout j) ≡ true).
     ap length (message-held box layout j h p) ∙ length-drop header (slotOf box layout j) ∙ omega (arith, length-held box layout j h))
-    (λ (p : isPresent (slotOf box layout j) ≡ false). absurd (n (ap length (message-absent box layout j p))))
-    (either (isPresent (slotOf box layout j))))
+    (λ (p : isPresent layout (slotOf box layout j) ≡ false). absurd (n (ap length (message-absent box layout j p))))
+    (either (isPresent layout (slotOf box layout j))))
     (λ (h : holds box layout j ≡ false). absurd (n (ap length (message-none box layout j h))))
     (either (holds box layout j))
 
@@ -191,7 +215,7 @@ length-message box layout j n =
 pub message-all : (P : ℕ → Type 0) → P 0 → (box : List ℕ) (layout : Layout) (j : ℕ) → ((i : ℕ) → P (getD box i 0)) → (i : ℕ)
     → P (getD (messageOf box layout j) i 0)
 unfolding messageOf
-message-all P z box layout j h i = go (holds box layout j && isPresent (slotOf box layout j))
+message-all P z box layout j h i = go (holds box layout j && isPresent layout (slotOf box layout j))
   where
     go : (b : Bool) → P (getD (cond b (drop header (slotOf box layout j)) []) i 0)
     go true =
@@ -252,24 +276,29 @@ content (bytes m) = m
 
 pub message-of-slot : (box : List ℕ) (layout : Layout) (j : ℕ) (s : Sent) → 1 ≤ j → j * width layout ≤ length box → slotOf box layout j ≡ written layout s
     → messageOf box layout j ≡ content s
-unfolding written isPresent
+unfolding written
 message-of-slot box layout j silence least fits e =
-    message-absent box layout j (ap isPresent e ∙ ne-eqb (getD (replicate (width layout) 0) 0 0) 1
+    message-absent box layout j
+    (ap (isPresent layout) e ∙ no-present layout (replicate (width layout) 0)
     (λ z. omega (arith, getD-replicate {A = ℕ} (width layout) 0 0 0 (width-pos layout))))
 message-of-slot box layout j (bytes m) least fits e =
-    message-held box layout j (yes-holds box layout j least fits) (ap isPresent e) ∙ ap (drop header) e
+    message-held box layout j (yes-holds box layout j least fits)
+    (ap (isPresent layout) e ∙ yes-present layout (written layout (bytes m)) refl (run-written layout m))
+    ∙ ap (drop header) e
 
--- what holds of 0, of 1 and of each byte of what is sent holds of each byte of what is written
-module _ (P : ℕ → Type 0) (none : P 0) (mark : P 1) where
-  pub written-each : (layout : Layout) (s : Sent) → ((x : ℕ) → P (getD (content s) x 0)) → (x : ℕ) → P (getD (written layout s) x 0)
+-- what holds of 0, of 1, of the two bytes of the run number and of each byte of what is sent holds of each byte of what is written
+module _ (P : ℕ → Type 0) (layout : Layout) (none : P 0) (mark : P 1) (low : P (layout .run % 256)) (high : P (layout .run / 256)) where
+  pub written-each : (s : Sent) → ((x : ℕ) → P (getD (content s) x 0)) → (x : ℕ) → P (getD (written layout s) x 0)
   unfolding written
-  written-each layout silence h x = all-zeros P none (width layout) x
-  written-each layout (bytes m) h zero = mark
-  written-each layout (bytes m) h (suc x) = h x
+  written-each silence h x = all-zeros P none (width layout) x
+  written-each (bytes m) h zero = mark
+  written-each (bytes m) h (suc zero) = low
+  written-each (bytes m) h (suc (suc zero)) = high
+  written-each (bytes m) h (suc (suc (suc x))) = h x
 
-  pub slots-each : (layout : Layout) (f : ℕ → Sent) → ((j x : ℕ) → P (getD (content (f j)) x 0)) → (n x : ℕ) → P (getD (slots layout f n) x 0)
+  pub slots-each : (f : ℕ → Sent) → ((j x : ℕ) → P (getD (content (f j)) x 0)) → (n x : ℕ) → P (getD (slots layout f n) x 0)
   unfolding slots
-  slots-each layout f h n x = all-joined P (λ i. written layout (f (i + 1))) n none (λ i l. written-each layout (f (i + 1)) (h (i + 1))) x
+  slots-each f h n x = all-joined P (λ i. written layout (f (i + 1))) n none (λ i l. written-each (f (i + 1)) (h (i + 1))) x
 
 -- ---- writing one slot
 pub put-none : (box : List ℕ) (layout : Layout) (j : ℕ) (m : List ℕ) → holds box layout j ≡ false → putSlot box layout j m ≡ box
@@ -406,11 +435,14 @@ module _ (box : List ℕ) (layout : Layout) (j : ℕ) where
       pub slot-fits : (j - 1) * width layout + width layout ≤ length box
       slot-fits = omega (arith, within, slot-end j (width layout) some)
 
-      pub absent-slot : (getD box ((j - 1) * width layout) 0 ≡ 1 → ⊥) → 0 ≡ offsetOf box layout j
-      absent-slot n = sym (offset-absent box layout j (no-present box layout j n))
+      -- what is told of the part that is lent is told of the slot
+      module _ (b : Bool)
+          (told : b ≡ isPresent layout (take ((j - 1) * width layout + width layout - (j - 1) * width layout) (drop ((j - 1) * width layout) box))) where
+        pub absent-slot : b ≡ false → 0 ≡ offsetOf box layout j
+        absent-slot n = sym (offset-absent box layout j (sym (present-part box layout j) ∙ sym told ∙ n))
 
-      pub present-slot : getD box ((j - 1) * width layout) 0 ≡ 1 → (j - 1) * width layout + header ≡ offsetOf box layout j
-      present-slot e = sym (offset-held box layout j (yes-holds box layout j some within) (yes-present box layout j e))
+        pub present-slot : b ≡ true → (j - 1) * width layout + header ≡ offsetOf box layout j
+        present-slot y = sym (offset-held box layout j (yes-holds box layout j some within) (sym (present-part box layout j) ∙ sym told ∙ y))
 
       -- slot j written with a message that was lent to it
       pub put-part : (m v : List ℕ) → length m ≡ layout .length → v ≡ written layout (bytes m)
@@ -446,17 +478,24 @@ relay-part box src v layout j i some-j held-j some-i held-i is-v =
     ap₂ (λ (x y : List ℕ). take a box ++ (x ++ y)) e (drop-drop (a + w - a) a box ∙ ap (λ (x : ℕ). drop x box) u)
     ∙ sym (relay-held box layout j src i some-j (omega (arith, room, slot-end j w some-j)) some-i (omega (arith, held, slot-end i w some-i)))
 
--- a slot whose first byte is 01 and whose rest was lent and came back with the message copied to it
+-- the header's bytes set in the front of a slot
+abbrev pub withHeader : Layout → List ℕ → List ℕ
+withHeader layout d = set (set (set d 0 1) 1 (layout .run % 256)) 2 (layout .run / 256)
+
+-- a slot whose header is set and whose rest was lent and came back with the message copied to it
 pub put-head : (layout : Layout) (d m : List ℕ) → length d ≡ width layout → length m ≡ layout .length
-    → take header (set d 0 1)
-    ++ (copied m (take (length (set d 0 1) - header) (drop header (set d 0 1))) ++ drop (length (set d 0 1) - header) (drop header (set d 0 1)))
+    → take header (withHeader layout d)
+    ++ (copied m (take (length (withHeader layout d) - header) (drop header (withHeader layout d)))
+    ++ drop (length (withHeader layout d) - header) (drop header (withHeader layout d)))
     ≡ written layout (bytes m)
 unfolding width written
 put-head layout [] m h f = absurd (omega arith)
-put-head layout (x ∷ d) m h f =
+put-head layout (x ∷ []) m h f = absurd (omega arith)
+put-head layout (x ∷ y ∷ []) m h f = absurd (omega arith)
+put-head layout (x ∷ y ∷ z ∷ d) m h f =
     let e : length m ≡ length d = omega arith in
-    let l : length (1 ∷ d) - header ≡ length d = omega arith in
-    ap (λ (y : List ℕ). 1 ∷ y)
+    let l : length (1 ∷ layout .run % 256 ∷ layout .run / 256 ∷ d) - header ≡ length d = omega arith in
+    ap (λ (v : List ℕ). 1 ∷ layout .run % 256 ∷ layout .run / 256 ∷ v)
     (ap (λ (i : ℕ). copied m (take i d) ++ drop i d) l
     ∙ ap₂ _++_ (ap (copied m) (take-all (length d) d (le-of-eq refl)) ∙ copied-all m d e) (drop-of-length-le d (le-of-eq refl))
     ∙ append-nil m)
@@ -470,7 +509,7 @@ length-rest layout f sized o box j h e =
 
 -- ---- a box as parts of one width
 -- how large boxes are, for those who hold them
-pub width-le : (layout : Layout) → width layout ≤ layout .length + 1
+pub width-le : (layout : Layout) → width layout ≤ layout .length + header
 unfolding width
 width-le layout = omega arith
 
@@ -519,3 +558,100 @@ pub arrived : (layout : Layout) (f : ℕ → Sent) → ((i : ℕ) → Sized layo
     → 1 ≤ j → j ≤ n → 1 ≤ i → i * width layout ≤ length inbox → slotOf inbox layout i ≡ slotOf outbox layout j → messageOf inbox layout i ≡ content (f j)
 arrived layout f sized inbox outbox n i j e hj lj hi li same =
     message-of-slot inbox layout i (f j) hi li (same ∙ ap (λ (o : List ℕ). slotOf o layout j) e ∙ slot-of-slots layout f sized n j hj lj)
+
+-- ---- slots of another run
+pub other-run-absent : OtherRunAbsent
+other-run-absent box layout j o = message-absent box layout j (other-present layout (slotOf box layout j) (o .other))
+
+-- the run number stands in the first three bytes
+run-front : (a b : List ℕ) → take header a ≡ take header b → runIn a ≡ runIn b
+unfolding runIn
+run-front a b e =
+    ap₂ (λ (x y : ℕ). x + 256 * y)
+    (sym (getD-take 3 a 1 0 (omega arith)) ∙ ap (λ (l : List ℕ). getD l 1 0) e ∙ getD-take 3 b 1 0 (omega arith))
+    (sym (getD-take 3 a 2 0 (omega arith)) ∙ ap (λ (l : List ℕ). getD l 2 0) e ∙ getD-take 3 b 2 0 (omega arith))
+
+pub late-absent : LateAbsent
+late-absent box layout late j m n e =
+    message-absent box layout j
+    (other-present layout (slotOf box layout j) (λ r. n (sym (run-front (slotOf box layout j) (written late (bytes m)) e ∙ run-written late m) ∙ r)))
+
+-- ---- a slot made silent
+module _ (box : List ℕ) (layout : Layout) (j : ℕ) where
+  silenced-none : holds box layout j ≡ false → silenced box layout j ≡ box
+  unfolding silenced
+  silenced-none n = cond-no (holds box layout j) _ box n
+
+  -- in the form of a part that was lent and came back
+  silenced-held : holds box layout j ≡ true
+      → silenced box layout j
+      ≡ take ((j - 1) * width layout) box
+      ++ (replicate (width layout) 0 ++ drop ((j - 1) * width layout + width layout - (j - 1) * width layout) (drop ((j - 1) * width layout) box))
+  unfolding silenced written
+  silenced-held y =
+      let a = (j - 1) * width layout in
+      let some = holds-yes box layout j y .0 in
+      let u : a + (a + width layout - a) ≡ j * width layout = omega (arith, slot-end j (width layout) some) in
+      cond-yes (holds box layout j) _ box y
+      ∙ sym
+      (ap (λ (x : List ℕ). take a box ++ (replicate (width layout) 0 ++ x))
+      (drop-drop (a + width layout - a) a box ∙ ap (λ (i : ℕ). drop i box) u))
+
+  pub length-silenced : length (silenced box layout j) ≡ length box
+  length-silenced =
+      ⊎-elim
+      (λ (y : holds box layout j ≡ true).
+      let a = (j - 1) * width layout in
+      let f = holds-yes box layout j y in
+      ap length (silenced-held y)
+      ∙ length-put box (replicate (width layout) 0) a (a + width layout) (omega arith) (omega (arith, f .1, slot-end j (width layout) (f .0)))
+      (length-replicate (width layout) 0 ∙ omega arith))
+      (λ (n : holds box layout j ≡ false). ap length (silenced-none n))
+      (either (holds box layout j))
+
+  -- the slots of a box in which slot j was made silent
+  module _ (y : holds box layout j ≡ true) where
+    room : j - 1 < j
+    room = omega (arith, holds-yes box layout j y .0)
+
+    silent-there : slotOf (silenced box layout j) layout j ≡ written layout silence
+    unfolding slotOf written
+    silent-there =
+        ap (λ (b : List ℕ). part (width layout) b (j - 1)) (silenced-held y)
+        ∙ part-put-same (width layout) box (replicate (width layout) 0) j (j - 1) room (holds-yes box layout j y .1) (length-replicate (width layout) 0)
+
+    others-stay : (i : ℕ) → 1 ≤ i → (i ≡ j → ⊥) → slotOf (silenced box layout j) layout i ≡ slotOf box layout i
+    unfolding slotOf
+    others-stay i some n =
+        ap (λ (b : List ℕ). part (width layout) b (i - 1)) (silenced-held y)
+        ∙ part-put-other (width layout) box (replicate (width layout) 0) j (j - 1) room (holds-yes box layout j y .1) (length-replicate (width layout) 0)
+        (i - 1) (λ e. n (omega (arith, e, holds-yes box layout j y .0)))
+
+    pub silenced-message : messageOf (silenced box layout j) layout j ≡ []
+    silenced-message =
+        message-of-slot (silenced box layout j) layout j silence (holds-yes box layout j y .0)
+        (subst (λ (x : ℕ). j * width layout ≤ x) (sym length-silenced) (holds-yes box layout j y .1)) silent-there
+
+    pub others-read : (i : ℕ) → 1 ≤ i → (i ≡ j → ⊥) → messageOf box layout i ≡ messageOf (silenced box layout j) layout i
+    unfolding messageOf holds
+    others-read i some n =
+        ap₂ (λ (l : ℕ) (b : List ℕ). cond ((not (eqb i 0) && leb (i * width layout) l) && isPresent layout b) (drop header b) []) (sym length-silenced)
+        (sym (others-stay i some n))
+
+-- a slot without a message can be made silent, and every slot reads as it did
+pub silenced-reads : (box : List ℕ) (layout : Layout) (j : ℕ) → messageOf box layout j ≡ [] → SameMessages layout box (silenced box layout j)
+silenced-reads box layout j none i =
+    ⊎-elim
+    (λ (y : holds box layout j ≡ true).
+    ⊎-elim
+    (λ (e : i ≡ j). ap (messageOf box layout) e ∙ none ∙ sym (ap (messageOf (silenced box layout j) layout) e ∙ silenced-message box layout j y))
+    (λ (n : i ≡ j → ⊥).
+    ⊎-elim
+    (λ (z : i < 1).
+    message-none box layout i (holds-zero box layout i (omega arith))
+    ∙ sym (message-none (silenced box layout j) layout i (holds-zero (silenced box layout j) layout i (omega arith))))
+    (λ (some : 1 ≤ i). others-read box layout j y i some n)
+    (lt-or-le i 1))
+    (same-or-not i j))
+    (λ (n : holds box layout j ≡ false). ap (λ (b : List ℕ). messageOf b layout i) (sym (silenced-none box layout j n)))
+    (either (holds box layout j))

@@ -6,10 +6,11 @@
 --   kinds, factorsAt i                 the rows of the table in their order, and the factors in row i
 --   inSettings n t k                   rows 1 to 3 of the refusal table let the settings pass
 --   blockSize n t k                    the length of a block; 0 outside the settings
---   kindLayout r n t k                 the layout of the slots of a kind of round, its messages of length 0 outside the settings
---   roundLayout n t k c                the layout of the slots of round c
+--   kindLength r n t k                 the length of a message of a kind of round; 0 outside the settings
+--   kindLayout run r n t k             the layout of the slots of a kind of round in the run with the number `run`
+--   roundLayout run n t k c            the layout of the slots of round c of that run
 --   messageLength n t k c              the length of a message of round c; 0 outside the settings and rounds
---   boxLength n t k c                  the length of an inbox or outbox of round c: n slots; 0 outside the settings and rounds
+--   boxLength n t k c                  the length of an inbox or outbox of round c: n slots, whatever the run; 0 outside the settings and rounds
 --   inboxLength, outboxLength n t k c  the length that call c is lent; 0 for the first inbox and the last outbox
 use mathlib.Core.Bool.{Bool, true, cond}
 use mathlib.Core.List.{List, [], _∷_}
@@ -21,7 +22,7 @@ use Rattle.wire.specs.declared.Round.{Round}
 use Rattle.wire.specs.declared.Round.the-variants.{Block, Pieces, Marks, Matrix, Seen, King, Forward, Rebuild, Outside}
 use Rattle.wire.specs.Round.{roundKind}
 use Rattle.wire.specs.declared.slot.Layout.{Layout}
-use Rattle.wire.specs.Slot.{layoutWith, width}
+use Rattle.wire.specs.Slot.{layoutWith, header}
 
 unfoldable pub blockLength : ℕ → ℕ → ℕ
 blockLength k t = k * (t + 1)
@@ -74,17 +75,17 @@ blockSize n t k = cond (inSettings n t k) (blockLength k t) 0
 unfoldable pub kindLength : Round → ℕ → ℕ → ℕ → ℕ
 kindLength r n t k = cond (inSettings n t k) (rowLength r n t k) 0
 
-abbrev pub kindLayout : Round → ℕ → ℕ → ℕ → Layout
-kindLayout r n t k = layoutWith (kindLength r n t k)
+abbrev pub kindLayout : ℕ → Round → ℕ → ℕ → ℕ → Layout
+kindLayout run r n t k = layoutWith run (kindLength r n t k)
 
-abbrev pub roundLayout : ℕ → ℕ → ℕ → ℕ → Layout
-roundLayout n t k c = kindLayout (roundKind t c) n t k
+abbrev pub roundLayout : ℕ → ℕ → ℕ → ℕ → ℕ → Layout
+roundLayout run n t k c = kindLayout run (roundKind t c) n t k
 
 abbrev pub messageLength : ℕ → ℕ → ℕ → ℕ → ℕ
-messageLength n t k c = roundLayout n t k c .length
+messageLength n t k c = kindLength (roundKind t c) n t k
 
 unfoldable pub boxLength : ℕ → ℕ → ℕ → ℕ → ℕ
-boxLength n t k c = cond (eqb (messageLength n t k c) 0) 0 (n * width (roundLayout n t k c))
+boxLength n t k c = cond (eqb (messageLength n t k c) 0) 0 (n * (header + messageLength n t k c))
 
 unfoldable pub inboxLength : ℕ → ℕ → ℕ → ℕ → ℕ
 inboxLength n t k c = boxLength n t k (c - 1)

@@ -2,7 +2,7 @@
 ghost use mathlib.Core.Path.{_≡_};
 ghost use Prim.Native.Nat.{_<_};
 ghost use Rattle.settings.specs.Valid.{Coded};
-ghost use Rattle.wire.specs.Length.{rowIndex, factorsAt, rowLength, inSettings, blockSize, kindLayout, roundLayout, messageLength, inboxLength, outboxLength};
+ghost use Rattle.wire.specs.Length.{rowIndex, factorsAt, rowLength, inSettings, blockSize, kindLength, kindLayout, roundLayout, messageLength, inboxLength, outboxLength};
 use crate::Layout;
 use crate::Round;
 use crate::layout_with;
@@ -77,23 +77,30 @@ pub fn block_length(n: usize, t: usize, k: usize) -> usize
     0
 }
 
-// The layout of the slots of a kind of round; messages of length 0 outside the settings.
-// Shut out: messages of a block, whatever the kind; length 1 outside the settings; must-fail/wrong_factor.
-pub fn kind_layout(kind: Round, n: usize, t: usize, k: usize) -> Layout
-    ensures { λ r. ⌜ r ≡ kindLayout kind n t k ⌝ }
+// The length of a message of a kind of round; 0 outside the settings.
+fn kind_length(kind: Round, n: usize, t: usize, k: usize) -> usize
+    ensures { λ r. ⌜ r ≡ kindLength kind n t k ⌝ }
 {
     if in_settings(n, t, k) {
-        return layout_with(row_length(kind, n, t, k));
+        return row_length(kind, n, t, k);
     }
-    layout_with(0)
+    0
 }
 
-// The layout of the slots of round c.
-// Shut out: that of round t; k and t the other way round.
-pub fn round_layout(n: usize, t: usize, k: usize, c: usize) -> Layout
-    ensures { λ r. ⌜ r ≡ roundLayout n t k c ⌝ }
+// The layout of the slots of a kind of round in the run `run`; messages of length 0 outside the settings.
+// Shut out: messages of a block, whatever the kind; length 1 outside the settings; run 0, whatever is given; must-fail/wrong_factor.
+pub fn kind_layout(run: u16, kind: Round, n: usize, t: usize, k: usize) -> Layout
+    ensures { λ r. ⌜ r ≡ kindLayout run kind n t k ⌝ }
 {
-    kind_layout(round_kind(t, c), n, t, k)
+    layout_with(run, kind_length(kind, n, t, k))
+}
+
+// The layout of the slots of round c of the run `run`.
+// Shut out: that of round t; k and t the other way round; run 0, whatever is given.
+pub fn round_layout(run: u16, n: usize, t: usize, k: usize, c: usize) -> Layout
+    ensures { λ r. ⌜ r ≡ roundLayout run n t k c ⌝ }
+{
+    kind_layout(run, round_kind(t, c), n, t, k)
 }
 
 // The length of a message of round c; 0 outside the settings and rounds.
@@ -101,8 +108,7 @@ pub fn round_layout(n: usize, t: usize, k: usize, c: usize) -> Layout
 pub fn message_length(n: usize, t: usize, k: usize, c: usize) -> usize
     ensures { λ r. ⌜ r ≡ messageLength n t k c ⌝ }
 {
-    let layout = round_layout(n, t, k, c);
-    layout.length
+    kind_length(round_kind(t, c), n, t, k)
 }
 
 // The length of the outbox that call c is lent: n slots; 0 for the last call and outside the settings and calls.

@@ -1,32 +1,48 @@
-// The slots of inboxes and outboxes (document 01, 'The house'): what stands in a slot beside its message is known here alone. Every function is
-// total: no number or length makes a sum or a product overflow.
+// The slots of inboxes and outboxes (document 01, 'The house'; document 02, U11): what stands in a slot beside its message is known here alone. Every
+// function is total: no number or length makes a sum or a product overflow.
 ghost use mathlib.Core.Path.{_≡_};
-ghost use Prim.Native.Nat.{_*_};
+ghost use Prim.Native.Nat.{_*_, _≤_};
 ghost use lib.Dec.{eqb};
 ghost use lib.ListN.{length, replicate};
-ghost use Rattle.wire.specs.Slot.{layoutWith, width, messageOf, offsetOf, bytes, written, slots, toAll, putSlot, relayed, copied};
+ghost use Rattle.wire.specs.Slot.{layoutWith, header, width, isPresent, messageOf, offsetOf, bytes, written, slots, toAll, putSlot, relayed, copied};
+use lists::high;
+use lists::low;
+use lists::word;
 
-// What a slot is: a header, and then a message of `length` bytes.
+// What a slot of the run with the number `run` is: a header, which carries that number, and then a message of `length` bytes.
 pub struct Layout {
+    pub run: u16,
     pub length: usize,
 }
 
-// A slot's bytes before its message.
-pub const HEADER: usize = 1;
+// A slot's bytes before its message: the first byte, and the run number, low byte first.
+pub const HEADER: usize = 3;
 
-// The byte of a slot that is present.
+// The first byte of a slot that is present.
 const PRESENT: u8 = 1;
 
-// Slots with messages of `len` bytes.
-// Shut out: messages of length 0; of the length of a slot.
-pub fn layout_with(len: usize) -> Layout
-    ensures { λ r. ⌜ r ≡ layoutWith len ⌝ }
+// Slots of the run `run` with messages of `len` bytes.
+// Shut out: run 0, whatever is given; messages of length 0; of the length of a slot.
+pub fn layout_with(run: u16, len: usize) -> Layout
+    ensures { λ r. ⌜ r ≡ layoutWith run len ⌝ }
 {
-    Layout { length: len }
+    Layout { run, length: len }
 }
 
-// Where in an inbox the message of slot j starts; 0 where there is none: the slot is absent, j is 0, or the inbox
-// does not hold the slot whole.
+// Whether a slot is present: its first byte is 01, and it carries the number of the run.
+// Shut out by must-fail/absent_as_present, must-fail/high_byte_not_compared, must-fail/bytes_swapped, must-fail/other_run_read.
+fn is_present(slot: &[u8], layout: Layout) -> bool
+    requires { ⌜ header ≤ length (now slot) ⌝ }
+    ensures { λ r. ⌜ r ≡ isPresent layout (now (slot .entry)) ⌝ }
+{
+    if slot[0] != PRESENT {
+        return false;
+    }
+    word(slot[1], slot[2]) == layout.run
+}
+
+// Where in an inbox the message of slot j starts; 0 where there is none: the slot is absent or of another run, j is 0, or the inbox does not hold
+// the slot whole.
 // Shut out: must-fail/absent_as_present; must-fail/slot_off_by_one.
 pub fn offset(inbox: &[u8], layout: Layout, j: usize) -> usize
     ensures { λ r. ⌜ r ≡ offsetOf (now (inbox .entry)) layout j ⌝ }
@@ -45,7 +61,8 @@ pub fn offset(inbox: &[u8], layout: Layout, j: usize) -> usize
         return 0;
     }
     let start = (j - 1) * w;
-    if inbox[start] != PRESENT {
+    let end = start + w;
+    if !is_present(&inbox[start..end], layout) {
         return 0;
     }
     start + HEADER
@@ -88,12 +105,14 @@ pub fn copy(dst: &mut [u8], src: &[u8])
     }
 }
 
-// A slot with a message.
+// A slot with a message: 01, the run number, low byte first, and the message.
 fn put_slot(slot: &mut [u8], layout: Layout, m: &[u8])
     requires { ⌜ (length (now slot) ≡ width layout) × (length (now m) ≡ layout .length) ⌝ }
     ensures { λ _. ⌜ now (slot .exit) ≡ written layout (bytes (now (m .entry))) ⌝ }
 {
     slot[0] = PRESENT;
+    slot[1] = low(layout.run);
+    slot[2] = high(layout.run);
     copy(&mut slot[HEADER..], m);
 }
 

@@ -9,7 +9,7 @@ use mathlib.Core.Bool.{cond, not}
 use mathlib.Core.List.{List, [], _∷_, _++_}
 use Prim.Native.Nat.{ℕ}
 use native.Mathlib.Omega.{arith}
-use lib.Dec.{T, eqb, eqb→eq}
+use lib.Dec.{T, eqb, eqb→eq, lit<}
 use Rattle.lists.specs.Join.{joined, part}
 use Rattle.lists.specs.Fill.{tabulate, filled}
 use Rattle.lists.specs.Sum.{sum, count}
@@ -20,7 +20,7 @@ use Rattle.bitset.specs.Row.{wordAt, rowOf, rowByte, rowsOf}
 use Rattle.settings.specs.Refusal.{outside, tooMany, broken, refusalOf, stateRefusal, encodingRefusal, decodingRefusal, lengthsRefusal, starRefusal}
 use Rattle.wire.specs.Length.{blockLength, rowLength, inSettings, kindLength, boxLength, inboxLength, outboxLength}
 use Rattle.wire.specs.Round.{roundKind, callKind, phaseOf}
-use Rattle.wire.specs.Slot.{width, slotOf, holds, isPresent, messageOf, written, slots, copied}
+use Rattle.wire.specs.Slot.{layoutWith, width, slotOf, holds, runIn, isPresent, messageOf, written, slots, copied}
 use Rattle.polynomial.specs.Polynomial.{Bytes, gsum, evaluate}
 use Rattle.reed_solomon.specs.Encode.{stripe, pieceOf, isReady}
 use Rattle.reed_solomon.specs.Decode.{hasPiece, received, presentCount, differing}
@@ -40,24 +40,24 @@ use Rattle.agreement.specs.Agreement.{System, Correct, Supposed, lastCore, last
 use Rattle.agreement.specs.Held.{holders}
 use Rattle.agreement.proofs.Laws.{agreement}
 use Rattle.witnesses.proofs.Test.{given, each, passed, at-correct, Meets, meets-supposed}
-use Rattle.witnesses.proofs.Test.{Step, small, small-bytes, smalls, lents, present, absent, rows, box}
+use Rattle.witnesses.proofs.Test.{Step, small, small-bytes, smalls, lents, runNumber, present, absent, rows, box}
 
 stepsOf : ℕ → List ℕ → List ℕ → ℕ → List Step
 stepsOf piece block pieces other =
     let p : List ℕ = present (piece ∷ []) in
     let m : List ℕ = present (rows 0x07 0x07 0x07 0x08) in
     let s : List ℕ = present (rows 0x08 0x08 0x08 0x07 ++ rows 0x07 0x07 0x07 0x08) in
-    ([], 12)
-    ∷ (box block (absent 2) (absent 2) (absent 2), 12)
-    ∷ (box pieces (present (0x22 ∷ piece ∷ [])) (present (0x36 ∷ piece ∷ [])) (present (0x5b ∷ other ∷ [])), 12)
-    ∷ (box (present (0x07 ∷ 0x00 ∷ [])) (present (0x07 ∷ 0x00 ∷ [])) (present (0x07 ∷ 0x00 ∷ [])) (present (0x08 ∷ 0x00 ∷ [])), 36)
-    ∷ (box (absent 8) m m m, 68)
-    ∷ (box (absent 16) s s s, 36)
-    ∷ (box (absent 8) (absent 8) (absent 8) (absent 8), 36)
-    ∷ (box (absent 8) m m m, 68)
-    ∷ (box (absent 16) s s s, 36)
-    ∷ (box (absent 8) m (absent 8) (absent 8), 8)
-    ∷ (box (absent 1) p p (absent 1), 8)
+    ([], 20)
+    ∷ (box block (absent 2) (absent 2) (absent 2), 20)
+    ∷ (box pieces (present (0x22 ∷ piece ∷ [])) (present (0x36 ∷ piece ∷ [])) (present (0x5b ∷ other ∷ [])), 20)
+    ∷ (box (present (0x07 ∷ 0x00 ∷ [])) (present (0x07 ∷ 0x00 ∷ [])) (present (0x07 ∷ 0x00 ∷ [])) (present (0x08 ∷ 0x00 ∷ [])), 44)
+    ∷ (box (absent 8) m m m, 76)
+    ∷ (box (absent 16) s s s, 44)
+    ∷ (box (absent 8) (absent 8) (absent 8) (absent 8), 44)
+    ∷ (box (absent 8) m m m, 76)
+    ∷ (box (absent 16) s s s, 44)
+    ∷ (box (absent 8) m (absent 8) (absent 8), 16)
+    ∷ (box (absent 1) p p (absent 1), 16)
     ∷ (box (absent 1) (present (0x22 ∷ [])) (present (0x36 ∷ [])) (present (0x5a ∷ [])), 0)
     ∷ []
 
@@ -80,6 +80,8 @@ zero-bytes = small-bytes (0x00 ∷ 0x00 ∷ []) tt
 pub faulty-sender : System
 faulty-sender = record {
   settings = record { n = 4; t = 1; k = 1; sender = 1 };
+  run = runNumber;
+  run-most = lit< tt;
   correct = λ i. not (eqb i 1);
   block = λ _. 0x00 ∷ 0x00 ∷ [];
   block-bytes = λ _. zero-bytes;
@@ -93,14 +95,14 @@ faulty-sender = record {
 record Computed : Type 0 where
   supposed : Meets faulty-sender
   core : T (each 4 (λ i. given (faulty-sender .correct i) (eqb (lastCore faulty-sender i) 7)))
-  rule : T (each 4 (λ i. given (faulty-sender .correct i) (meets 4 1 1 (lastInbox faulty-sender i) (0x0a ∷ 0x14 ∷ []))))
+  rule : T (each 4 (λ i. given (faulty-sender .correct i) (meets 4 1 (layoutWith runNumber 1) (lastInbox faulty-sender i) (0x0a ∷ 0x14 ∷ []))))
   none-held : holders faulty-sender 1 (0x0a ∷ 0x14 ∷ []) ≡ 0
   two-held : holders faulty-sender 2 (0x0a ∷ 0x14 ∷ []) ≡ 2
 
 computed : Computed
 unfolding faulty-sender stepsOf lents tabulate filled sum count same gadd gmul gpow polyMul reduce member setOf sizeOf restricted first wordAt rowOf
     rowByte rowsOf outside tooMany broken refusalOf stateRefusal lengthsRefusal starRefusal encodingRefusal blockLength rowLength inSettings
-    kindLength boxLength inboxLength outboxLength roundKind callKind phaseOf width slotOf part holds isPresent messageOf written slots joined copied
+    kindLength boxLength inboxLength outboxLength roundKind callKind phaseOf width slotOf part holds runIn isPresent messageOf written slots joined copied
     gsum evaluate stripe pieceOf isReady sentBlock receivedBlock twoPieces sentPieces isMarked marksOf marksMessage sentMarks zeroSeen oneSeen held
     support weak settled matrixOf said kingSays firstMatrix zerosOf onesOf heldOf weakOf settledOf seenMessage sentByKing neighbour matched
     firstFound ofSize upTo matchingOf struck setC lacks setD atLeast setF setE setsFrom noSets isLarge starFrom refusalFor starOf inCore forwarded
@@ -131,9 +133,9 @@ unfolding faulty-sender blockLength restricted member setOf sum
 faulty-sender-agreed i f =
     let some : restricted (lastCore faulty-sender i) 4 ≡ 7 = ap (λ (x : ℕ). restricted x 4) (faulty-sender-core i f) in
     agreement faulty-sender faulty-sender-supposed .set i f .agreed (λ z. omega (arith, z, some)) (0x0a ∷ 0x14 ∷ [])
-    (meets-decodes 4 1 1 (lastInbox faulty-sender i) (0x0a ∷ 0x14 ∷ []) refl block-bytes
-    (passed (meets 4 1 1 (lastInbox faulty-sender i) (0x0a ∷ 0x14 ∷ []))
-    (at-correct faulty-sender (λ i. meets 4 1 1 (lastInbox faulty-sender i) (0x0a ∷ 0x14 ∷ [])) (computed .rule) i f)))
+    (meets-decodes 4 1 (layoutWith runNumber 1) (lastInbox faulty-sender i) (0x0a ∷ 0x14 ∷ []) refl block-bytes
+    (passed (meets 4 1 (layoutWith runNumber 1) (lastInbox faulty-sender i) (0x0a ∷ 0x14 ∷ []))
+    (at-correct faulty-sender (λ i. meets 4 1 (layoutWith runNumber 1) (lastInbox faulty-sender i) (0x0a ∷ 0x14 ∷ [])) (computed .rule) i f)))
 
 -- after call 2 two correct controllers held 0a14, t + 1 and no more, and after call 1 none: `held-by-many` is true of no larger number, and of no
 -- earlier call

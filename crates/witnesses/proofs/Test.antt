@@ -1,7 +1,9 @@
 -- What demand 3 supposes, as tests of a system: `meets-supposed`; and short forms in which a system of four controllers is written down.
 --   Meets S                the tests
 --   Step, lents            what is lent to a step: an inbox, and the length of an outbox of zeros
---   present m, absent len  a slot with a message; a slot of 00 in a round of that length
+--   runNumber              the number of the systems' run, 0102 in hexadecimal
+--   present m, absent len  a slot of that run with a message; a slot of 00 in a round of that length
+--   late m                 a slot with a message of run 0002, whose number has the same low byte
 --   rows a b c d           a matrix of four rows of marks
 --   box a b c d            four slots
 --   answers h ls           the numbers that a list of steps returns
@@ -51,7 +53,7 @@ at-correct S p t i f =
     given-at (S .correct i) (p i) (each-at (S .settings .n) (λ i. given (S .correct i) (p i)) t i (f .least) (f .most)) (f .is)
 
 abbrev pub starts : System → ℕ → Bool
-starts S i = eqb (startOf (S .settings) i (length (S .block i)) .number) 0
+starts S i = eqb (startOf (S .settings) i (S .run) (length (S .block i)) .number) 0
 
 abbrev pub finishes : System → ℕ → Bool
 finishes S i = eqb (length (callsOf S i)) (last S)
@@ -59,8 +61,8 @@ finishes S i = eqb (length (callsOf S i)) (last S)
 -- whether the message from i to j arrives in round c, given the calls of i and of j, which are so computed once for all rounds
 abbrev pub arrivedIn : System → (i j : ℕ) → List Made → List Made → ℕ → Bool
 arrivedIn S i j of-i of-j c =
-    same (slotOf (getD of-j (c + 1 - 1) noCall .lent .inbox) (roundLayout (S .settings .n) (S .settings .t) (S .settings .k) c) i)
-    (slotOf (getD of-i (c - 1) noCall .sends) (roundLayout (S .settings .n) (S .settings .t) (S .settings .k) c) j)
+    same (slotOf (getD of-j (c + 1 - 1) noCall .lent .inbox) (roundLayout (S .run) (S .settings .n) (S .settings .t) (S .settings .k) c) i)
+    (slotOf (getD of-i (c - 1) noCall .sends) (roundLayout (S .run) (S .settings .n) (S .settings .t) (S .settings .k) c) j)
 
 abbrev pub allIn : System → (i j : ℕ) → List Made → List Made → Bool
 allIn S i j of-i of-j = each (last S - 1) (arrivedIn S i j of-i of-j)
@@ -82,11 +84,11 @@ pub meets-supposed : (S : System) → Meets S → Supposed S
 meets-supposed S M = record {
   tolerance = leb→le (3 * S .settings .t + 1) (S .settings .n) (M .tolerance);
   few = leb→le (count (S .settings .n) (λ i. not (S .correct (i + 1)))) (S .settings .t) (M .few);
-  started = λ i f. eqb→eq (startOf (S .settings) i (length (S .block i)) .number) 0 (at-correct S (starts S) (M .started) i f);
+  started = λ i f. eqb→eq (startOf (S .settings) i (S .run) (length (S .block i)) .number) 0 (at-correct S (starts S) (M .started) i f);
   finished = λ i f. eqb→eq (length (callsOf S i)) (last S) (at-correct S (finishes S) (M .finished) i f);
   arrives = λ i j c f g least most.
-      same-eq (slotOf (call S j (c + 1) .lent .inbox) (roundLayout (S .settings .n) (S .settings .t) (S .settings .k) c) i)
-      (slotOf (call S i c .sends) (roundLayout (S .settings .n) (S .settings .t) (S .settings .k) c) j)
+      same-eq (slotOf (call S j (c + 1) .lent .inbox) (roundLayout (S .run) (S .settings .n) (S .settings .t) (S .settings .k) c) i)
+      (slotOf (call S i c .sends) (roundLayout (S .run) (S .settings .n) (S .settings .t) (S .settings .k) c) j)
       (passed (arrived S i j c)
       (each-at (last S - 1) (arrived S i j)
       (given-at (S .correct j) (each (last S - 1) (arrived S i j))
@@ -120,11 +122,17 @@ lents (s ∷ ss) t =
     record { inbox = s .0; outbox = replicate (s .1) 0; inbox-bytes = small-bytes (s .0) (both-left (small (s .0)) (smalls ss) t) }
     ∷ lents ss (both-right (small (s .0)) (smalls ss) t)
 
+abbrev pub runNumber : ℕ
+runNumber = 0x0102
+
 abbrev pub present : List ℕ → List ℕ
-present m = 1 ∷ m
+present m = 0x01 ∷ 0x02 ∷ 0x01 ∷ m
+
+abbrev pub late : List ℕ → List ℕ
+late m = 0x01 ∷ 0x02 ∷ 0x00 ∷ m
 
 abbrev pub absent : ℕ → List ℕ
-absent len = replicate (1 + len) 0
+absent len = replicate (3 + len) 0
 
 abbrev pub rows : (a b c d : ℕ) → List ℕ
 rows a b c d = a ∷ 0 ∷ b ∷ 0 ∷ c ∷ 0 ∷ d ∷ 0 ∷ []

@@ -1,5 +1,5 @@
 -- Four controllers, t 1, k 1. Controller 4 is faulty: in every round it sends different bytes to different controllers. The steps of 1, 2 and 3 contain
--- refused ones before, between and after the calls. Two systems: `two-faced`, in which 1 is the sender and has the block 0a14, and `without-sender`
+-- refused ones before, between and after the calls. One of its slots is of another run (document 02, U11). Two systems: `two-faced`, in which 1 is the sender and has the block 0a14, and `without-sender`
 -- (document 02, U6), in which 1, 2 and 3 are started with 0a14 and nobody hears what 4 sends in round 1. `two-faced-supposed`,
 -- `without-sender-supposed`: what demand 3 supposes holds, computed; `two-faced-agreed`, `without-sender-agreed`: by demand 3, agreed and 0a14;
 -- `two-faced-named`: whom 1, 2 and 3 name (document 02, U1).
@@ -11,7 +11,7 @@ use mathlib.Core.Path.{_≡_, refl, ap, _∙_}
 use mathlib.Core.Bool.{Bool, true, false, cond, not, _&&_, _||_}
 use mathlib.Core.List.{List, [], _∷_, _++_}
 use Prim.Native.Nat.{ℕ, _-_}
-use lib.Dec.{T, eqb, lit≤}
+use lib.Dec.{T, eqb, lit≤, lit<}
 use lib.ListN.{getD}
 use Rattle.lists.specs.Join.{joined, part}
 use Rattle.lists.specs.Fill.{tabulate, filled}
@@ -24,7 +24,7 @@ use Rattle.bitset.specs.Row.{wordAt, rowOf, rowByte, rowsOf}
 use Rattle.settings.specs.Refusal.{outside, tooMany, broken, refusalOf, stateRefusal, encodingRefusal, lengthsRefusal, starRefusal}
 use Rattle.wire.specs.Length.{blockLength, rowLength, inSettings, kindLength, boxLength, inboxLength, outboxLength}
 use Rattle.wire.specs.Round.{roundKind, callKind, phaseOf}
-use Rattle.wire.specs.Slot.{width, slotOf, holds, isPresent, messageOf, written, slots, copied}
+use Rattle.wire.specs.Slot.{layoutWith, width, slotOf, holds, runIn, isPresent, messageOf, written, slots, copied}
 use Rattle.polynomial.specs.Polynomial.{Bytes, gsum, evaluate}
 use Rattle.reed_solomon.specs.Encode.{stripe, pieceOf, isReady}
 use Rattle.reed_solomon.specs.Decode.{isNamed, namedOf}
@@ -41,7 +41,7 @@ use Rattle.protocol.specs.Step.{startRefusal, startOf, lengthsFit, stepRefusal,
 use Rattle.agreement.specs.Agreement.{System, Correct, Supposed, StartedAlike, Concluded, Holds, atStart, lastInbox}
 use Rattle.agreement.specs.Named.{namedBy}
 use Rattle.agreement.proofs.Laws.{agreement, named-by-last}
-use Rattle.witnesses.proofs.Test.{each, Meets, meets-supposed, answers, Step, small, small-bytes, smalls, lents, present, absent, rows, box}
+use Rattle.witnesses.proofs.Test.{each, Meets, meets-supposed, answers, Step, small, small-bytes, smalls, lents, runNumber, present, late, absent, rows, box}
 
 abbrev zeros : List ℕ
 zeros = rows 0 0 0 0
@@ -52,7 +52,7 @@ ones = rows 0x0f 0x0f 0x0f 0x0f
 from4-1 : List (List ℕ)
 from4-1 =
     present (0x01 ∷ 0x02 ∷ [])
-    ∷ (0x00 ∷ 0x5a ∷ 0x1e ∷ [])  -- the true pieces, but absent
+    ∷ (0x00 ∷ 0x02 ∷ 0x01 ∷ 0x5a ∷ 0x1e ∷ [])  -- the true pieces, but absent
     ∷ present (0x0f ∷ 0xff ∷ [])
     ∷ present ones
     ∷ present (ones ++ ones)
@@ -61,7 +61,7 @@ from4-1 =
     ∷ absent 16
     ∷ present ones
     ∷ present (0x09 ∷ [])
-    ∷ present (0x5b ∷ [])
+    ∷ late (0x5a ∷ [])  -- the true piece, but of another run, so absent
     ∷ []
 
 from4-2 : List (List ℕ)
@@ -83,7 +83,7 @@ from4-3 : List (List ℕ)
 from4-3 =
     absent 2
     ∷ present (0x5a ∷ 0x37 ∷ [])  -- a false piece
-    ∷ (0x02 ∷ 0x0f ∷ 0x00 ∷ [])  -- neither 01 nor 00, so absent
+    ∷ (0x02 ∷ 0x02 ∷ 0x01 ∷ 0x0f ∷ 0x00 ∷ [])  -- neither 01 nor 00, so absent
     ∷ present (rows 0x07 0x0f 0x07 0x09)
     ∷ present (zeros ++ ones)
     ∷ absent 8
@@ -100,22 +100,22 @@ stepsOf slot piece from4 =
     let p : List ℕ = present (piece ∷ []) in
     let m : List ℕ = present (rows 0x07 0x0f 0x07 0x00) in
     let s : List ℕ = present (rows 0x08 0x00 0x08 0x0f ++ rows 0x07 0x0f 0x07 0x00) in
-    (0x07 ∷ [], 12)  -- refused with 6: call 1 has an inbox of length 0
-    ∷ ([], 12)
-    ∷ (box slot (absent 2) (absent 2) (x 1), 12)
-    ∷ (box (present (0x1e ∷ piece ∷ [])) (present (0x22 ∷ piece ∷ [])) (present (0x36 ∷ piece ∷ [])) (x 2), 12)
-    ∷ (box (present (0x07 ∷ 0x00 ∷ [])) (present (0x0f ∷ 0x00 ∷ [])) (present (0x07 ∷ 0x00 ∷ [])) (x 3), 36)
-    ∷ (box (present (rows 0x07 0x0f 0x07 0x0f)) m m (x 4), 67)  -- refused with 6: the outbox is too short
-    ∷ (box (present (rows 0x07 0x0f 0x07 0x0f)) m m (x 4), 68)
-    ∷ (absent 8, 36)  -- refused with 6: the inbox is one slot only
-    ∷ (box (present (rows 0x08 0x00 0x08 0x00 ++ rows 0x07 0x0f 0x07 0x00)) s (present (rows 0x08 0x00 0x08 0x06 ++ rows 0x07 0x0f 0x07 0x00)) (x 5), 36)
-    ∷ (box m (absent 8) (absent 8) (x 6), 36)
-    ∷ (box m m m (x 7), 68)
-    ∷ (box s s s (x 8), 36)
-    ∷ (box (absent 8) m (absent 8) (x 9), 8)
-    ∷ (box p p p (x 10), 8)
+    (0x07 ∷ [], 20)  -- refused with 6: call 1 has an inbox of length 0
+    ∷ ([], 20)
+    ∷ (box slot (absent 2) (absent 2) (x 1), 20)
+    ∷ (box (present (0x1e ∷ piece ∷ [])) (present (0x22 ∷ piece ∷ [])) (present (0x36 ∷ piece ∷ [])) (x 2), 20)
+    ∷ (box (present (0x07 ∷ 0x00 ∷ [])) (present (0x0f ∷ 0x00 ∷ [])) (present (0x07 ∷ 0x00 ∷ [])) (x 3), 44)
+    ∷ (box (present (rows 0x07 0x0f 0x07 0x0f)) m m (x 4), 75)  -- refused with 6: the outbox is too short
+    ∷ (box (present (rows 0x07 0x0f 0x07 0x0f)) m m (x 4), 76)
+    ∷ (absent 8, 44)  -- refused with 6: the inbox is one slot only
+    ∷ (box (present (rows 0x08 0x00 0x08 0x00 ++ rows 0x07 0x0f 0x07 0x00)) s (present (rows 0x08 0x00 0x08 0x06 ++ rows 0x07 0x0f 0x07 0x00)) (x 5), 44)
+    ∷ (box m (absent 8) (absent 8) (x 6), 44)
+    ∷ (box m m m (x 7), 76)
+    ∷ (box s s s (x 8), 44)
+    ∷ (box (absent 8) m (absent 8) (x 9), 16)
+    ∷ (box p p p (x 10), 16)
     ∷ (box (present (0x1e ∷ [])) (present (0x22 ∷ [])) (present (0x36 ∷ [])) (x 11), 0)
-    ∷ ([], 12)  -- refused with 8: the run is finished
+    ∷ ([], 20)  -- refused with 8: the run is finished
     ∷ []
 
 abbrev from1 : Bool → List ℕ
@@ -149,6 +149,8 @@ blocks-bytes false = small-bytes (0x00 ∷ 0x00 ∷ []) tt
 pub system : Bool → System
 system sender = record {
   settings = record { n = 4; t = 1; k = 1; sender = cond sender 1 0 };
+  run = runNumber;
+  run-most = lit< tt;
   correct = λ i. not (eqb i 4);
   block = λ i. blockFor (eqb i 1 || not sender);
   block-bytes = λ i. blocks-bytes (eqb i 1 || not sender);
@@ -168,7 +170,7 @@ meets : (sender : Bool) → Meets (system sender)
 unfolding system stepsOf from4-1 from4-2 from4-3 lents tabulate filled sum count same gadd gmul gpow polyMul reduce member setOf
     sizeOf restricted first wordAt rowOf rowByte rowsOf outside tooMany broken refusalOf stateRefusal lengthsRefusal starRefusal encodingRefusal blockLength
     rowLength inSettings kindLength
-    boxLength inboxLength outboxLength roundKind callKind phaseOf width slotOf part holds isPresent messageOf written slots joined copied gsum evaluate
+    boxLength inboxLength outboxLength roundKind callKind phaseOf width slotOf part holds runIn isPresent messageOf written slots joined copied gsum evaluate
     stripe pieceOf isReady sentBlock receivedBlock twoPieces sentPieces isMarked marksOf marksMessage sentMarks zeroSeen oneSeen held support
     weak settled matrixOf said kingSays firstMatrix zerosOf onesOf heldOf weakOf settledOf seenMessage sentByKing neighbour matched firstFound ofSize
     upTo matchingOf struck setC lacks setD atLeast setF setE setsFrom noSets isLarge starFrom refusalFor starOf inCore
@@ -181,13 +183,13 @@ two-faced-answers :
     T (each 3 (λ i. same (answers (atStart two-faced i) (two-faced .steps i)) (6 ∷ 0 ∷ 0 ∷ 0 ∷ 0 ∷ 6 ∷ 0 ∷ 6 ∷ 0 ∷ 0 ∷ 0 ∷ 0 ∷ 0 ∷ 0 ∷ 0 ∷ 8 ∷ [])))
 unfolding system stepsOf from4-1 from4-2 from4-3 lents answers same outside tooMany broken refusalOf stateRefusal lengthsRefusal starRefusal
     encodingRefusal blockLength rowLength inSettings
-    kindLength boxLength inboxLength outboxLength roundKind callKind width slotOf part holds isPresent messageOf receivedBlock copied callOf
+    kindLength boxLength inboxLength outboxLength roundKind callKind width slotOf part holds runIn isPresent messageOf receivedBlock copied callOf
     startRefusal startOf lengthsFit stepRefusal stepOf
 two-faced-answers = tt
 
 -- in round 1, 4 sends a block to 1 and to 2
-two-faced-speaks : T (isPresent (getD from4-1 0 []) && isPresent (getD from4-2 0 []))
-unfolding from4-1 from4-2 isPresent
+two-faced-speaks : T (isPresent (layoutWith runNumber 2) (getD from4-1 0 []) && isPresent (layoutWith runNumber 2) (getD from4-2 0 []))
+unfolding from4-1 from4-2 runIn isPresent
 two-faced-speaks = tt
 
 -- in each round, what 4 sends to 2 differs from what it sends to 3
@@ -217,21 +219,21 @@ without-sender-agreed i f =
     let a : StartedAlike without-sender (0x0a ∷ 0x14 ∷ []) = record { no-sender = refl; alike = λ j _. ap blockFor (or-right (eqb j 1) true refl) } in
     (C .alike-outcome i (0x0a ∷ 0x14 ∷ []) a f, C .alike-block i (0x0a ∷ 0x14 ∷ []) a f)
 
--- in the last round 4 sent its true piece to 2, and others to 1 and 3: these name it (the bit worth 8), and 2 names nobody
-module _ (i : ℕ) (f : Correct two-faced i) (marks : ℕ) (said : namedOf 4 1 1 (lastInbox two-faced i) (0x0a ∷ 0x14 ∷ []) ≡ marks) where
+-- in the last round 4 sent its true piece to 2, one of another run to 1 and a false one to 3: these name it (the bit worth 8), and 2 names nobody
+module _ (i : ℕ) (f : Correct two-faced i) (marks : ℕ) (said : namedOf 4 1 (layoutWith runNumber 1) (lastInbox two-faced i) (0x0a ∷ 0x14 ∷ []) ≡ marks) where
   names : namedBy two-faced i ≡ marks
   unfolding system
   names =
       let C : Concluded two-faced = agreement two-faced two-faced-supposed in
       let c1 : Correct two-faced 1 = record { least = lit≤ tt; most = lit≤ tt; is = refl } in
       named-by-last two-faced two-faced-supposed i f .agreed (C .sender-outcome i c1 f)
-      ∙ ap (namedOf 4 1 1 (lastInbox two-faced i)) (C .sender-block i c1 f)
+      ∙ ap (namedOf 4 1 (layoutWith runNumber 1) (lastInbox two-faced i)) (C .sender-block i c1 f)
       ∙ said
 
 pub two-faced-named : (namedBy two-faced 1 ≡ 8) × ((namedBy two-faced 2 ≡ 0) × (namedBy two-faced 3 ≡ 8))
 unfolding system stepsOf from4-1 from4-2 from4-3 lents tabulate filled sum same gadd gmul gpow polyMul reduce setOf outside tooMany broken refusalOf
     stateRefusal lengthsRefusal starRefusal encodingRefusal blockLength rowLength inSettings kindLength boxLength inboxLength outboxLength roundKind
-    callKind width slotOf part holds isPresent messageOf copied receivedBlock gsum evaluate stripe pieceOf isNamed namedOf callOf startRefusal startOf
+    callKind width slotOf part holds runIn isPresent messageOf copied receivedBlock gsum evaluate stripe pieceOf isNamed namedOf callOf startRefusal startOf
     lengthsFit stepRefusal stepOf
 two-faced-named = (
   names 1 (record { least = lit≤ tt; most = lit≤ tt; is = refl }) 8 refl,

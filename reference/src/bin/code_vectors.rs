@@ -1,12 +1,13 @@
 //! The expected output of the program reed_solomon_cases, from the reference.
 use reference::code::{decode, encode, product, Decoded};
 use reference::simulator::hex;
-use reference::wire::send_one;
+use reference::wire::{send_one, slot_with, FRONT};
 
 struct Case {
     n: usize,
     t: usize,
     k: usize,
+    run: u16,
     manner: usize,
     seed: u64,
 }
@@ -69,7 +70,7 @@ impl Case {
         piece
     }
 
-    /// 0 its piece, 1 all bytes false, 2 those of one stripe, 3 absent, 4 the piece of the other block.
+    /// 0 its piece, 1 all bytes false, 2 those of one stripe, 3 absent, by its first byte or by its run number, 4 the piece of the other block.
     fn kind(&self, mask: usize, seed: u64, i: usize) -> usize {
         if mask >> i & 1 == 0 {
             0
@@ -81,7 +82,7 @@ impl Case {
     }
 
     fn slots(&self, block: &[u8], other: &[u8], mask: usize, seed: u64) -> Vec<u8> {
-        let mut slots = vec![0; self.n * (self.k + 1)];
+        let mut slots = vec![0; self.n * (FRONT + self.k)];
         for i in 0..self.n {
             let kind = self.kind(mask, seed, i);
             let mut piece = self.piece(if kind == 4 { other } else { block }, i);
@@ -94,9 +95,10 @@ impl Case {
                 let b = draw(seed, 3, i, 0) as usize % self.k;
                 piece[b] = flipped(piece[b], seed, i, b);
             }
-            send_one(&mut slots, self.k, i + 1, &piece);
+            send_one(&mut slots, self.run, self.k, i + 1, &piece);
             if kind == 3 {
-                slots[i * (self.k + 1)] = (2 + draw(seed, 4, i, 0) % 255) as u8;
+                let byte = draw(seed, 6, i, 0) as usize % FRONT;
+                slots[i * (FRONT + self.k) + byte] ^= (1 + draw(seed, 4, i, 0) % 255) as u8;
             }
         }
         slots
@@ -145,7 +147,7 @@ impl Case {
         let mut out = vec![255; block.len()];
         for (mask, seed) in self.sets() {
             let slots = self.slots(&block, &other, mask, seed);
-            let r = decode(n, t, k, &slots, &mut out);
+            let r = decode(n, t, k, self.run, &slots, &mut out);
             let (absent, differing) = self.absent_and_false(mask, seed);
             let present = self.n - absent.count_ones() as usize;
             // what the code promises
@@ -186,6 +188,7 @@ fn code(n: usize, t: usize, k: usize) {
         n,
         t,
         k,
+        run: 0,
         manner: 0,
         seed: seed_of(n, t, k, 0),
     };
@@ -203,15 +206,19 @@ fn try_encode(n: u64, t: u64, k: u64, number: u64, size: usize, len: usize) {
     println!("encode {n} {t} {k} {number} {size} {len}: {r} {d:08x}");
 }
 
-fn try_decode(n: u64, t: u64, k: u64, end: usize, size: usize) {
+fn try_decode(n: u64, t: u64, k: u64, run: u16, end: usize, size: usize) {
     let slots = [1; 4096];
     let mut block = [170; 4096];
-    let r = decode(n, t, k, &slots[..end], &mut block[..size]);
-    // all pieces are true where it is taken
-    assert!(r == Decoded::Block(0) || block == [170; 4096]);
+    let r = decode(n, t, k, run, &slots[..end], &mut block[..size]);
+    // of run 257 all pieces are true where it is taken, of any other all slots are absent
+    match r {
+        Decoded::Block(named) => assert_eq!((run, named), (257, 0)),
+        Decoded::Beyond => assert!(run != 257 && block[..size].iter().all(|&byte| byte == 0)),
+        Decoded::Refused(_) => assert_eq!(block, [170; 4096]),
+    }
     let d = digest(digest(0, &slots), &block);
     let (number, named) = answer(r);
-    println!("decode {n} {t} {k} {end} {size}: {number} {named} {d:08x}");
+    println!("decode {n} {t} {k} {run} {end} {size}: {number} {named} {d:08x}");
 }
 
 const LARGEST: u64 = u64::MAX;
@@ -265,64 +272,84 @@ const ENCODES: [(u64, u64, u64, u64, usize, usize); 43] = [
     (4, 1, 1, 257, 2, 1),
 ];
 
-const DECODES: [(u64, u64, u64, usize, usize); 35] = [
-    (3, 1, 1, 6, 2),
-    (17, 1, 1, 34, 2),
-    (4, 0, 1, 8, 1),
-    (4, 2, 1, 8, 3),
-    (16, 6, 1, 32, 7),
-    (4, 1, 0, 4, 0),
-    (4, 1, 129, 520, 258),
-    (4, 1, 1, 8, 2),
-    (4, 1, 1, 7, 2),
-    (4, 1, 1, 9, 2),
-    (4, 1, 1, 6, 2),
-    (4, 1, 1, 10, 2),
-    (4, 1, 1, 8, 1),
-    (4, 1, 1, 8, 3),
-    (4, 1, 1, 4, 2),
-    (4, 1, 1, 0, 0),
-    (7, 2, 128, 903, 384),
-    (7, 2, 128, 902, 384),
-    (7, 2, 128, 904, 384),
-    (7, 2, 128, 903, 383),
-    (7, 2, 128, 903, 385),
-    (16, 5, 128, 2064, 768),
-    (3, 0, 0, 0, 0),
-    (3, 1, 129, 390, 258),
-    (3, 1, 1, 5, 2),
-    (4, 0, 129, 520, 129),
-    (4, 2, 1, 8, 2),
-    (4, 1, 0, 8, 2),
-    (4, 1, 129, 519, 258),
-    (0, 0, 0, 0, 0),
-    (LARGEST, LARGEST, 1, 8, 2),
-    (4, LARGEST, LARGEST, 8, 2),
-    (4, THIRD, 1, 8, 2),
-    (4, 1, LARGEST, 0, 0),
-    (4, 1, 1 << 63, 4, 0),
+/// n, t, k, the run number, and the lengths of slots and block.
+const DECODES: [(u64, u64, u64, u16, usize, usize); 41] = [
+    (3, 1, 1, 257, 12, 2),
+    (17, 1, 1, 257, 68, 2),
+    (4, 0, 1, 257, 16, 1),
+    (4, 2, 1, 257, 16, 3),
+    (16, 6, 1, 257, 64, 7),
+    (4, 1, 0, 257, 12, 0),
+    (4, 1, 129, 257, 528, 258),
+    (4, 1, 1, 257, 16, 2),
+    (4, 1, 1, 257, 15, 2),
+    (4, 1, 1, 257, 17, 2),
+    (4, 1, 1, 257, 12, 2),
+    (4, 1, 1, 257, 20, 2),
+    (4, 1, 1, 257, 16, 1),
+    (4, 1, 1, 257, 16, 3),
+    (4, 1, 1, 257, 8, 2),
+    (4, 1, 1, 257, 0, 0),
+    (7, 2, 128, 257, 917, 384),
+    (7, 2, 128, 257, 916, 384),
+    (7, 2, 128, 257, 918, 384),
+    (7, 2, 128, 257, 917, 383),
+    (7, 2, 128, 257, 917, 385),
+    (16, 5, 128, 257, 2096, 768),
+    (4, 1, 1, 0, 16, 2),
+    (4, 1, 1, 1, 16, 2),
+    (4, 1, 1, 256, 16, 2),
+    (7, 2, 128, 65535, 917, 384),
+    (7, 2, 128, 256, 917, 383),
+    (3, 0, 0, 257, 0, 0),
+    (3, 1, 129, 257, 396, 258),
+    (3, 1, 1, 257, 11, 2),
+    (4, 0, 129, 257, 528, 129),
+    (4, 2, 1, 257, 16, 2),
+    (4, 1, 0, 257, 16, 2),
+    (4, 1, 129, 257, 527, 258),
+    (0, 0, 0, 257, 0, 0),
+    (LARGEST, LARGEST, 1, 257, 16, 2),
+    (4, LARGEST, LARGEST, 257, 16, 2),
+    (4, THIRD, 1, 257, 16, 2),
+    (4, 1, LARGEST - 2, 257, 0, 0),
+    (4, 1, LARGEST, 257, 8, 0),
+    (4, 1, 1 << 63, 257, 12, 0),
 ];
 
-/// Slots decoded: the answer is the expected one, which is worked out by hand.
-fn example(name: &str, n: u64, t: u64, slots: &[u8], expected: Decoded, block: &[u8]) {
-    let k = slots.len() as u64 / n - 1;
+/// Slots decoded in a run: the answer is the expected one, which is worked out by hand.
+fn example(
+    name: &str,
+    (n, t): (u64, u64),
+    run: u16,
+    slots: &[u8],
+    expected: Decoded,
+    block: &[u8],
+) {
+    let k = slots.len() as u64 / n - FRONT as u64;
     let mut out = vec![255; block.len()];
-    let r = decode(n, t, k, slots, &mut out);
+    let r = decode(n, t, k, run, slots, &mut out);
     assert_eq!((r, &out[..]), (expected, block));
     let (number, named) = answer(r);
     println!("{name} {number} {named} {}", hex(&out));
 }
 
-/// The pieces of a block with n 7, t 2 and k 1 in the slots that are present; the others hold the bytes given for them.
-fn example_silent(name: &str, present: impl Fn(u64) -> bool, absent: [u8; 2], expected: Decoded) {
+/// n 4, t 1 and k 1: the run number and the piece of each slot.
+fn example_slots(name: &str, run: u16, slots: [(u16, u8); 4], expected: Decoded, block: [u8; 2]) {
+    let slots = slots.map(|(run, piece)| slot_with(run, &[piece]));
+    example(name, (4, 1), run, &slots.concat(), expected, &block);
+}
+
+/// The pieces of a block with n 7, t 2 and k 1 in the slots that are present, of run 256; the others hold the bytes given for them.
+fn example_silent(name: &str, present: impl Fn(u64) -> bool, absent: [u8; 4], expected: Decoded) {
     let block = [0x0a, 0x14, 0x1e];
     let slot = |i| {
-        let mut slot = [1, 0];
-        encode(7, 2, 1, i, &block, &mut slot[1..]);
+        let mut piece = [0];
+        encode(7, 2, 1, i, &block, &mut piece);
         if present(i) {
-            slot
+            slot_with(256, &piece)
         } else {
-            absent
+            absent.to_vec()
         }
     };
     let slots: Vec<u8> = (1..=7).flat_map(slot).collect();
@@ -330,7 +357,7 @@ fn example_silent(name: &str, present: impl Fn(u64) -> bool, absent: [u8; 2], ex
         Decoded::Block(_) => block,
         _ => [0; 3],
     };
-    example(name, 7, 2, &slots, expected, &left);
+    example(name, (7, 2), 256, &slots, expected, &left);
 }
 
 fn main() {
@@ -344,6 +371,7 @@ fn main() {
                         n,
                         t,
                         k,
+                        run: [0, 1, 256, 65535][(n + manner) % 4],
                         manner,
                         seed,
                     }
@@ -355,35 +383,64 @@ fn main() {
     for (n, t, k, number, size, len) in ENCODES {
         try_encode(n, t, k, number, size, len);
     }
-    for (n, t, k, end, size) in DECODES {
-        try_decode(n, t, k, end, size);
+    for (n, t, k, run, end, size) in DECODES {
+        try_decode(n, t, k, run, end, size);
     }
     for number in 1..=4 {
         let mut piece = [0];
         encode(4, 1, 1, number, &[0x0a, 0x14], &mut piece);
         println!("c {:02x}", piece[0]);
     }
+    examples();
+    late_examples();
+    silent_examples();
+}
+
+/// Examples d and e, d with slot 1 absent too; zeros, which code to zeros, with slot 1 absent; three stripes.
+fn examples() {
     let (first, block) = (Decoded::Block(0b0001), [0x0a, 0x14]);
-    let slots = [1, 0x00, 1, 0x22, 1, 0x36, 1, 0x5a];
-    example("d", 4, 1, &slots, first, &block);
-    let slots = [0, 0x1e, 1, 0x22, 1, 0x36, 1, 0x5a];
-    example("d", 4, 1, &slots, first, &block);
-    let slots = [1, 0x1e, 1, 0x22, 1, 0x37, 1, 0x5b];
-    example("e", 4, 1, &slots, Decoded::Beyond, &[0, 0]);
-    // zeros code to zeros, and slot 1 is absent
-    let slots = [0, 0x00, 1, 0x00, 1, 0x00, 1, 0x00];
-    example("zeros", 4, 1, &slots, first, &[0, 0]);
+    let slots = [0x00, 0x22, 0x36, 0x5a].map(|piece| (1, piece));
+    example_slots("d", 1, slots, first, block);
+    let mut slots = [0x1e, 0x22, 0x36, 0x5a].map(|piece| slot_with(1, &[piece]));
+    slots[0][0] = 0;
+    example("d", (4, 1), 1, &slots.concat(), first, &block);
+    let slots = [0x1e, 0x22, 0x37, 0x5b].map(|piece| (65535, piece));
+    example_slots("e", 65535, slots, Decoded::Beyond, [0, 0]);
+    let mut slots = [0; 4].map(|piece| slot_with(0, &[piece]));
+    slots[0][0] = 0;
+    example("zeros", (4, 1), 0, &slots.concat(), first, &[0, 0]);
     // three stripes 0a14: 4 is false in the first, 1 in the second, 2 in the third
     let slots = [
-        [1, 0x1e, 0x00, 0x1e],
-        [1, 0x22, 0x22, 0x00],
-        [1, 0x36, 0x36, 0x36],
-        [1, 0x00, 0x5a, 0x5a],
+        [0x1e, 0x00, 0x1e],
+        [0x22, 0x22, 0x00],
+        [0x36, 0x36, 0x36],
+        [0x00, 0x5a, 0x5a],
     ];
+    let slots = slots.map(|piece| slot_with(0, &piece)).concat();
     let (apart, block) = (Decoded::Block(0b1011), [0x0a, 0x14].repeat(3));
-    example("apart", 4, 1, &slots.concat(), apart, &block);
+    example("apart", (4, 1), 0, &slots, apart, &block);
+}
+
+/// Slots of other runs (document 02, U11), which differ in one byte of the number or in both.
+fn late_examples() {
+    let (named, block) = (Decoded::Block(0b0101), [0x0a, 0x14]);
+    let slots = [(2, 0x1e), (258, 0x22), (257, 0x36), (258, 0x5a)];
+    example_slots("late", 258, slots, named, block);
+    let slots = [(2, 0x1f), (258, 0x22), (257, 0x37), (258, 0x5a)];
+    example_slots("late, false", 258, slots, named, block);
+    let slots = [(2, 0x1e), (513, 0x22), (257, 0x36), (258, 0x5a)];
+    example_slots("too late", 258, slots, Decoded::Beyond, [0, 0]);
+    // 0b14 has the pieces 1f 23 37 5b
+    let slots = [(1, 0x1e), (2, 0x23), (2, 0x37), (1, 0x5a)];
+    example_slots("run 1", 1, slots, Decoded::Block(0b0110), block);
+    example_slots("run 2", 2, slots, Decoded::Block(0b1001), [0x0b, 0x14]);
+}
+
+/// Three of seven silent, and at most t + 1 present.
+fn silent_examples() {
     let silent = Decoded::Block(0b010_0101);
-    example_silent("silent", |i| ![1, 3, 6].contains(&i), [0, 0xff], silent);
+    let absent = [0, 0, 1, 0xff];
+    example_silent("silent", |i| ![1, 3, 6].contains(&i), absent, silent);
     let answers = [
         Decoded::Beyond,
         Decoded::Beyond,
@@ -392,6 +449,6 @@ fn main() {
     ];
     for (count, expected) in (0..).zip(answers) {
         let name = format!("present {count}");
-        example_silent(&name, |i| i <= count, [0, 0], expected);
+        example_silent(&name, |i| i <= count, [0; 4], expected);
     }
 }

@@ -6,7 +6,7 @@ use reference::simulator::{
     hex, simulate, Controller, Run, System, EXAMPLE, LONGEST, MESSAGE_NAMES, OUTCOME_NAMES,
     SETTINGS_NAMES,
 };
-use reference::wire::round_row;
+use reference::wire::{round_row, FRONT};
 use std::collections::{BTreeMap, BTreeSet};
 use std::{env, fs, path::Path};
 
@@ -204,7 +204,7 @@ fn with_choices(mut system: System, choose: impl Fn(&Choice) -> Option<Vec<u8>>)
                     from,
                     to,
                     length: system.message_length(round),
-                    honest: run.slot(&system, round, from, to)[1..].to_vec(),
+                    honest: run.slot(&system, round, from, to)[FRONT..].to_vec(),
                 };
                 if let Some(message) = choose(&choice) {
                     messages.insert((round, from, to), message);

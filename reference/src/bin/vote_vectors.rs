@@ -1,5 +1,6 @@
 //! The expected output of the program vote_cases, from the reference.
 use reference::vote::{bytes, first, from_words as matrix, held, seen, settled, words, Message};
+use reference::wire::{in_slot, slot_with};
 
 struct Setup {
     n: usize,
@@ -34,19 +35,30 @@ impl Setup {
         }
     }
 
-    /// What a faulty controller sends: 0 silence, 1 all ones to every other receiver, 2 any bytes, 3 any bytes or silence.
+    /// The run number.
+    fn run(&self) -> u16 {
+        [0, 1, 256, 65535][(self.seed + self.seed / 4) as usize % 4]
+    }
+
+    /// What a faulty controller sends: 0 silence, 1 all ones to every other receiver, 2 any bytes, 3 any bytes or silence, 4 any bytes, to every other
+    /// receiver in a slot of another run, which differs in one byte of the number only.
     fn lie(&self, c: usize, i: usize, j: usize, len: usize) -> Message {
         let any = || {
             Some(
                 (0..len)
                     .map(|b| draw(self.seed, c, i, j, b) as u8)
-                    .collect(),
+                    .collect::<Vec<u8>>(),
             )
         };
-        match draw(self.seed, 0, i, 0, 0) % 4 {
+        match draw(self.seed, 0, i, 0, 0) % 5 {
             0 => None,
             1 => Some(vec![if j % 2 == 0 { 0 } else { 255 }; len]),
             2 => any(),
+            4 if j % 2 == 1 => {
+                let other = self.run() ^ if c % 2 == 0 { 1 } else { 256 };
+                in_slot(&slot_with(other, &any()?), self.run()).map(<[u8]>::to_vec)
+            }
+            4 => any(),
             _ if draw(self.seed, c, i, j, 1000) % 2 == 0 => any(),
             _ => None,
         }
@@ -82,7 +94,7 @@ fn scattered(seed: u64, j: usize) -> [u16; 16] {
 fn play(s: &Setup) {
     let n = s.n;
     let correct: Vec<usize> = (0..n).filter(|&i| !s.faulty(i)).collect();
-    println!("vote {n} {} {} {}", s.t, s.faults, s.seed);
+    println!("vote {n} {} {} {} {}", s.t, s.faults, s.seed, s.run());
     // of index i: its matrix, the weak one, the zeros and the ones, as words
     let mut state = vec![[[0u16; 16]; 16]; 4];
     let report = |c: usize, state: &Vec<[[u16; 16]; 16]>| {

@@ -19,7 +19,7 @@ returns : tie.Need-returns
 returns c =
     let S = c .before .before .before .before in
     let a = S .args in
-    start-wrong (given S) (a .own) (length (now (a .block))) (now (a .state)) (λ e. c .if1 .taken (e ∙ sym (c .before .length .ensures)))
+    start-wrong (given S) (a .own) (a .run) (length (now (a .block))) (now (a .state)) (λ e. c .if1 .taken (e ∙ sym (c .before .length .ensures)))
 
 start-requires : tie.Need-start-requires
 start-requires c κs = search needs
@@ -29,7 +29,7 @@ returns-2 c =
     let T = c .before in
     let S = T .before .before .before .before .before in
     let a = S .args in
-    start-refused (given S) (a .own) (length (now (a .block))) (now (a .state)) (T .before .if1 .left ∙ T .before .before .length .ensures)
+    start-refused (given S) (a .own) (a .run) (length (now (a .block))) (now (a .state)) (T .before .if1 .left ∙ T .before .before .length .ensures)
     (T .start .result) (T .start .ensures) (c .if2 .taken)
 
 write-requires : tie.Need-write-requires
@@ -45,7 +45,7 @@ returns-3 c =
     let T = E .before in
     let S = T .before .before .before .before .before in
     let a = S .args in
-    start-written (given S) (a .own) (length (now (a .block))) (now (a .state)) (T .before .if1 .left ∙ T .before .before .length .ensures)
+    start-written (given S) (a .own) (a .run) (length (now (a .block))) (now (a .state)) (T .before .if1 .left ∙ T .before .before .length .ensures)
     (T .start .result) (T .start .ensures) (E .if2 .left) (W .write .last .1 .0) (W .write .ensures)
 
 pub potekawhi-start-spec : {M : Type 1} → statement M

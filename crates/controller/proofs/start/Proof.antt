@@ -21,7 +21,7 @@ returns c =
     let a = S .args in
     let r = c .before .before .start-refusal in
     ap {B = Started} (λ (s : State). record { number = 0; state = s }) (c .initial .ensures)
-    ∙ sym (start-found (a .s) (a .own) (length (now (a .block))) (r .result) (r .ensures) (c .before .if1 .taken))
+    ∙ sym (start-found (a .s) (a .own) (length (now (a .block))) (a .run) (r .result) (r .ensures) (c .before .if1 .taken))
 
 zero-state-requires : tie.Need-zero-state-requires
 zero-state-requires c κs = search needs
@@ -32,7 +32,7 @@ returns-2 c =
     let a = S .args in
     let r = c .before .before .start-refusal in
     ap {B = Started} (λ (s : State). record { number = r .result; state = s }) (c .zero-state .ensures)
-    ∙ sym (start-refused (a .s) (a .own) (length (now (a .block))) (r .result) (r .ensures) (c .before .if1 .left))
+    ∙ sym (start-refused (a .s) (a .own) (length (now (a .block))) (a .run) (r .result) (r .ensures) (c .before .if1 .left))
 
 pub start-spec : {M : Type 1} → statement M
 start-spec =

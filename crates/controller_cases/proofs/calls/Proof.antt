@@ -7,10 +7,10 @@ use Rattle.controller_cases.proofs.calls.Statement.{statement}
 use Rattle.controller_cases.proofs.calls.Tie as tie
 
 abbrev Inv-loop : tie.InvT-loop
-Inv-loop count block₀ state₀ c₀ block state c = (length block ≡ length block₀) × (c ≤ count)
+Inv-loop count heard block₀ mail₀ state₀ c₀ block mail state c = (length block ≡ length block₀) × (length mail ≡ length mail₀) × (c ≤ count)
 
 abbrev μ-loop : tie.MeasureT-loop
-μ-loop count block₀ state₀ c₀ block state c = count - c
+μ-loop count heard block₀ mail₀ state₀ c₀ block mail state c = count - c
 
 loop-holds : tie.Need-loop-holds Inv-loop μ-loop
 loop-holds c = search needs
@@ -30,6 +30,9 @@ loop-again c = search needs
 same-length : tie.Need-same-length Inv-loop μ-loop
 same-length c = search needs
 
+same-length-2 : tie.Need-same-length-2 Inv-loop μ-loop
+same-length-2 c = search needs
+
 returns : tie.Need-returns Inv-loop μ-loop
 returns c = search needs
 
@@ -45,4 +48,5 @@ calls-spec =
     loop-less
     loop-again
     same-length
+    same-length-2
     returns)

@@ -1,28 +1,23 @@
 -- `send_both` meets its contract.
-use Rattle.dispersal.proofs.Steps.{kind-pieces, pair-room}
-use Rattle.wire.specs.declared.slot.Layout.{Layout}
+use Rattle.dispersal.proofs.Steps.{pair-room}
 use native.Mathlib.Omega.{arith}
-use Prim.Native.Nat.{_*_}
-use mathlib.Core.Path.{_≡_, sym, ap, _∙_}
+use mathlib.Core.Path.{sym}
 use borrow.Author.Needs.{needs}
 use Rattle.dispersal.proofs.send_both.Statement.{statement}
 use Rattle.dispersal.proofs.send_both.Tie as tie
 
-two : (c : tie.Start) → c .args .layout .length ≡ 2 * c .args .k
-two c = ap (λ (l : Layout). l .length) (c .pre .1) ∙ kind-pieces (c .pre .0 .coded)
-
 array-borrow-prefix-m : tie.Need-array-borrow-prefix-m
-array-borrow-prefix-m c = let S = c .before .before in omega (arith, two S, S .pre .0 .coded .k-most)
+array-borrow-prefix-m c = let S = c .before .before in omega (arith, S .pre .1, S .pre .0 .coded .k-most)
 
 slice-aggregate-fill-pieces : tie.Need-slice-aggregate-fill-pieces
 slice-aggregate-fill-pieces c =
     let S = c .before .before .before in
-    sym (pair-room (S .args .k) (S .args .layout .length) (S .pre .0 .coded .k-most) (two S))
+    sym (pair-room (S .args .k) (S .args .layout .length) (S .pre .0 .coded .k-most) (S .pre .1))
 
 fill-pieces-requires : tie.Need-fill-pieces-requires
 fill-pieces-requires c κs =
     let S = c .before .before .before .before in
-    (S .pre .0, two S, pair-room (S .args .k) (S .args .layout .length) (S .pre .0 .coded .k-most) (two S), S .pre .2)
+    (S .pre .0, S .pre .1, pair-room (S .args .k) (S .args .layout .length) (S .pre .0 .coded .k-most) (S .pre .1), S .pre .2)
 
 same-length : tie.Need-same-length
 same-length c = search needs

@@ -2,6 +2,7 @@
 use Rattle.reed_solomon.specs.Encode.{isReady}
 use Rattle.reed_solomon.proofs.Laws.{ready-yes}
 use Rattle.dispersal.specs.Dispersal.{twoPieces, sentPieces}
+use Rattle.dispersal.proofs.Steps.{kind-pieces}
 use Rattle.wire.specs.declared.slot.Layout.{Layout}
 use Rattle.wire.specs.declared.Round.the-variants.{Pieces}
 use Rattle.wire.specs.Length.{kindLayout}
@@ -33,7 +34,7 @@ send-both-requires c κs =
     let K = H .before .before in
     let a = K .before .before .before .args in
     let r = ready-yes (a .n) (a .t) (a .k) (a .own) (a .block .now) (H .holds-exactly .result) (sym (R .is-ready .ensures) ∙ c .before .if1 .taken) in
-    (r .0, K .kind-layout .ensures, eqb-true (length (a .outbox .now)) (a .n * width (K .kind-layout .result)) (sym (H .holds-exactly .ensures) ∙ r .1))
+    (r .0, ap (λ (l : Layout). l .length) (K .kind-layout .ensures) ∙ kind-pieces (r .0 .coded), eqb-true (length (a .outbox .now)) (a .n * width (K .kind-layout .result)) (sym (H .holds-exactly .ensures) ∙ r .1))
 
 -- the test that is made is the one that the definition makes
 ready : (c : tie.After-is-ready)
@@ -43,7 +44,7 @@ ready : (c : tie.After-is-ready)
     (c .before .before .before .before .before .before .args .block .now)
     (eqb (length (c .before .before .before .before .before .before .args .outbox .now))
     (c .before .before .before .before .before .before .args .n * width
-    (kindLayout Pieces (c .before .before .before .before .before .before .args .n) (c .before .before .before .before .before .before .args .t)
+    (kindLayout (c .before .before .before .before .before .before .args .run) Pieces (c .before .before .before .before .before .before .args .n) (c .before .before .before .before .before .before .args .t)
     (c .before .before .before .before .before .before .args .k))))
 ready c =
     let a = c .before .before .before .before .before .before .args in
@@ -61,7 +62,7 @@ returns c =
     let R = c .before .before .before .before .before in
     let K = R .before .before .before in
     let a = K .before .before .before .args in
-    let layout = kindLayout Pieces (a .n) (a .t) (a .k) in
+    let layout = kindLayout (a .run) Pieces (a .n) (a .t) (a .k) in
     c .before .before .send-both .ensures
     ∙ ap (λ (l : Layout). slots l (twoPieces (a .k) (a .t) (a .own) (a .block .now)) (a .n)) (K .kind-layout .ensures)
     ∙ sym
@@ -77,7 +78,7 @@ unfolding sentPieces
 returns-2 c =
     let R = c .before in
     let a = R .before .before .before .before .before .before .args in
-    let layout = kindLayout Pieces (a .n) (a .t) (a .k) in
+    let layout = kindLayout (a .run) Pieces (a .n) (a .t) (a .k) in
     sym
     (cond-no (isReady (a .n) (a .t) (a .k) (a .own) (a .block .now) (eqb (length (a .outbox .now)) (a .n * width layout)))
     (slots layout (twoPieces (a .k) (a .t) (a .own) (a .block .now)) (a .n)) (a .outbox .now)

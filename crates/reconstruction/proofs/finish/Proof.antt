@@ -21,7 +21,7 @@ returns c =
     let I = c .before .before .before .before in
     let a = I .before .before .before .before .args in
     ap (finish (ending None 0)) (c .before .before .silence .ensures)
-    ∙ sym (finished-none (a .n) (a .t) (a .k) (a .core) (a .inbox .now) (a .block .now) (sym (I .before .restrict .ensures) ∙ I .if1 .taken))
+    ∙ sym (finished-none (a .n) (a .t) (a .layout) (a .core) (a .inbox .now) (a .block .now) (sym (I .before .restrict .ensures) ∙ I .if1 .taken))
 
 decode-requires : tie.Need-decode-requires
 decode-requires c κs = search needs
@@ -39,7 +39,7 @@ returns-2 c =
     let a = I .before .before .before .before .args in
     let after = D .decode .last .1 .1 .1 .1 .0 in
     ap (λ w. finish w after) (c .decoded-ending .ensures)
-    ∙ finished-answers (a .n) (a .t) (a .k) (a .core) (a .inbox .now) (a .block .now) (λ z. I .if1 .left (I .before .restrict .ensures ∙ z))
+    ∙ finished-answers (a .n) (a .t) (a .layout) (a .core) (a .inbox .now) (a .block .now) (λ z. I .if1 .left (I .before .restrict .ensures ∙ z))
     (D .decode .result) after
     (D .decode .ensures)
 

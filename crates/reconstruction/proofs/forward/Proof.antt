@@ -31,7 +31,7 @@ returns c =
     let I = c .before .before .before .before in
     let a = I .before .before .before .before .args in
     c .before .before .silence .ensures
-    ∙ sym (forwarded-other (a .n) (a .t) (a .k) (a .own) (a .core) (a .block .now) (a .outbox .now)
+    ∙ sym (forwarded-other (a .run) (a .n) (a .t) (a .k) (a .own) (a .core) (a .block .now) (a .outbox .now)
     (sym (I .before .in-core .ensures) ∙ not-true _ (I .if1 .taken)))
 
 kind-layout-requires : tie.Need-kind-layout-requires
@@ -43,7 +43,7 @@ holds-exactly-requires c κs = search needs
 -- the test of the outbox is that of the round's slots
 fits : (c : tie.After-holds-exactly)
     → let a = c .before .before .before .before .before .before .before .args in
-    c .holds-exactly .result ≡ eqb (length (a .outbox .now)) (a .n * width (kindLayout Forward (a .n) (a .t) (a .k)))
+    c .holds-exactly .result ≡ eqb (length (a .outbox .now)) (a .n * width (kindLayout (a .run) Forward (a .n) (a .t) (a .k)))
 fits c =
     let K = c .before .before in
     let a = K .before .before .before .before .before .args in
@@ -77,7 +77,7 @@ returns-2 c =
     let a = I .before .before .before .before .args in
     c .before .before .send-coding .ensures
     ∙ ap (λ (l : Layout). slots l (pieces (a .k) (a .t) (a .block .now)) (a .n)) (K .kind-layout .ensures)
-    ∙ forwarded-sent (a .n) (a .t) (a .k) (a .own) (a .core) (a .block .now) (a .outbox .now) (H .holds-exactly .result) (fits H)
+    ∙ forwarded-sent (a .n) (a .t) (a .k) (a .own) (a .core) (a .block .now) (a .outbox .now) (a .run) (H .holds-exactly .result) (fits H)
     (sym (I .before .in-core .ensures) ∙ not-false _ (I .if1 .left)) (sym (T .before .is-ready .ensures) ∙ T .if2 .taken)
 
 same-length-3 : tie.Need-same-length-3
@@ -88,7 +88,7 @@ returns-3 c =
     let H = c .before .before in
     let I = H .before .before .before in
     let a = I .before .before .before .before .args in
-    forwarded-kept (a .n) (a .t) (a .k) (a .own) (a .core) (a .block .now) (a .outbox .now) (H .holds-exactly .result) (fits H)
+    forwarded-kept (a .n) (a .t) (a .k) (a .own) (a .core) (a .block .now) (a .outbox .now) (a .run) (H .holds-exactly .result) (fits H)
     (sym (I .before .in-core .ensures) ∙ not-false _ (I .if1 .left)) (sym (c .before .is-ready .ensures) ∙ c .if2 .left)
 
 pub forward-spec : {M : Type 1} → statement M

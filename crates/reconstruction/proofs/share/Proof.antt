@@ -26,7 +26,7 @@ holds-exactly-requires c κs = search needs
 -- the test of the outbox is that of the round's slots
 fits : (c : tie.After-holds-exactly)
     → let a = c .before .before .before .before .before .before .args in
-    c .holds-exactly .result ≡ eqb (length (a .outbox .now)) (a .n * width (kindLayout Rebuild (a .n) (a .t) (a .k)))
+    c .holds-exactly .result ≡ eqb (length (a .outbox .now)) (a .n * width (kindLayout (a .layout .run) Rebuild (a .n) (a .t) (a .k)))
 fits c =
     let K = c .before .before in
     let a = K .before .before .before .before .args in
@@ -42,7 +42,7 @@ returns : tie.Need-returns
 returns c =
     let H = c .before .before in
     let a = H .before .before .before .before .before .before .args in
-    shared-kept (a .n) (a .t) (a .k) (a .own) (a .core) (a .block .now) (a .outbox .now) (H .holds-exactly .result) (fits H) (a .inbox .now) (a .layout)
+    shared-kept (a .n) (a .t) (a .k) (a .own) (a .core) (a .block .now) (a .outbox .now) (a .inbox .now) (a .layout) (H .holds-exactly .result) (fits H)
     (sym (c .before .is-ready .ensures) ∙ not-true _ (c .if1 .taken))
 
 in-core-requires : tie.Need-in-core-requires
@@ -72,7 +72,7 @@ returns-2 c =
     let a = H .before .before .before .before .before .before .args in
     c .before .before .share-own .ensures
     ∙ ap (λ (l : Layout). sentPiece l (a .n) (pieceOf (a .k) (a .t) (a .block .now) (a .own)) (a .outbox .now)) (H .before .before .kind-layout .ensures)
-    ∙ shared-own (a .n) (a .t) (a .k) (a .own) (a .core) (a .block .now) (a .outbox .now) (H .holds-exactly .result) (fits H) (a .inbox .now) (a .layout)
+    ∙ shared-own (a .n) (a .t) (a .k) (a .own) (a .core) (a .block .now) (a .outbox .now) (a .inbox .now) (a .layout) (H .holds-exactly .result) (fits H)
     (sym (I .before .is-ready .ensures) ∙ not-false _ (I .if1 .left)) (sym (T .before .in-core .ensures) ∙ T .if2 .taken)
 
 share-chosen-requires : tie.Need-share-chosen-requires
@@ -96,7 +96,7 @@ returns-3 c =
     c .before .before .share-chosen .ensures
     ∙ ap (λ (l : Layout). sentPiece l (a .n) (chosenPiece (a .n) (a .t) (a .core) (a .inbox .now) (a .layout)) (a .outbox .now))
     (H .before .before .kind-layout .ensures)
-    ∙ shared-chosen (a .n) (a .t) (a .k) (a .own) (a .core) (a .block .now) (a .outbox .now) (H .holds-exactly .result) (fits H) (a .inbox .now) (a .layout)
+    ∙ shared-chosen (a .n) (a .t) (a .k) (a .own) (a .core) (a .block .now) (a .outbox .now) (a .inbox .now) (a .layout) (H .holds-exactly .result) (fits H)
     (sym (I .before .is-ready .ensures) ∙ not-false _ (I .if1 .left)) (sym (T .before .in-core .ensures) ∙ T .if2 .left)
 
 pub share-spec : {M : Type 1} → statement M

@@ -18,7 +18,7 @@ returns : tie.Need-returns
 returns c =
     let F = c .before .before in
     let a = F .before .before .before .before .args in (
-      decode-number (a .n) (a .t) (a .k) (a .slots .now) (a .block .now) _ _ (F .decode-fits .ensures)
+      decode-number (a .n) (a .t) (a .layout) (a .slots .now) (a .block .now) _ _ (F .decode-fits .ensures)
           (c .before .decoding-refusal .ensures),
       c .if1 .taken,
       refl,
@@ -28,7 +28,7 @@ rebuild-requires : tie.Need-rebuild-requires
 rebuild-requires c κs =
     let F = c .before .before .before in
     let a = F .before .before .before .before .args in
-    sym (decode-number (a .n) (a .t) (a .k) (a .slots .now) (a .block .now) _ _ (F .decode-fits .ensures) (c .before .before .decoding-refusal .ensures))
+    sym (decode-number (a .n) (a .t) (a .layout) (a .slots .now) (a .block .now) _ _ (F .decode-fits .ensures) (c .before .before .decoding-refusal .ensures))
     ∙ c .before .if1 .left
 
 same-length-2 : tie.Need-same-length-2

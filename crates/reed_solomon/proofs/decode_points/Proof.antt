@@ -11,20 +11,20 @@ use Rattle.reed_solomon.proofs.decode_points.Tie as tie
 array-borrow-prefix-cols : tie.Need-array-borrow-prefix-cols
 array-borrow-prefix-cols c =
     let S = c .before .before .before .before in
-    omega (arith, S .pre .1, block-most (S .args .k) (S .args .t) (S .pre .0 .coded .k-most) (S .pre .0 .pointed .few-faulty))
+    omega (arith, S .pre .1, block-most (S .args .layout .length) (S .args .t) (S .pre .0 .coded .k-most) (S .pre .0 .pointed .few-faulty))
 
 slice-aggregate-decode-present : tie.Need-slice-aggregate-decode-present
 slice-aggregate-decode-present c =
     let S = c .before .before .before .before .before in
     sym
     (length-front 768 (length (S .args .block .now))
-    (omega (arith, S .pre .1, block-most (S .args .k) (S .args .t) (S .pre .0 .coded .k-most) (S .pre .0 .pointed .few-faulty))))
+    (omega (arith, S .pre .1, block-most (S .args .layout .length) (S .args .t) (S .pre .0 .coded .k-most) (S .pre .0 .pointed .few-faulty))))
 
 array-borrow-prefix-tmp : tie.Need-array-borrow-prefix-tmp
 array-borrow-prefix-tmp c = search needs
 
 slice-aggregate-decode-present-2 : tie.Need-slice-aggregate-decode-present-2
-slice-aggregate-decode-present-2 c = sym (length-front 128 (c .before .before .before .before .before .before .args .k) (c .before .before .before .before .before .before .pre .0 .coded .k-most))
+slice-aggregate-decode-present-2 c = sym (length-front 128 (c .before .before .before .before .before .before .args .layout .length) (c .before .before .before .before .before .before .pre .0 .coded .k-most))
 
 decode-present-requires : tie.Need-decode-present-requires
 decode-present-requires c κs =
@@ -36,9 +36,9 @@ decode-present-requires c κs =
         block-size = S .pre .1;
         cols-size =
             length-front 768 (length (a .block .now))
-            (omega (arith, S .pre .1, block-most (a .k) (a .t) (S .pre .0 .coded .k-most) (S .pre .0 .pointed .few-faulty)))
+            (omega (arith, S .pre .1, block-most (a .layout .length) (a .t) (S .pre .0 .coded .k-most) (S .pre .0 .pointed .few-faulty)))
             ∙ S .pre .1;
-        tmp-size = length-front 128 (a .k) (S .pre .0 .coded .k-most);
+        tmp-size = length-front 128 (a .layout .length) (S .pre .0 .coded .k-most);
       },
     )
 

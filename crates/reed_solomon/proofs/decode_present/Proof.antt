@@ -19,17 +19,17 @@ array-borrow-prefix-m : tie.Need-array-borrow-prefix-m
 array-borrow-prefix-m c = search needs
 
 slice-aggregate-settle : tie.Need-slice-aggregate-settle
-slice-aggregate-settle c = sym (length-front 6 (c .before .before .before .before .before .before .args .t + 1) (omega (arith, c .before .before .before .before .before .before .pre .0 .pointed .few-faulty)))
+slice-aggregate-settle c = sym (length-front 6 (c .before .before .before .before .before .before .before .args .t + 1) (omega (arith, c .before .before .before .before .before .before .before .pre .0 .pointed .few-faulty)))
 
 settle-requires : tie.Need-settle-requires
-settle-requires c κs = (c .before .before .before .before .before .before .pre .0 .pointed, length-front 6 (c .before .before .before .before .before .before .args .t + 1) (omega (arith, c .before .before .before .before .before .before .pre .0 .pointed .few-faulty)))
+settle-requires c κs = (c .before .before .before .before .before .before .before .pre .0 .pointed, length-front 6 (c .before .before .before .before .before .before .before .args .t + 1) (omega (arith, c .before .before .before .before .before .before .before .pre .0 .pointed .few-faulty)))
 
 returns : tie.Need-returns
 returns c =
-    let S = c .before .before .before .before .before .before .before .before .before .before in
+    let S = c .before .before .before .before .before .before .before .before .before .before .before in
     let a = S .args in
     let d = c .before .before .before .settle in
-    none-at (a .n) (a .t) (a .k) (a .slots .now) (a .xs .now) (S .pre .0) (a .k - 1) (omega (arith, S .pre .0 .coded .k-least))
+    none-at (a .n) (a .t) (a .layout) (a .slots .now) (a .xs .now) (S .pre .0) (a .layout .length - 1) (omega (arith, S .pre .0 .coded .k-least))
     (d .ensures .0 .none-right (not-true (d .result .found) (c .if1 .taken)))
 
 guess-rest-requires : tie.Need-guess-rest-requires
@@ -37,10 +37,10 @@ guess-rest-requires c κs = search needs
 
 mend-all-requires : tie.Need-mend-all-requires
 mend-all-requires c κs =
-    let S = c .before .before .before .before .before .before .before .before .before .before .before .before .before .before .before .before .before .before .before .before .before .before .before in
+    let S = c .before .before .before .before .before .before .before .before .before .before .before .before .before .before .before .before .before .before .before .before .before .before .before .before in
     let a = S .args in
     let g = c .before .before .before .before .before .before .before .before .before .guess-rest in
-    (S .pre .0, room-kept (a .t) (a .k) (a .block .now) (a .cols .now) (a .tmp .now) _ _ _ (S .pre .1) (g .kept .1 .1 .1 .1 .1 .1 .1 .0) (g .kept .1 .1 .1 .1 .1 .1 .1 .1 .0) (g .kept .1 .1 .1 .1 .1 .1 .1 .1 .1 .0))
+    (S .pre .0, room-kept (a .t) (a .layout .length) (a .block .now) (a .cols .now) (a .tmp .now) _ _ _ (S .pre .1) (g .kept .1 .1 .1 .1 .1 .1 .1 .0) (g .kept .1 .1 .1 .1 .1 .1 .1 .1 .0) (g .kept .1 .1 .1 .1 .1 .1 .1 .1 .1 .0))
 
 same-length : tie.Need-same-length
 same-length c = search needs

@@ -19,14 +19,14 @@ returns : tie.Need-returns
 returns c =
     let S = c .before .before .before .before .before .before .before .before in
     let a = S .args in
-    few-beyond (a .n) (a .t) (a .k) (a .slots .now) (S .pre .0 .k-least)
-    (omega (arith, c .before .before .before .list-points .ensures .size, length-points (a .n) (a .k) (a .slots .now), c .if1 .taken))
+    few-beyond (a .n) (a .t) (a .layout) (a .slots .now) (S .pre .0 .k-least)
+    (omega (arith, c .before .before .before .list-points .ensures .size, length-points (a .n) (a .layout) (a .slots .now), c .if1 .taken))
 
 slice-reshare-prefix-decode-points : tie.Need-slice-reshare-prefix-decode-points
 slice-reshare-prefix-decode-points c =
     let S = c .before .before .before .before .before .before .before .before in
     let l = c .before .before .before .list-points in
-    omega (arith, l .ensures .size, points-le (S .args .n) (S .args .k) (S .args .slots .now), S .pre .1, l .kept .1 .1 .1 .0)
+    omega (arith, l .ensures .size, points-le (S .args .n) (S .args .layout) (S .args .slots .now), S .pre .1, l .kept .1 .1 .1 .0)
 
 slice-aggregate-decode-points : tie.Need-slice-aggregate-decode-points
 slice-aggregate-decode-points c =
@@ -34,7 +34,7 @@ slice-aggregate-decode-points c =
     let l = c .before .before .before .before .list-points in
     sym
     (length-take-le (l .result) (l .last .1 .1 .1 .0)
-    (omega (arith, l .ensures .size, points-le (S .args .n) (S .args .k) (S .args .slots .now), S .pre .1, l .kept .1 .1 .1 .0)))
+    (omega (arith, l .ensures .size, points-le (S .args .n) (S .args .layout) (S .args .slots .now), S .pre .1, l .kept .1 .1 .1 .0)))
 
 decode-points-requires : tie.Need-decode-points-requires
 decode-points-requires c κs =
@@ -46,7 +46,7 @@ decode-points-requires c κs =
         are = l .ensures .are;
         pointed =
             subst (Pointed (a .t)) (sym (l .ensures .are))
-            (pointed-points (a .n) (a .k) (a .slots .now) (a .t) (S .pre .0 .quorum .n-most) (omega (arith, S .pre .0 .quorum .n-most, S .pre .0 .quorum .t-most))
+            (pointed-points (a .n) (a .layout) (a .slots .now) (a .t) (S .pre .0 .quorum .n-most) (omega (arith, S .pre .0 .quorum .n-most, S .pre .0 .quorum .t-most))
             (omega (arith, l .ensures .size, c .before .before .if1 .left)));
       },
       S .pre .2,

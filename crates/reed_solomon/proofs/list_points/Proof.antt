@@ -13,16 +13,16 @@ use Rattle.reed_solomon.proofs.list_points.Statement.{statement}
 use Rattle.reed_solomon.proofs.list_points.Tie as tie
 
 abbrev Inv-loop : tie.InvT-loop
-Inv-loop n k slots xs₀ count₀ j₀ xs count j =
-    (j ≤ n) × (count ≤ j) × (length xs ≡ length xs₀) × (count ≡ length (points j k slots)) × (xs ≡ points j k slots ++ drop count xs₀)
+Inv-loop n layout slots xs₀ count₀ j₀ xs count j =
+    (j ≤ n) × (count ≤ j) × (length xs ≡ length xs₀) × (count ≡ length (points j layout slots)) × (xs ≡ points j layout slots ++ drop count xs₀)
 
 abbrev μ-loop : tie.MeasureT-loop
-μ-loop n k slots xs₀ count₀ j₀ xs count j = n - j
+μ-loop n layout slots xs₀ count₀ j₀ xs count j = n - j
 
 loop-holds : tie.Need-loop-holds Inv-loop μ-loop
 loop-holds c =
     let a = c .before .before .args in
-    let none = points-none (a .k) (a .slots .now) in
+    let none = points-none (a .layout) (a .slots .now) in
     (omega arith, omega arith, refl, sym (ap length none), sym (ap (λ (l : List ℕ). l ++ a .xs .now) none))
 
 add-j : tie.Need-add-j Inv-loop μ-loop
@@ -47,8 +47,8 @@ loop-again : tie.Need-loop-again Inv-loop μ-loop
 loop-again c =
     let a = c .before .before .before .before .before .before .args in
     let l = c .before .before .before .loop in
-    let more = points-yes (l .j) (a .k) (a .slots .now) (sym (c .before .has-piece .ensures) ∙ c .if1 .taken) in
-    let p = points (l .j) (a .k) (a .slots .now) in (
+    let more = points-yes (l .j) (a .layout) (a .slots .now) (sym (c .before .has-piece .ensures) ∙ c .if1 .taken) in
+    let p = points (l .j) (a .layout) (a .slots .now) in (
       omega arith,
       omega arith,
       length-set (l .xs) (l .count) (l .j + 1) ∙ l .inv .2,
@@ -65,7 +65,7 @@ loop-again-2 : tie.Need-loop-again-2 Inv-loop μ-loop
 loop-again-2 c =
     let a = c .before .before .before .before .before .before .args in
     let l = c .before .before .before .loop in
-    let same = points-no (l .j) (a .k) (a .slots .now) (sym (c .before .has-piece .ensures) ∙ c .if1 .left) in (
+    let same = points-no (l .j) (a .layout) (a .slots .now) (sym (c .before .has-piece .ensures) ∙ c .if1 .left) in (
       omega arith,
       omega arith,
       l .inv .2,
@@ -81,12 +81,12 @@ returns c =
     let a = c .before .before .before .before .args in
     let l = c .before .loop in
     let e : l .j ≡ a .n = omega arith in
-    let p = points (l .j) (a .k) (a .slots .now) in
+    let p = points (l .j) (a .layout) (a .slots .now) in
     record {
-      size = l .inv .3 ∙ ap (λ n. length (points n (a .k) (a .slots .now))) e;
+      size = l .inv .3 ∙ ap (λ n. length (points n (a .layout) (a .slots .now))) e;
       are =
           ap (take (l .count)) (l .inv .4) ∙ take-at p (drop (l .count) (a .xs .now)) (l .count) (sym (l .inv .3))
-          ∙ ap (λ n. points n (a .k) (a .slots .now)) e;
+          ∙ ap (λ n. points n (a .layout) (a .slots .now)) e;
     }
 
 pub list-points-spec : {M : Type 1} → statement M

@@ -17,13 +17,13 @@ add-a : tie.Need-add-a
 add-a c = search needs
 
 mul-a : tie.Need-mul-a
-mul-a c = let S = c .before .before .before .before .before in omega (arith, slot-within (S .args .k) (S .args .t + 1) (S .args .s) (S .pre .1), S .pre .2 .block-size)
+mul-a c = let S = c .before .before .before .before .before in omega (arith, slot-within (S .args .layout .length) (S .args .t + 1) (S .args .s) (S .pre .1), S .pre .2 .block-size)
 
 add-e : tie.Need-add-e
 add-e c = search needs
 
 add-e-2 : tie.Need-add-e-2
-add-e-2 c = let S = c .before .before .before .before .before in omega (arith, slot-within (S .args .k) (S .args .t + 1) (S .args .s) (S .pre .1), S .pre .2 .block-size)
+add-e-2 c = let S = c .before .before .before .before .before in omega (arith, slot-within (S .args .layout .length) (S .args .t + 1) (S .args .s) (S .pre .1), S .pre .2 .block-size)
 
 sub-settle : tie.Need-sub-settle
 sub-settle c = search needs
@@ -32,12 +32,12 @@ part-settle-start : tie.Need-part-settle-start
 part-settle-start c = search needs
 
 part-settle-end : tie.Need-part-settle-end
-part-settle-end c = let S = c .before .before .before .before .before in omega (arith, slot-within (S .args .k) (S .args .t + 1) (S .args .s) (S .pre .1), S .pre .2 .block-size)
+part-settle-end c = let S = c .before .before .before .before .before in omega (arith, slot-within (S .args .layout .length) (S .args .t + 1) (S .args .s) (S .pre .1), S .pre .2 .block-size)
 
 settle-requires : tie.Need-settle-requires
 settle-requires c κs =
     let S = c .before .before .before .before .before .before in
-    (S .pre .0, length-lent (S .args .s * (S .args .t + 1)) (S .args .t + 1) (S .args .block .now) (omega (arith, slot-within (S .args .k) (S .args .t + 1) (S .args .s) (S .pre .1), S .pre .2 .block-size)))
+    (S .pre .0, length-lent (S .args .s * (S .args .t + 1)) (S .args .t + 1) (S .args .block .now) (omega (arith, slot-within (S .args .layout .length) (S .args .t + 1) (S .args .s) (S .pre .1), S .pre .2 .block-size)))
 
 add-guess-rest : tie.Need-add-guess-rest
 add-guess-rest c = search needs
@@ -63,15 +63,15 @@ returns c =
     let d = c .before .before .before .before .before .before .before .before .before .before .before .before .before .settle in
     let m = d .last .1 .1 .1 .1 .1 .1 .0 in
     let b = a .block .now in
-    let wide : z + w ≤ length b = omega (arith, slot-within (S .args .k) (S .args .t + 1) (S .args .s) (S .pre .1), S .pre .2 .block-size) in
+    let wide : z + w ≤ length b = omega (arith, slot-within (S .args .layout .length) (S .args .t + 1) (S .args .s) (S .pre .1), S .pre .2 .block-size) in
     let long : length m ≡ w = d .kept .1 .1 .1 .1 .1 .1 .0 ∙ length-lent z w b wide in
     let after = c .before .before .before .before .before .before .guess-rest .last .1 .1 .1 .1 .1 .1 .1 .0 in
     let front = c .before .before .before .before .before .before .guess-rest .ensures in
     let placed = putMid z (z + w - z) b m in
     let is : stripe (a .t) after (a .s) ≡ m =
-    stripe-front (a .t) after placed (a .s + 1) front (a .s) (omega arith) ∙ stripe-put (a .k) (a .t) b m (a .s) (S .pre .2 .block-size) (S .pre .1) long in
+    stripe-front (a .t) after placed (a .s + 1) front (a .s) (omega arith) ∙ stripe-put (a .layout .length) (a .t) b m (a .s) (S .pre .2 .block-size) (S .pre .1) long in
     record {
-      right = λ e. ap (isRight (a .t) (a .xs .now) (column (a .k) (a .slots .now) (a .s) (a .xs .now))) is ∙ d .ensures .0 .right e;
+      right = λ e. ap (isRight (a .t) (a .xs .now) (column (a .layout) (a .slots .now) (a .s) (a .xs .now))) is ∙ d .ensures .0 .right e;
       kept = λ _. front-less w after placed (a .s) (a .s + 1) front (omega arith) ∙ front-put z b _ (omega (arith, wide));
       none-right = λ e. absurd (true≢false (sym (c .before .before .before .before .before .before .before .before .before .before .if1 .taken) ∙ e));
     }

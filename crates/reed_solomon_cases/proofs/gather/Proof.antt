@@ -8,7 +8,7 @@ use Rattle.reed_solomon_cases.proofs.gather.Tie as tie
 
 abbrev Inv-loop : tie.InvT-loop
 Inv-loop slots₀ m₀ block other c n width d₀ a₀ i₀ slots m d a i =
-    (length slots ≡ length slots₀) × (length m ≡ length m₀) × (a ≤ 129 * i) × (width ≤ 129) × (i ≤ n) × (n ≤ 16)
+    (length slots ≡ length slots₀) × (length m ≡ length m₀) × (a ≤ 131 * i) × (width ≤ 131) × (i ≤ n) × (n ≤ 16)
 
 abbrev μ-loop : tie.MeasureT-loop
 μ-loop slots₀ m₀ block other c n width d₀ a₀ i₀ slots m d a i = n - i

@@ -5,10 +5,10 @@ use Rattle.reed_solomon_cases.proofs.try_decodings.Statement.{statement
 use Rattle.reed_solomon_cases.proofs.try_decodings.Tie as tie
 
 abbrev Inv-loop : tie.InvT-loop
-Inv-loop i₀ i = i ≤ 35
+Inv-loop i₀ i = i ≤ 41
 
 abbrev μ-loop : tie.MeasureT-loop
-μ-loop i₀ i = 35 - i
+μ-loop i₀ i = 41 - i
 
 loop-holds : tie.Need-loop-holds Inv-loop μ-loop
 loop-holds c = search needs

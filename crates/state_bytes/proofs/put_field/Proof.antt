@@ -1,5 +1,5 @@
 -- `state_bytes::put_field` meets its contract, field by field.
-use Rattle.state_bytes.proofs.Fields.{number-field, outcome-field, matrix-field, weak-field, core-field, named-field, number-put, rows-put}
+use Rattle.state_bytes.proofs.Fields.{number-field, outcome-field, matrix-field, weak-field, core-field, named-field, run-field, number-put, rows-put}
 use Rattle.state_bytes.specs.State.{littleEndian, widthOf}
 use lib.ListN.{length}
 use denote.Ref.{now}
@@ -104,11 +104,28 @@ same-length-6 c = search needs
 
 returns-6 : tie.Need-returns-6
 returns-6 c =
-    let S = c .before .before .before .before .before .before .before .before .before .before .before in
+    let S = c .before .before .before .before .before .before .before .before .before .before .before .before in
     let a = S .args in
-    let last : a .i ≡ 10 = omega arith in
-    number-put (a .s) (a .i) (c .before .before .put4 .last .0) (a .s .named) (length (now (a .bytes))) (named-field (a .s) (a .i) last) (S .pre .1)
+    number-put (a .s) (a .i) (c .before .before .put4 .last .0) (a .s .named) (length (now (a .bytes)))
+    (named-field (a .s) (a .i) (c .before .before .before .before .before .if6 .taken)) (S .pre .1)
     (c .before .before .put4 .ensures)
+
+cast-put-4 : tie.Need-cast-put-4
+cast-put-4 c = search needs
+
+put-requires-5 : tie.Need-put-requires-5
+put-requires-5 c κs = search needs
+
+same-length-7 : tie.Need-same-length-7
+same-length-7 c = search needs
+
+returns-7 : tie.Need-returns-7
+returns-7 c =
+    let S = c .before .before .before .before .before .before .before .before .before .before .before .before in
+    let a = S .args in
+    let last : a .i ≡ 11 = omega arith in
+    number-put (a .s) (a .i) (c .before .before .put5 .last .0) (a .s .run) (length (now (a .bytes))) (run-field (a .s) (a .i) last) (S .pre .1)
+    (c .before .before .put5 .ensures)
 
 pub put-field-spec : {M : Type 1} → statement M
 put-field-spec =
@@ -136,4 +153,8 @@ put-field-spec =
     cast-put-3
     put-requires-4
     same-length-6
-    returns-6)
+    returns-6
+    cast-put-4
+    put-requires-5
+    same-length-7
+    returns-7)

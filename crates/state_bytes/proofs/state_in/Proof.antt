@@ -58,6 +58,9 @@ field-requires-4 c κs = search needs
 read-row-requires-2 : tie.Need-read-row-requires-2
 read-row-requires-2 c κs = search needs
 
+run-number-requires : tie.Need-run-number-requires
+run-number-requires c κs = search needs
+
 initial-requires : tie.Need-initial-requires
 initial-requires c κs = search needs
 
@@ -76,7 +79,8 @@ with-named-requires c κs = search needs
 returns : tie.Need-returns
 returns c =
     let I = c .before .before .before .before in
-    let R = I .before in
+    let U = I .before in
+    let R = U .before in
     let C = R .before .before in
     let F = C .before in
     let W = F .before in
@@ -93,6 +97,7 @@ returns c =
     (M .get-rows .ensures ∙ ap rowsIn (M .before .field .ensures)) (W .get-rows2 .ensures ∙ ap rowsIn (W .before .field2 .ensures))
     (C .read-row .ensures ∙ ap (λ (l : List ℕ). rowOf 16 l 0) (F .field3 .ensures))
     (R .read-row2 .ensures ∙ ap (λ (l : List ℕ). rowOf 16 l 0) (R .before .field4 .ensures))
+    (U .run-number .ensures)
 
 pub state-in-spec : {M : Type 1} → statement M
 state-in-spec =
@@ -114,6 +119,7 @@ state-in-spec =
     read-row-requires
     field-requires-4
     read-row-requires-2
+    run-number-requires
     initial-requires
     with-call-requires
     with-votes-requires

@@ -1,7 +1,8 @@
 //! A run of the reference with all that it leaves behind: what each correct controller holds after each call, and every message.
 use crate::svg::RED;
 use reference::controller::State;
-use reference::simulator::{hex, Run, System};
+use reference::simulator::{hex, Run, System, RUN};
+use reference::wire::in_slot;
 use std::collections::{BTreeMap, BTreeSet};
 
 /// What the run leaves: states and blocks by call and controller, messages by round, from and to.
@@ -27,7 +28,7 @@ impl Played {
                     continue;
                 }
                 for to in 1..=system.n {
-                    if let [1, message @ ..] = run.slot(&system, c, i, to) {
+                    if let Some(message) = in_slot(run.slot(&system, c, i, to), RUN) {
                         sent.insert((c, i, to), message.to_vec());
                     }
                 }

@@ -40,7 +40,7 @@ returns c =
     let m = E .settled .ensures in
     let e = ap (λ (s : Sets). s .e) (star-of _ _ _ _ (F .find .ensures)) ∙ ap (λ (r : List ℕ). starOf r (a .s .settings .n) (a .s .settings .t) .e) m in
     let o = P .forward .ensures ∙ ap
-    (λ (x : ℕ). forwarded (a .s .settings .n) (a .s .settings .t) (a .s .settings .k) (a .s .own) x (now (a .block)) (now (a .outbox))) e in
+    (λ (x : ℕ). forwarded (a .s .run) (a .s .settings .n) (a .s .settings .t) (a .s .settings .k) (a .s .own) x (now (a .block)) (now (a .outbox))) e in
     let s = c .with-core .ensures ∙ (λ x. withCore (c .before .open .ensures x) (m x) (e x)) in
     λ x. carried (s x) (now (a .block)) (o x)
 

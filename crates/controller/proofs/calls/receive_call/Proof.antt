@@ -37,7 +37,7 @@ returns c =
     let e = R .receive-block .ensures ∙ ap (λ (l : Layout). receivedBlock (now (a .inbox)) l (a .s .settings .sender) (now (a .block)))
     (L .inbox-layout .ensures) in
     let o = P .send-pieces .ensures ∙ ap
-    (λ (b : List ℕ). sentPieces (a .s .settings .n) (a .s .settings .t) (a .s .settings .k) (a .s .own) b (now (a .outbox))) e in
+    (λ (b : List ℕ). sentPieces (a .s .run) (a .s .settings .n) (a .s .settings .t) (a .s .settings .k) (a .s .own) b (now (a .outbox))) e in
     λ x. carried (c .open .ensures x) (e x) (o x)
 
 pub receive-call-spec : {M : Type 1} → statement M

@@ -7,7 +7,6 @@ use native.Mathlib.Omega.{arith}
 use borrow.Author.Needs.{needs}
 use lib.ListN.{length}
 use Rattle.lists.specs.Same.{same}
-use Rattle.wire.specs.Slot.{messageOf}
 use Rattle.reed_solomon.specs.Steps.{rowValues, counted}
 use Rattle.reed_solomon.proofs.Counts.{message-le}
 use Rattle.reed_solomon.proofs.comparison.compare_slot.Statement.{statement}
@@ -21,20 +20,17 @@ values-requires c κs =
     let S = c .before .before .before .before .before in
     (S .pre .0 ∙ ap (λ n. n * (S .args .t + 1)) (sym (S .pre .1)), omega arith, omega arith, S .pre .3)
 
-layout-with-requires : tie.Need-layout-with-requires
-layout-with-requires c κs = search needs
-
 message-requires : tie.Need-message-requires
 message-requires c κs = search needs
 
 count-different-requires : tie.Need-count-different-requires
 count-different-requires c κs =
-    let S = c .before .before .before .before .before .before .before .before .before .before .before .before in
+    let S = c .before .before .before .before .before .before .before .before .before .before .before in
     let a = S .args in
     let m = c .before .before .message in
-    let size = ap length (m .ensures ∙ ap (λ l. messageOf (a .slots .now) l (a .j)) (c .before .before .before .layout-with .ensures)) in
-    let kept = c .before .before .before .before .before .before .values .kept .1 .1 .1 .0 in
-    let le = message-le (a .k) (a .slots .now) (a .j) in
+    let size = ap length (m .ensures) in
+    let kept = c .before .before .before .before .before .values .kept .1 .1 .1 .0 in
+    let le = message-le (a .layout) (a .slots .now) (a .j) in
     (omega (arith, size, le, kept, S .pre .1), omega (arith, size, le, S .pre .2), S .pre .7)
 
 is-equal-requires : tie.Need-is-equal-requires
@@ -50,10 +46,10 @@ returns : tie.Need-returns
 returns c =
     let D = c .before .before .before .before in
     let M = D .before .before .before in
-    let W = M .before .before .before .before in
+    let W = M .before .before .before in
     let S = W .before .before .before .before .before .before in
     let a = S .args in
-    let m = M .message .ensures ∙ ap (λ l. messageOf (a .slots .now) l (a .j)) (M .before .layout-with .ensures) in
+    let m = M .message .ensures in
     let p = W .values .ensures ∙ ap (λ n. rowValues n (a .t) (a .cols .now) (a .j)) (S .pre .1) in
     (ap not (c .is-equal .ensures ∙ ap₂ same m p), D .count-different .ensures ∙ ap₂ (λ (x y : List ℕ). counted x y (a .counts .now)) m p)
 
@@ -63,7 +59,6 @@ compare-slot-spec =
     (tie.spec
     cast-values
     values-requires
-    layout-with-requires
     message-requires
     count-different-requires
     is-equal-requires

@@ -9,10 +9,10 @@ use Rattle.reed_solomon.proofs.guessing.load.Statement.{statement}
 use Rattle.reed_solomon.proofs.guessing.load.Tie as tie
 
 abbrev Inv-loop : tie.InvT-loop
-Inv-loop slots k c from rows cols₀ j₀ cols j = (j ≤ length c) × (length cols ≡ length cols₀)
+Inv-loop slots layout c from rows cols₀ j₀ cols j = (j ≤ length c) × (length cols ≡ length cols₀)
 
 abbrev μ-loop : tie.MeasureT-loop
-μ-loop slots k c from rows cols₀ j₀ cols j = length c - j
+μ-loop slots layout c from rows cols₀ j₀ cols j = length c - j
 
 loop-holds : tie.Need-loop-holds Inv-loop μ-loop
 loop-holds c = search needs

@@ -12,10 +12,10 @@ use Rattle.reed_solomon.proofs.settling.gather.Statement.{statement}
 use Rattle.reed_solomon.proofs.settling.gather.Tie as tie
 
 abbrev Inv-loop : tie.InvT-loop
-Inv-loop slots k s xs ys₀ i₀ ys i = (i ≤ length xs) × (length ys ≡ length ys₀) × (ys ≡ filled (λ j. received k slots s (getD xs j 0)) i ys₀)
+Inv-loop slots layout s xs ys₀ i₀ ys i = (i ≤ length xs) × (length ys ≡ length ys₀) × (ys ≡ filled (λ j. received layout slots s (getD xs j 0)) i ys₀)
 
 abbrev μ-loop : tie.MeasureT-loop
-μ-loop slots k s xs ys₀ i₀ ys i = length xs - i
+μ-loop slots layout s xs ys₀ i₀ ys i = length xs - i
 
 loop-holds : tie.Need-loop-holds Inv-loop μ-loop
 loop-holds c = (omega arith, refl, sym (filled-none _ _))
@@ -44,7 +44,7 @@ loop-again c =
     let l = c .before .before .before .loop in (
       omega arith,
       length-set (l .ys) (l .i) (c .received .result) ∙ l .inv .1,
-      fill-more (λ j. received (a .k) (a .slots .now) (a .s) (getD (a .xs .now) j 0)) (l .i) (a .ys .now) (l .ys) (c .received .result) (omega arith)
+      fill-more (λ j. received (a .layout) (a .slots .now) (a .s) (getD (a .xs .now) j 0)) (l .i) (a .ys .now) (l .ys) (c .received .result) (omega arith)
           (l .inv .2) (c .received .ensures),
     )
 
@@ -55,7 +55,7 @@ returns : tie.Need-returns Inv-loop μ-loop
 unfolding column
 returns c =
     let a = c .before .before .before .before .before .args in
-    let f : ℕ → ℕ = λ j. received (a .k) (a .slots .now) (a .s) (getD (a .xs .now) j 0) in
+    let f : ℕ → ℕ = λ j. received (a .layout) (a .slots .now) (a .s) (getD (a .xs .now) j 0) in
     fill-end f (c .before .loop .i) (a .ys .now) (c .before .loop .ys) (c .before .loop .inv .2) (omega arith)
     ∙ ap (tabulate f) (c .before .before .before .before .before .pre)
 

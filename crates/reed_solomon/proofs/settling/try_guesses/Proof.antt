@@ -7,10 +7,10 @@ use Rattle.reed_solomon.proofs.settling.try_guesses.Statement.{statemen
 use Rattle.reed_solomon.proofs.settling.try_guesses.Tie as tie
 
 abbrev Inv-loop : tie.InvT-loop
-Inv-loop slots t k s xs marks ys m₀ start₀ m start = length m ≡ length m₀
+Inv-loop slots t layout s xs marks ys m₀ start₀ m start = length m ≡ length m₀
 
 abbrev μ-loop : tie.MeasureT-loop
-μ-loop slots t k s xs marks ys m₀ start₀ m start = length xs - start
+μ-loop slots t layout s xs marks ys m₀ start₀ m start = length xs - start
 
 loop-holds : tie.Need-loop-holds Inv-loop μ-loop
 loop-holds c = refl

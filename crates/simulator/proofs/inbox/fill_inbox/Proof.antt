@@ -48,7 +48,7 @@ place-of-requires c κs = search needs
 
 -- the outbox of the index that is next stands among those sent
 room : (c : tie.After-place-of Inv-loop μ-loop) → let L = c .before .before .before in let S = L .before .before .before .before .before .before .before in
-    (L .loop .j * S .args .o + S .args .o ≤ length (now (S .args .sent))) × (length (now (S .args .sent)) ≤ 49408)
+    (L .loop .j * S .args .o + S .args .o ≤ length (now (S .args .sent))) × (length (now (S .args .sent)) ≤ 49920)
 room c =
     let L = c .before .before .before in
     let S = L .before .before .before .before .before .before .before in

@@ -42,7 +42,7 @@ slice-aggregate-call-with-2 c =
     let S = c .before .before .before .before .before .before .before .before .before .before .before in
     let a = S .args in
     let n = c .before .before .before .before .inbox-length .result in
-    sym (length-front 3088 n (omega
+    sym (length-front 3120 n (omega
     (arith, c .before .before .before .before .inbox-length .ensures, inbox-le (S .pre .0 .small) (a .c) (S .pre .0 .calls-most))))
 
 call-with-requires : tie.Need-call-with-requires
@@ -55,7 +55,7 @@ call-with-requires c κs =
       S .pre .1,
       length-front 192 len (omega (arith, c .before .before .before .before .before .message-length .ensures, message-le (S .pre .0 .small) (a .c)))
           ∙ c .before .before .before .before .before .message-length .ensures,
-      take-zeros 3088 size (omega (
+      take-zeros 3120 size (omega (
         arith,
         c .before .before .before .before .inbox-length .ensures,
         inbox-le (S .pre .0 .small) (a .c)

@@ -14,7 +14,7 @@ use Rattle.simulator.proofs.run.play.Tie as tie
 
 abbrev Inv-loop : tie.InvT-loop
 Inv-loop input places faulty settings block blocks₀ sent₀ sending₀ t held₀ last c₀ blocks sent sending held c =
-    (c ≤ 3 * settings .t + 9) × (last ≡ 3 * settings .t + 9) × (length blocks ≡ length blocks₀) × (length sent ≡ 49408) × (length sending ≡ 49408)
+    (c ≤ 3 * settings .t + 9) × (last ≡ 3 * settings .t + 9) × (length blocks ≡ length blocks₀) × (length sent ≡ 49920) × (length sending ≡ 49920)
     × AfterCalls (tableScenario settings block faulty places input) c held blocks (blockLength (settings .k) (settings .t)) sent
     (inboxLength (settings .n) (settings .t) (settings .k) (c + 1))
 
@@ -72,7 +72,7 @@ loop-again c =
     let all = c .before .before .before .before .before .before .before .before .before .call-all in
     let b = all .last .1 .1 .1 .1 .1 .1 .0 in
     let s = all .last .1 .1 .1 .1 .1 .1 .1 .1 .0 in
-    let sending-is : length s ≡ 49408 = all .kept .1 .1 .1 .1 .1 .1 .1 .1 .0 ∙ v .4 in
+    let sending-is : length s ≡ 49920 = all .kept .1 .1 .1 .1 .1 .1 .1 .1 .0 ∙ v .4 in
     let sent-is = c .before .before .copy .ensures ∙ copied-all s (L .loop .sent) (sending-is ∙ sym (v .3)) in (
       omega (arith, less),
       refl,

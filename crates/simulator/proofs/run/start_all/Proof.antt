@@ -3,6 +3,7 @@ use Rattle.simulator.proofs.Plays.{first-state, next-state}
 use Rattle.protocol.specs.declared.Started.{Started}
 use Rattle.protocol.specs.State.{zeroState}
 use Rattle.protocol.specs.Step.{startOf}
+use Rattle.simulation.specs.Run.{runNumber}
 use lib.ListN.{length, getD, length-set}
 use native.Mathlib.Omega.{arith}
 use mathlib.Core.Path.{_≡_, refl, ap, _∙_}
@@ -14,7 +15,7 @@ use Rattle.simulator.proofs.run.start_all.Tie as tie
 
 abbrev Inv-loop : tie.InvT-loop
 Inv-loop settings block n states₀ i₀ states i =
-    (1 ≤ i) × (i ≤ settings .n) × (length states ≡ 16) × ((x : ℕ) → x < i → getD states x zeroState ≡ startOf settings (x + 1) (length block) .state)
+    (1 ≤ i) × (i ≤ settings .n) × (length states ≡ 16) × ((x : ℕ) → x < i → getD states x zeroState ≡ startOf settings (x + 1) runNumber (length block) .state)
     × (n ≡ settings .n)
 
 abbrev μ-loop : tie.MeasureT-loop

@@ -1,53 +1,18 @@
 -- `wire::kind_layout` meets its contract.
-use Rattle.wire.proofs.Lengths.{settings-in}
-use Rattle.wire.specs.Length.{inSettings, rowLength, kindLength}
 use Rattle.wire.specs.Slot.{layoutWith}
-use Rattle.lists.proofs.Tests.{cond-yes, cond-no}
-use mathlib.Core.Path.{sym, ap, _∙_}
+use mathlib.Core.Path.{ap, _∙_}
 use borrow.Author.Needs.{needs}
 use Rattle.wire.proofs.length.kind_layout.Statement.{statement}
 use Rattle.wire.proofs.length.kind_layout.Tie as tie
 
-in-settings-requires : tie.Need-in-settings-requires
-in-settings-requires c κs = search needs
-
-row-length-requires : tie.Need-row-length-requires
-row-length-requires c κs =
-    let a = c .before .before .args in
-    settings-in (a .n) (a .t) (a .k) (sym (c .before .in-settings .ensures) ∙ c .if1 .taken)
+kind-length-requires : tie.Need-kind-length-requires
+kind-length-requires c κs = search needs
 
 layout-with-requires : tie.Need-layout-with-requires
 layout-with-requires c κs = search needs
 
 returns : tie.Need-returns
-unfolding kindLength
-returns c =
-    let a = c .before .before .before .before .args in
-    c .layout-with .ensures
-    ∙ ap layoutWith
-    (c .before .row-length .ensures
-    ∙ sym (cond-yes (inSettings (a .n) (a .t) (a .k)) (rowLength (a .kind) (a .n) (a .t) (a .k)) 0
-    (sym (c .before .before .before .in-settings .ensures) ∙ c .before .before .if1 .taken)))
-
-layout-with-requires-2 : tie.Need-layout-with-requires-2
-layout-with-requires-2 c κs = search needs
-
-returns-2 : tie.Need-returns-2
-unfolding kindLength
-returns-2 c =
-    let a = c .before .before .before .args in
-    c .layout-with2 .ensures
-    ∙ ap layoutWith
-    (sym (cond-no (inSettings (a .n) (a .t) (a .k)) (rowLength (a .kind) (a .n) (a .t) (a .k)) 0
-    (sym (c .before .before .in-settings .ensures) ∙ c .before .if1 .left)))
+returns c = c .layout-with .ensures ∙ ap (layoutWith (c .before .before .args .run)) (c .before .kind-length .ensures)
 
 pub kind-layout-spec : {M : Type 1} → statement M
-kind-layout-spec =
-    tie.close
-    (tie.spec
-    in-settings-requires
-    row-length-requires
-    layout-with-requires
-    returns
-    layout-with-requires-2
-    returns-2)
+kind-layout-spec = tie.close (tie.spec kind-length-requires layout-with-requires returns)

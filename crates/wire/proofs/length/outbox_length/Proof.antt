@@ -1,9 +1,9 @@
 -- `wire::outbox_length` meets its contract.
 use Rattle.wire.proofs.Factors.{box-bound}
 use Rattle.wire.proofs.Lengths.{length-le, length-some}
-use Rattle.wire.specs.Length.{roundLayout, messageLength, boxLength, outboxLength}
+use Rattle.wire.specs.Length.{messageLength, boxLength, outboxLength}
 use Rattle.settings.specs.Valid.{Coded}
-use Rattle.wire.specs.Slot.{width}
+use Rattle.wire.specs.Slot.{header}
 use Rattle.lists.proofs.Tests.{cond-yes, cond-no}
 use lib.Dec.{eqb}
 use borrow.Author.Tests.{eq-eqb, ne-eqb}
@@ -39,16 +39,16 @@ mul-result : tie.Need-mul-result
 mul-result c =
     let a = c .before .before .args in
     let v = coded c in
-    let l : 1 + c .before .message-length .result ≤ 1024 = omega (arith, length-le v (a .c), c .before .message-length .ensures) in
-    omega (arith, box-bound {n = a .n} {l = 1 + c .before .message-length .result} (v .quorum .n-most) l)
+    let l : header + c .before .message-length .result ≤ 1024 = omega (arith, length-le v (a .c), c .before .message-length .ensures) in
+    omega (arith, box-bound {n = a .n} {l = header + c .before .message-length .result} (v .quorum .n-most) l)
 
 returns-2 : tie.Need-returns-2
-unfolding outboxLength boxLength width
+unfolding outboxLength boxLength
 returns-2 c =
     let a = c .before .before .args in
     let m = messageLength (a .n) (a .t) (a .k) (a .c) in
-    ap (λ (x : ℕ). a .n * (1 + x)) (c .before .message-length .ensures)
-    ∙ sym (cond-no (eqb m 0) 0 (a .n * width (roundLayout (a .n) (a .t) (a .k) (a .c)))
+    ap (λ (x : ℕ). a .n * (header + x)) (c .before .message-length .ensures)
+    ∙ sym (cond-no (eqb m 0) 0 (a .n * (header + m))
     (ne-eqb m 0 (λ e. c .if1 .left (c .before .message-length .ensures ∙ e))))
 
 pub outbox-length-spec : {M : Type 1} → statement M
