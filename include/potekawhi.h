@@ -28,10 +28,16 @@
  * Marks. A set of controllers is a number of 16 bits: the bit worth 1 is for controller 1, the bit worth 2 for controller 2, the bit worth 4 for
  * controller 3 and so on; 0 is the empty set.
  *
- * Boxes. An inbox or outbox has n slots, slot j for controller j. A slot is one byte, 01 if a message is there, and then the message, whose
- * length is potekawhi_message_length of the round; a slot whose first byte is not 01 is absent, its other bytes are not read. The slot that
- * i writes for j in round c is to arrive in slot i of the inbox of j's call c + 1; where nothing arrived in time the slot's first byte is
- * to be 00. A controller's slot for itself arrives too. */
+ * Runs. A run has a number, 0 to 65535, which potekawhi_start takes and the state keeps. All correct controllers are to start a run with one number,
+ * and the next run with another. Every message is sent in a slot that carries the number, and a slot that carries another one is read as absent,
+ * everywhere: a message of an earlier run that comes late does not count in this one. Where a number is used again, the caller sees to it that no
+ * message is left of the run that had it before.
+ *
+ * Boxes. An inbox or outbox has n slots, slot j for controller j. A slot has 3 + length bytes: one byte, 01 if a message is there; the run number,
+ * two bytes, low byte first; and then the message, whose length is potekawhi_message_length of the round. A slot whose first byte is not 01, or whose
+ * run number is another one, is absent, its message is not read; where a slot is written as absent, all its bytes are 00. The slot that i writes
+ * for j in round c is to arrive in slot i of the inbox of j's call c + 1; where nothing arrived in time the slot's first byte is to be 00. A
+ * controller's slot for itself arrives too. */
 #ifndef POTEKAWHI_H
 #define POTEKAWHI_H
 
@@ -43,7 +49,7 @@ extern "C" {
 #endif
 
 /* The length of a state in bytes. */
-#define POTEKAWHI_STATE_LENGTH 117
+#define POTEKAWHI_STATE_LENGTH 119
 
 /* The length of the rows of a matrix in bytes, of the missing pairs of a graph, and of the sets of a star. */
 #define POTEKAWHI_ROWS_LENGTH 32
@@ -74,11 +80,11 @@ extern "C" {
 #define POTEKAWHI_OUTCOME_NONE 2   /* no core was found; the final block is zeros */
 #define POTEKAWHI_OUTCOME_BEYOND 3 /* no block is close enough to the pieces: more than t controllers are faulty; the final block is zeros */
 
-/* Begins the run of one controller. `sender` is 1 to n, or 0 for none. `block` is the sender's block, k * (t + 1) bytes; every other controller
- * lends bytes of that length, whatever they are. With sender 0 each lends the block that it holds. It is neither read nor changed here. `state` is
- * POTEKAWHI_STATE_LENGTH bytes, whatever they are; the caller keeps it for the whole run.
+/* Begins the run of one controller. `sender` is 1 to n, or 0 for none; `run` is the run number, and every number is one. `block` is the sender's
+ * block, k * (t + 1) bytes; every other controller lends bytes of that length, whatever they are. With sender 0 each lends the block that it holds.
+ * It is neither read nor changed here. `state` is POTEKAWHI_STATE_LENGTH bytes, whatever they are; the caller keeps it for the whole run.
  * Answers 6 if `state` has another length; else the first of 1 to 6, in order. Refused, it changes nothing, `state` included. */
-uint8_t potekawhi_start(size_t n, size_t t, size_t k, size_t own, size_t sender, const uint8_t *block, size_t block_length,
+uint8_t potekawhi_start(size_t n, size_t t, size_t k, size_t own, size_t sender, uint16_t run, const uint8_t *block, size_t block_length,
                         uint8_t *state, size_t state_length);
 
 /* Makes the next call of the run. `state` is what potekawhi_start or the step before wrote; `block` is the controller's block, which the
@@ -111,22 +117,22 @@ uint8_t potekawhi_final_block(const uint8_t *state, size_t state_length, const u
  * POTEKAWHI_STATE_LENGTH. */
 uint16_t potekawhi_named(const uint8_t *state, size_t state_length);
 
-/* The message in slot `j` of an inbox of messages of `length` bytes: answers its length and writes to `*offset` where in the inbox it
- * starts; 0 and 0 if the slot is absent, j is 0, or the inbox does not hold the slot whole. */
-size_t potekawhi_message(const uint8_t *inbox, size_t inbox_length, size_t length, size_t j, size_t *offset);
+/* The message in slot `j` of an inbox of messages of `length` bytes, in the run `run`: answers its length and writes to `*offset` where in the
+ * inbox it starts; 0 and 0 if the slot is absent, j is 0, or the inbox does not hold the slot whole. */
+size_t potekawhi_message(const uint8_t *inbox, size_t inbox_length, uint16_t run, size_t length, size_t j, size_t *offset);
 
 /* Piece `number` of the coding of `block`, which has k * (t + 1) bytes, to `piece`, which has k. Tries 1, 2, 3, 4, 6. */
 uint8_t potekawhi_encode(size_t n, size_t t, size_t k, size_t number, const uint8_t *block, size_t block_length, uint8_t *piece,
                          size_t piece_length);
 
-/* The block from the pieces in `slots`, to `block`. `slots` is n slots of messages of k bytes; absent ones are dropped. With N slots present,
- * it is the block in each stripe of which twice the number of present values that differ from its coding is at most N - t - 1: any t + 1 true
- * pieces suffice if all other slots are absent, and with all n present up to (n - t - 1) / 2 may be false. With N at most t there is none.
- * `block` has k * (t + 1) bytes. `*named` is written too: the marks of those of 1 to n whose slot is absent or differs, in any byte, from their
- * piece of that block. Answers 0, the block and its marks; POTEKAWHI_BEYOND, zeros and no marks, 0, if there is no such block; or the first of
- * 1, 2, 3, 6, and nothing changes: neither `block` nor `*named`. */
-uint8_t potekawhi_decode(size_t n, size_t t, size_t k, const uint8_t *slots, size_t slots_length, uint8_t *block, size_t block_length,
-                         uint16_t *named);
+/* The block from the pieces in `slots`, to `block`. `slots` is n slots of messages of k bytes, so 3 + k bytes each; absent ones, also those that carry
+ * another run number than `run`, are dropped. With N slots present, it is the block in each stripe of which twice the number of present values that
+ * differ from its coding is at most N - t - 1: any t + 1 true pieces suffice if all other slots are absent, and with all n present up to
+ * (n - t - 1) / 2 may be false. With N at most t there is none. `block` has k * (t + 1) bytes. `*named` is written too: the marks of those of 1 to n
+ * whose slot is absent or differs, in any byte, from their piece of that block. Answers 0, the block and its marks; POTEKAWHI_BEYOND, zeros and no
+ * marks, 0, if there is no such block; or the first of 1, 2, 3, 6, and nothing changes: neither `block` nor `*named`. */
+uint8_t potekawhi_decode(size_t n, size_t t, size_t k, uint16_t run, const uint8_t *slots, size_t slots_length, uint8_t *block,
+                         size_t block_length, uint16_t *named);
 
 /* The star of the neighbour graph of `rows`, 16 rows of marks of two bytes each, low byte first, of which the first n rows and of them the
  * lowest n bits are read: i and j are neighbours if each marks the other. Writes the sets C, D, F and E, of which E is the core, to `sets`,
@@ -151,7 +157,7 @@ uint8_t potekawhi_star_of_pairs(size_t n, size_t t, const uint8_t *pairs, size_t
 /* The length of a block: k * (t + 1). */
 size_t potekawhi_block_length(size_t n, size_t t, size_t k);
 
-/* The length of a message of round c, 1 to 3t + 8, without the byte in front of it in a slot. */
+/* The length of a message of round c, 1 to 3t + 8, without the three bytes in front of it in a slot. */
 size_t potekawhi_message_length(size_t n, size_t t, size_t k, size_t c);
 
 /* The length of the inbox of call c, which has the slots of round c - 1; 0 for the first call. */

@@ -17,8 +17,11 @@
 #define T 5
 #define K 128
 #define CALLS (3 * T + 9)
+#define RUN 513
 #define BLOCK_LENGTH (K * (T + 1))
-#define LONGEST_BOX (N * (1 + BLOCK_LENGTH))
+/* A slot's bytes in front of its message. */
+#define FRONT 3
+#define LONGEST_BOX (N * (FRONT + BLOCK_LENGTH))
 
 /* ---- The stack ------------------------------------------------------------------------------------------------------------------ */
 
@@ -67,7 +70,7 @@ static void nothing(void) {
 }
 
 static void start(void) {
-    answer = potekawhi_start(N, T, K, 1, 1, block, sizeof block, state, sizeof state);
+    answer = potekawhi_start(N, T, K, 1, 1, RUN, block, sizeof block, state, sizeof state);
 }
 
 static void step(void) {
@@ -80,7 +83,7 @@ static void encode(void) {
 }
 
 static void decode(void) {
-    answer = potekawhi_decode(N, T, K, inbox, N * (1 + K), block, sizeof block, &named);
+    answer = potekawhi_decode(N, T, K, RUN, inbox, N * (FRONT + K), block, sizeof block, &named);
 }
 
 static void star(void) {
@@ -103,10 +106,21 @@ static uint8_t random_byte(void) {
     return (uint8_t)(x >> 24);
 }
 
+/* Makes a slot present: 01 and the run number. */
+static void fill_front(uint8_t *slot) {
+    slot[0] = 1;
+    slot[1] = RUN % 256;
+    slot[2] = RUN / 256;
+}
+
 /* Slots of random messages, all present. */
 static void fill_inbox(size_t message_length) {
+    size_t width = FRONT + message_length;
     for (size_t b = 0; b < sizeof inbox; b++) {
-        inbox[b] = b % (1 + message_length) == 0 ? 1 : random_byte();
+        inbox[b] = random_byte();
+    }
+    for (size_t j = 0; j < N; j++) {
+        fill_front(inbox + j * width);
     }
 }
 
@@ -125,11 +139,11 @@ static unsigned false_marks(void) {
 /* Slots of the block's pieces, of which T are false in every byte but the last. */
 static void fill_pieces(void) {
     for (size_t j = 1; j <= N; j++) {
-        uint8_t *slot = inbox + (j - 1) * (1 + K);
-        slot[0] = 1;
-        potekawhi_encode(N, T, K, j, block, sizeof block, slot + 1, K);
-        for (size_t s = 1; s < K && is_false(j); s++) {
-            slot[s] ^= 0xff;
+        uint8_t *slot = inbox + (j - 1) * (FRONT + K);
+        fill_front(slot);
+        potekawhi_encode(N, T, K, j, block, sizeof block, slot + FRONT, K);
+        for (size_t s = 0; s < K - 1 && is_false(j); s++) {
+            slot[FRONT + s] ^= 0xff;
         }
     }
 }
@@ -164,7 +178,7 @@ static size_t most_for_star(void) {
 }
 
 /* The state before a call: every buffer of its length is one. The next call stands at 40, the matrix at 49, the core at 113, whom the controller
- * names at 115. */
+ * names at 115, the run number at 117. */
 static void make_state(size_t c) {
     start();
     state[40] = (uint8_t)c;

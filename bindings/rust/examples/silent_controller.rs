@@ -12,9 +12,10 @@ const SETTINGS: Settings = Settings {
     k: 5,
     sender: 3,
 };
+const RUN: u16 = 1;
 const BLOCK: [u8; 15] = *b"vents: 40, 0, 5";
 /// The longest boxes are those of the rounds with two matrices, whose messages have 4n bytes.
-const LONGEST_BOX: usize = N * (1 + 4 * N);
+const LONGEST_BOX: usize = N * (3 + 4 * N);
 const SILENT: usize = 6;
 
 fn main() -> Result<(), Refusal> {
@@ -24,7 +25,7 @@ fn main() -> Result<(), Refusal> {
     let mut controllers = Vec::new();
     for block in &mut blocks {
         own += 1;
-        controllers.push(Controller::start(SETTINGS, own, block)?);
+        controllers.push(Controller::start(SETTINGS, own, RUN, block)?);
     }
 
     let mut inboxes = [[0; LONGEST_BOX]; N];

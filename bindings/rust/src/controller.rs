@@ -60,7 +60,7 @@ impl Settings {
     ///
     /// ```
     /// let settings = potekawhi::Settings { n: 4, t: 1, k: 1, sender: 1 };
-    /// assert_eq!(settings.slot(1, 4), 9..12);
+    /// assert_eq!(settings.slot(1, 4), 15..20);
     /// assert_eq!(settings.slot(1, 5), 0..0);
     /// ```
     pub fn slot(self, round: usize, j: usize) -> Range<usize> {
@@ -81,16 +81,18 @@ pub struct Controller<'b> {
 }
 
 impl<'b> Controller<'b> {
-    /// Begins the run of the controller with the number `own`. `block` is the sender's block; every other controller lends bytes of that
-    /// length, whatever they are. Without a sender it is the block that this controller holds. The calls overwrite it.
+    /// Begins the run of the controller with the number `own`. `run` is the run number, which all correct controllers have in common: slots that
+    /// carry another one are read as absent. `block` is the sender's block; every other controller lends bytes of that length, whatever they are.
+    /// Without a sender it is the block that this controller holds. The calls overwrite it.
     pub fn start(
         settings: Settings,
         own: usize,
+        run: u16,
         block: &'b mut [u8],
     ) -> Result<Controller<'b>, Refusal> {
         let Settings { n, t, k, sender } = settings;
         let mut state = [0; raw::STATE_LENGTH];
-        Refusal::check(raw::start(n, t, k, own, sender, block, &mut state))?;
+        Refusal::check(raw::start(n, t, k, own, sender, run, block, &mut state))?;
         Ok(Controller {
             settings,
             state,

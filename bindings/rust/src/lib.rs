@@ -6,17 +6,20 @@
 //! length, so that there is nothing to test before a call; what it refuses is a [`Refusal`], and then nothing was changed. [`raw`] has its
 //! functions one by one; include/potekawhi.h says what each does.
 //!
+//! Every run has a number, which its slots carry: a slot of another run, as of a message that comes late, is read as absent.
+//!
 //! A run of four controllers, all correct, in which every message arrives:
 //!
 //! ```
 //! use potekawhi::{Controller, Outcome, Settings};
 //!
 //! let settings = Settings { n: 4, t: 1, k: 1, sender: 1 };
+//! let run = 1;
 //! // the sender's block; the others lend bytes of that length
 //! let mut blocks = [[0x0a, 0x14], [0; 2], [0; 2], [0; 2]];
 //! let mut controllers = Vec::new();
 //! for (i, block) in blocks.iter_mut().enumerate() {
-//!     controllers.push(Controller::start(settings, i + 1, block)?);
+//!     controllers.push(Controller::start(settings, i + 1, run, block)?);
 //! }
 //! let mut inboxes = vec![Vec::new(); 4];
 //! for call in 1..=settings.calls() {

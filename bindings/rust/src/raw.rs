@@ -59,6 +59,7 @@ extern "C" {
         k: usize,
         own: usize,
         sender: usize,
+        run: u16,
         block: *const u8,
         block_length: usize,
         state: *mut u8,
@@ -88,6 +89,7 @@ extern "C" {
     fn potekawhi_message(
         inbox: *const u8,
         inbox_length: usize,
+        run: u16,
         length: usize,
         j: usize,
         offset: *mut usize,
@@ -106,6 +108,7 @@ extern "C" {
         n: usize,
         t: usize,
         k: usize,
+        run: u16,
         slots: *const u8,
         slots_length: usize,
         block: *mut u8,
@@ -143,12 +146,14 @@ extern "C" {
 }
 
 /// `potekawhi_start`.
+#[allow(clippy::too_many_arguments)] // those of the header
 pub fn start(
     n: usize,
     t: usize,
     k: usize,
     own: usize,
     sender: usize,
+    run: u16,
     block: &[u8],
     state: &mut [u8],
 ) -> u8 {
@@ -160,6 +165,7 @@ pub fn start(
             k,
             own,
             sender,
+            run,
             block.as_ptr(),
             block.len(),
             state.as_mut_ptr(),
@@ -219,9 +225,9 @@ pub fn named(state: &[u8]) -> u16 {
 }
 
 /// `potekawhi_message`: answers the length and writes the offset.
-pub fn message(inbox: &[u8], length: usize, j: usize, offset: &mut usize) -> usize {
+pub fn message(inbox: &[u8], run: u16, length: usize, j: usize, offset: &mut usize) -> usize {
     // SAFETY: the pointer and the length are those of a slice, which is only read; the offset is a number of its own.
-    unsafe { potekawhi_message(inbox.as_ptr(), inbox.len(), length, j, offset) }
+    unsafe { potekawhi_message(inbox.as_ptr(), inbox.len(), run, length, j, offset) }
 }
 
 /// `potekawhi_encode`.
@@ -242,13 +248,22 @@ pub fn encode(n: usize, t: usize, k: usize, number: usize, block: &[u8], piece: 
 }
 
 /// `potekawhi_decode`: writes the block and the marks.
-pub fn decode(n: usize, t: usize, k: usize, slots: &[u8], block: &mut [u8], named: &mut u16) -> u8 {
+pub fn decode(
+    n: usize,
+    t: usize,
+    k: usize,
+    run: u16,
+    slots: &[u8],
+    block: &mut [u8],
+    named: &mut u16,
+) -> u8 {
     // SAFETY: the pointers and lengths are those of slices, of which the written one overlaps no other; the marks are a number of their own.
     unsafe {
         potekawhi_decode(
             n,
             t,
             k,
+            run,
             slots.as_ptr(),
             slots.len(),
             block.as_mut_ptr(),

@@ -11,8 +11,16 @@ const SETTINGS: Settings = Settings {
     sender: 1,
 };
 
-/// The length of a state that the header defines is the library's: a state has that length and no other. The marks are its last two bytes, the
-/// low one first.
+/// The run number in these tests, 02 01 in a slot.
+const RUN: u16 = 0x0102;
+
+/// A slot with a message in that run.
+fn slot(message: &[u8]) -> Vec<u8> {
+    [&[1, 2, 1], message].concat()
+}
+
+/// The length of a state that the header defines is the library's: a state has that length and no other. The marks are bytes 115 and 116, the run number
+/// the last two, the low ones first.
 #[test]
 fn length_in_the_header() {
     for length in 0..2 * raw::STATE_LENGTH {
@@ -23,7 +31,17 @@ fn length_in_the_header() {
     }
     let mut state = [0xff; raw::STATE_LENGTH];
     (state[115], state[116]) = (0x21, 0x04);
-    assert_eq!((state.len(), raw::named(&state)), (117, 0x0421));
+    assert_eq!((state.len(), raw::named(&state)), (119, 0x0421));
+    for run in [0, 1, 256, RUN, 65535] {
+        let mut state = [0xff; raw::STATE_LENGTH];
+        assert_eq!(raw::start(4, 1, 1, 1, 1, run, &[7; 2], &mut state), raw::OK);
+        assert_eq!(state[117..], run.to_le_bytes());
+        assert_eq!(
+            raw::step(&mut state, &mut [7; 2], &[], &mut [9; 20]),
+            raw::OK
+        );
+        assert_eq!(state[117..], run.to_le_bytes());
+    }
 }
 
 /// So are the lengths of rows, missing pairs and sets, and the number for beyond.
@@ -39,9 +57,11 @@ fn numbers_in_the_header() {
         let taken = raw::star(4, 1, &[0; raw::ROWS_LENGTH], &mut sets) == 0;
         assert_eq!(taken, length == raw::SETS_LENGTH);
     }
-    let slots = [1, 0x1e, 1, 0x22, 1, 0x37, 1, 0x5b];
+    let slots = [0x1e, 0x22, 0x37, 0x5b]
+        .map(|piece| slot(&[piece]))
+        .concat();
     assert_eq!(
-        raw::decode(4, 1, 1, &slots, &mut [7; 2], &mut 7),
+        raw::decode(4, 1, 1, RUN, &slots, &mut [7; 2], &mut 7),
         raw::BEYOND
     );
 }
@@ -68,7 +88,7 @@ fn refusal_numbers() {
 fn refused_starts() {
     let refused = |settings, own, length| {
         let mut block = vec![7; length];
-        let refusal = Controller::start(settings, own, &mut block).unwrap_err();
+        let refusal = Controller::start(settings, own, RUN, &mut block).unwrap_err();
         assert_eq!(block, vec![7; length]);
         refusal
     };
@@ -98,13 +118,13 @@ fn lengths_of_a_run() {
     for (i, length) in lengths.into_iter().enumerate() {
         let round = i + 1;
         assert_eq!(SETTINGS.message_length(round), length);
-        assert_eq!(SETTINGS.outbox_length(round), 4 * (1 + length));
-        assert_eq!(SETTINGS.inbox_length(round + 1), 4 * (1 + length));
+        assert_eq!(SETTINGS.outbox_length(round), 4 * (3 + length));
+        assert_eq!(SETTINGS.inbox_length(round + 1), 4 * (3 + length));
         // the slots fill the box, one behind the other
         let mut end = 0;
         for j in 1..=4 {
-            assert_eq!(SETTINGS.slot(round, j), end..end + 1 + length);
-            end += 1 + length;
+            assert_eq!(SETTINGS.slot(round, j), end..end + 3 + length);
+            end += 3 + length;
         }
         assert_eq!(end, SETTINGS.outbox_length(round));
     }
@@ -128,16 +148,16 @@ fn lengths_of_a_run() {
 #[test]
 fn refused_steps() {
     let (mut block, mut copy) = ([7; 2], [7; 2]);
-    let mut controller = Controller::start(SETTINGS, 1, &mut block).unwrap();
-    let before = Controller::start(SETTINGS, 1, &mut copy).unwrap();
-    let mut outbox = [9; 12];
-    for (inbox, length) in [(1, 12), (0, 11), (0, 0)] {
+    let mut controller = Controller::start(SETTINGS, 1, RUN, &mut block).unwrap();
+    let before = Controller::start(SETTINGS, 1, RUN, &mut copy).unwrap();
+    let mut outbox = [9; 20];
+    for (inbox, length) in [(1, 20), (0, 19), (0, 0)] {
         let refused = controller.step(&vec![0; inbox], &mut outbox[..length]);
         assert_eq!(refused, Err(Refusal::Length));
-        assert_eq!((&controller, outbox), (&before, [9; 12]));
+        assert_eq!((&controller, outbox), (&before, [9; 20]));
     }
     assert_eq!(controller.step(&[], &mut outbox), Ok(()));
-    assert_eq!(outbox, [1, 7, 7, 1, 7, 7, 1, 7, 7, 1, 7, 7]);
+    assert_eq!(outbox[..], slot(&[7, 7]).repeat(4));
     assert_eq!(controller.next_call(), 2);
 }
 
@@ -145,7 +165,7 @@ fn refused_steps() {
 #[test]
 fn a_run_that_hears_nothing() {
     let mut block = [7; 2];
-    let mut controller = Controller::start(SETTINGS, 2, &mut block).unwrap();
+    let mut controller = Controller::start(SETTINGS, 2, RUN, &mut block).unwrap();
     assert_eq!(controller.settings(), SETTINGS);
     for call in 1..=12 {
         assert_eq!(controller.next_call(), call);
@@ -169,13 +189,14 @@ fn a_run_that_hears_nothing() {
 /// Four controllers after their last call, each started with its block; `faulty` changes what arrives at each in a round.
 fn played(
     settings: Settings,
+    run: u16,
     blocks: &mut [[u8; 2]; 4],
-    faulty: impl Fn(usize, &mut [Vec<u8>]),
+    mut faulty: impl FnMut(usize, &mut [Vec<u8>]),
 ) -> Vec<Controller<'_>> {
     let mut controllers: Vec<Controller> = blocks
         .iter_mut()
         .zip(1..)
-        .map(|(block, own)| Controller::start(settings, own, block).unwrap())
+        .map(|(block, own)| Controller::start(settings, own, run, block).unwrap())
         .collect();
     let mut inboxes = vec![Vec::new(); 4];
     for call in 1..=12 {
@@ -207,19 +228,19 @@ fn runs_without_a_sender() {
     let faulty = |call, arriving: &mut [Vec<u8>]| {
         if call == 1 {
             for (to, inbox) in arriving.iter_mut().enumerate() {
-                assert_eq!(*inbox, [0; 12]);
-                inbox[9..].copy_from_slice(&[1, 0x0b, to as u8]);
+                assert_eq!(*inbox, [0; 20]);
+                inbox[15..].copy_from_slice(&slot(&[0x0b, to as u8]));
             }
         }
     };
     let mut blocks = [[0x0a, 0x14]; 4];
     blocks[3] = [7; 2];
-    for controller in &played(settings, &mut blocks, faulty)[..3] {
+    for controller in &played(settings, RUN, &mut blocks, faulty)[..3] {
         assert_eq!(controller.outcome(), Outcome::Agreed);
         assert_eq!(controller.final_block(), Some(&[0x0a, 0x14][..]));
     }
     let mut blocks = [[1, 2], [3, 5], [7, 11], [13, 17]];
-    for controller in &played(settings, &mut blocks, faulty)[..3] {
+    for controller in &played(settings, RUN, &mut blocks, faulty)[..3] {
         assert_eq!(controller.outcome(), Outcome::None);
         assert_eq!(controller.final_block(), Some(&[0, 0][..]));
         assert!(controller.named().is_empty());
@@ -231,12 +252,12 @@ fn runs_without_a_sender() {
 #[test]
 fn a_run_that_names_one() {
     let mut blocks = [[0x0a, 0x14], [7; 2], [7; 2], [7; 2]];
-    let mut controllers = played(SETTINGS, &mut blocks, |call, arriving| {
+    let mut controllers = played(SETTINGS, RUN, &mut blocks, |call, arriving| {
         if call == 11 {
-            let slot = SETTINGS.slot(11, 4);
-            assert_eq!(arriving[0][slot.clone()], [1, 0x5a]);
-            arriving[1][slot.clone()].copy_from_slice(&[1, 0x5b]);
-            arriving[2][slot].copy_from_slice(&[0, 0x5a]);
+            let place = SETTINGS.slot(11, 4);
+            assert_eq!(arriving[0][place.clone()], slot(&[0x5a]));
+            arriving[1][place.clone()].copy_from_slice(&slot(&[0x5b]));
+            arriving[2][place].copy_from_slice(&[0, 2, 1, 0x5a]);
         }
     });
     let expected = [Marks(0), Marks(0b1000), Marks(0b1000)];
@@ -246,6 +267,38 @@ fn a_run_that_names_one() {
         assert_eq!(controller.named(), named);
         assert_eq!(controller.step(&[], &mut []), Err(Refusal::Finished));
         assert_eq!(controller.named(), named);
+    }
+}
+
+/// Controller 4 is correct in a run, and in the next one repeats all that it sent, with the number of the first: it is read as silent, so the others name
+/// it. With the number of the second what it repeats counts.
+#[test]
+fn late_messages() {
+    for (first, second) in [(0, 1), (0, 256), (1, 0), (65535, 0), (RUN, 0x0201)] {
+        let mut blocks = [[0x0a, 0x14], [7; 2], [7; 2], [7; 2]];
+        let mut sent = Vec::new();
+        let controllers = played(SETTINGS, first, &mut blocks, |round, arriving| {
+            let of_4 = |inbox: &Vec<u8>| inbox[SETTINGS.slot(round, 4)].to_vec();
+            sent.push(arriving.iter().map(of_4).collect::<Vec<_>>());
+        });
+        assert!(controllers.iter().all(|c| c.named().is_empty()));
+        for (number, named) in [(first, Marks(0b1000)), (second, Marks(0))] {
+            let mut blocks = [[0x0a, 0x14], [7; 2], [7; 2], [7; 2]];
+            let late = |round: usize, arriving: &mut [Vec<u8>]| {
+                for (inbox, slot) in arriving.iter_mut().zip(&sent[round - 1]) {
+                    let place = &mut inbox[SETTINGS.slot(round, 4)];
+                    place.copy_from_slice(slot);
+                    if let [1, low, high, ..] = place {
+                        [*low, *high] = number.to_le_bytes();
+                    }
+                }
+            };
+            for controller in &played(SETTINGS, second, &mut blocks, late)[..3] {
+                assert_eq!(controller.outcome(), Outcome::Agreed);
+                assert_eq!(controller.final_block(), Some(&[0x0a, 0x14][..]));
+                assert_eq!(controller.named(), named);
+            }
+        }
     }
 }
 
@@ -270,17 +323,21 @@ fn marks() {
 
 #[test]
 fn messages() {
-    let inbox = [1, 10, 20, 2, 30, 40, 1, 50, 60];
-    assert_eq!(message(&inbox, 2, 3), Some(&inbox[7..9]));
+    let inbox = [1, 2, 1, 10, 20, 2, 2, 1, 30, 40, 1, 2, 1, 50, 60];
+    assert_eq!(message(&inbox, RUN, 2, 3), Some(&inbox[13..15]));
+    for run in [0, 1, 2, 0x0101, 0x0100, 0x0201, 65535] {
+        assert_eq!(message(&inbox, run, 2, 3), None);
+    }
     for (length, j) in [
         (2, 0),
         (2, 2),
         (2, 4),
         (2, usize::MAX),
         (usize::MAX, 1),
+        (usize::MAX - 2, 1),
         (0, 1),
     ] {
-        assert_eq!(message(&inbox, length, j), None);
+        assert_eq!(message(&inbox, RUN, length, j), None);
     }
 }
 
@@ -301,40 +358,63 @@ fn code() {
     assert_eq!(refused(1, 5, &[0x0a, 0x14]), Refusal::Number);
     assert_eq!(refused(1, 1, &[0x0a]), Refusal::Length);
     assert_eq!(refused(129, 1, &[0x0a]), Refusal::K);
-    let slots = |values: [u8; 4]| values.map(|value| [1, value]).concat();
+    let slots = |values: [u8; 4]| values.map(|value| slot(&[value])).concat();
     let right = [0x00, 0x22, 0x36, 0x5a];
     let mut block = [9; 2];
     assert_eq!(
-        decode(4, 1, 1, &slots(right)[1..], &mut block),
+        decode(4, 1, 1, RUN, &slots(right)[1..], &mut block),
         Err(Refusal::Length)
     );
-    assert_eq!(decode(4, 2, 1, &slots(right), &mut block), Err(Refusal::T));
+    assert_eq!(
+        decode(4, 2, 1, RUN, &slots(right), &mut block),
+        Err(Refusal::T)
+    );
     assert_eq!(block, [9; 2]);
     assert_eq!(
-        decode(4, 1, 1, &slots(right), &mut block),
+        decode(4, 1, 1, RUN, &slots(right), &mut block),
         Ok(Decoded::Block(Marks(0b0001)))
     );
     assert_eq!(block, [0x0a, 0x14]);
+    let wrong = slots([0x1e, 0x22, 0x37, 0x5b]);
     assert_eq!(
-        decode(4, 1, 1, &slots([0x1e, 0x22, 0x37, 0x5b]), &mut block),
+        decode(4, 1, 1, RUN, &wrong, &mut block),
         Ok(Decoded::Beyond)
     );
     assert_eq!(block, [0; 2]);
+}
+
+/// A slot whose run number differs in either byte is dropped and named, with its true piece; with three of them there is no block.
+#[test]
+fn slots_of_another_run() {
+    for other in [0, 2, 0x0101, 0x0100, 0x0201, 65535_u16] {
+        let mut slots = [0x1e, 0x22, 0x36, 0x5a].map(|piece| slot(&[piece]));
+        let answers = [
+            (2, Decoded::Block(Marks(0b0100)), [0x0a, 0x14]),
+            (0, Decoded::Block(Marks(0b0101)), [0x0a, 0x14]),
+            (3, Decoded::Beyond, [0, 0]),
+        ];
+        for (late, answer, left) in answers {
+            slots[late][1..3].copy_from_slice(&other.to_le_bytes());
+            let mut block = [9; 2];
+            let decoded = decode(4, 1, 1, RUN, &slots.concat(), &mut block);
+            assert_eq!((decoded, block), (Ok(answer), left), "{other}");
+        }
+    }
 }
 
 /// The marks that decoding writes: three stripes 0a14 of which each has another false value; none for beyond; refused, they stay.
 #[test]
 fn marks_of_decoding() {
     let mut slots = [
-        [1, 0x1e, 0x00, 0x1e],
-        [1, 0x22, 0x22, 0x00],
-        [1, 0x36, 0x36, 0x36],
-        [1, 0x00, 0x5a, 0x5a],
+        [1, 2, 1, 0x1e, 0x00, 0x1e],
+        [1, 2, 1, 0x22, 0x22, 0x00],
+        [1, 2, 1, 0x36, 0x36, 0x36],
+        [1, 2, 1, 0x00, 0x5a, 0x5a],
     ];
     let mut block = [9; 6];
     let mut decode = |slots: &[u8]| {
         let mut named = 0x1234;
-        let number = raw::decode(4, 1, 3, slots, &mut block, &mut named);
+        let number = raw::decode(4, 1, 3, RUN, slots, &mut block, &mut named);
         (number, named, block)
     };
     let (number, named, left) = decode(&slots.concat()[1..]);
@@ -343,15 +423,15 @@ fn marks_of_decoding() {
     assert_eq!((number, named), (raw::OK, 0b1011));
     assert_eq!(left, [0x0a, 0x14, 0x0a, 0x14, 0x0a, 0x14]);
     // all true, though 3 is absent
-    slots[0] = [1, 0x1e, 0x1e, 0x1e];
-    slots[1] = [1, 0x22, 0x22, 0x22];
-    slots[2] = [2, 0x36, 0x36, 0x36];
-    slots[3] = [1, 0x5a, 0x5a, 0x5a];
+    slots[0] = [1, 2, 1, 0x1e, 0x1e, 0x1e];
+    slots[1] = [1, 2, 1, 0x22, 0x22, 0x22];
+    slots[2] = [2, 2, 1, 0x36, 0x36, 0x36];
+    slots[3] = [1, 2, 1, 0x5a, 0x5a, 0x5a];
     let (number, named, left) = decode(&slots.concat());
     assert_eq!((number, named), (raw::OK, 0b0100));
     assert_eq!(left, [0x0a, 0x14, 0x0a, 0x14, 0x0a, 0x14]);
     // of three present none may be false
-    slots[3][3] = 0;
+    slots[3][5] = 0;
     let answer = decode(&slots.concat());
     assert_eq!(answer, (raw::BEYOND, 0, [0; 6]));
 }
@@ -361,16 +441,16 @@ fn marks_of_decoding() {
 #[test]
 fn silent_slots() {
     let expected = [0x0a, 0x14, 0x1e];
-    let mut all = [1; 14];
+    let mut all = [[1, 2, 1, 0]; 7];
     for i in 0..7 {
-        let piece = &mut all[2 * i + 1..2 * i + 2];
+        let piece = &mut all[i][3..];
         assert_eq!(encode(7, 2, 1, i + 1, &expected, piece), Ok(()));
     }
     for silent in 0..1u8 << 7 {
         let mut slots = all;
         for i in (0..7).filter(|i| silent >> i & 1 == 1) {
-            slots[2 * i] = 0;
-            slots[2 * i + 1] ^= 0xff;
+            slots[i][0] = 0;
+            slots[i][3] ^= 0xff;
         }
         let (answer, left) = if silent.count_ones() <= 4 {
             (Decoded::Block(Marks(silent.into())), expected)
@@ -378,19 +458,22 @@ fn silent_slots() {
             (Decoded::Beyond, [0; 3])
         };
         let mut block = [9; 3];
-        assert_eq!(decode(7, 2, 1, &slots, &mut block), Ok(answer));
-        assert_eq!(block, left);
+        let decoded = decode(7, 2, 1, RUN, &slots.concat(), &mut block);
+        assert_eq!((decoded, block), (Ok(answer), left));
     }
     let mut slots = all;
-    (slots[0], slots[6], slots[9]) = (0, 0, !slots[9]);
+    (slots[0][0], slots[3][0], slots[4][3]) = (0, 0, !slots[4][3]);
     let mut block = [9; 3];
     assert_eq!(
-        decode(7, 2, 1, &slots, &mut block),
+        decode(7, 2, 1, RUN, &slots.concat(), &mut block),
         Ok(Decoded::Block(Marks(0b001_1001)))
     );
     assert_eq!(block, expected);
-    slots[2] = 0;
-    assert_eq!(decode(7, 2, 1, &slots, &mut block), Ok(Decoded::Beyond));
+    slots[1][0] = 0;
+    assert_eq!(
+        decode(7, 2, 1, RUN, &slots.concat(), &mut block),
+        Ok(Decoded::Beyond)
+    );
 }
 
 /// Examples g and h of document 01: the pairs that are not neighbours, in rows and as bits. The bits of numbers past 4 are set.

@@ -4,16 +4,19 @@ use crate::random::Random;
 use crate::timing::{in_turns, print_table, ratio, Side, BEFORE, REPETITIONS};
 use potekawhi::raw;
 use reference::code;
+use reference::wire::{slot_with, FRONT};
 use std::hint::black_box;
 
 const N: usize = 16;
+/// The run number of all slots.
+pub const RUN: u16 = 513;
 
 /// What the marks that a call writes are set to before it.
 const NAMED_BEFORE: u16 = u16::from_le_bytes([BEFORE; 2]);
 
 /// The library's functions as `raw` has them, or those of another version.
 type Encode = fn(usize, usize, usize, usize, &[u8], &mut [u8]) -> u8;
-type Decode = fn(usize, usize, usize, &[u8], &mut [u8], &mut u16) -> u8;
+type Decode = fn(usize, usize, usize, u16, &[u8], &mut [u8], &mut u16) -> u8;
 
 /// A block, its pieces, slots of them of which some are false, and the marks of these; and what a call writes.
 pub struct Case {
@@ -60,8 +63,7 @@ impl Case {
                     marks |= 1 << i;
                 }
             }
-            slots.push(1);
-            slots.extend(sent);
+            slots.extend(slot_with(RUN, &sent));
         }
         Case {
             t,
@@ -79,7 +81,7 @@ impl Case {
     /// The same with the slots at these indices absent, all 00.
     pub fn without(mut self, absent: impl IntoIterator<Item = usize>) -> Case {
         for i in absent {
-            self.slots[i * (1 + self.k)..][..1 + self.k].fill(0);
+            self.slots[i * (FRONT + self.k)..][..FRONT + self.k].fill(0);
             self.marks |= 1 << i;
         }
         self
@@ -90,14 +92,14 @@ impl Case {
         self.named = NAMED_BEFORE;
         let slots = black_box(&self.slots);
         let (decoded, named) = black_box((&mut self.decoded, &mut self.named));
-        let number = decode(N, self.t, self.k, slots, decoded, named);
+        let number = decode(N, self.t, self.k, RUN, slots, decoded, named);
         assert_eq!(number, 0);
     }
 
     fn decode_by_peer(&mut self) {
         self.decoded.fill(BEFORE);
         let slots = black_box(&self.slots);
-        let found = peer::decode(self.t, self.k, slots, black_box(&mut self.decoded));
+        let found = peer::decode(self.t, self.k, RUN, slots, black_box(&mut self.decoded));
         assert!(found);
     }
 
@@ -147,7 +149,7 @@ fn compare_answer(random: &mut Random, t: usize, present: usize, wrong: usize) -
     let absent = (0..N).filter(|i| !slots.contains(i));
     let mut case = Case::new(random, t, 8, &[]).without(absent);
     for i in random.choice(present, wrong) {
-        let piece = slots[i] * (1 + case.k) + 1;
+        let piece = slots[i] * (FRONT + case.k) + FRONT;
         case.marks |= 1 << slots[i];
         case.slots[piece] ^= 1 + random.below(255) as u8;
         for s in 1..case.k {
@@ -156,8 +158,8 @@ fn compare_answer(random: &mut Random, t: usize, present: usize, wrong: usize) -
     }
     let mut by_peer = vec![!BEFORE; case.block.len()];
     let (decoded, named) = (&mut case.decoded, &mut case.named);
-    let number = raw::decode(N, t, case.k, &case.slots, decoded, named);
-    let found = peer::decode(t, case.k, &case.slots, &mut by_peer);
+    let number = raw::decode(N, t, case.k, RUN, &case.slots, decoded, named);
+    let found = peer::decode(t, case.k, RUN, &case.slots, &mut by_peer);
     assert_eq!(number, if found { 0 } else { raw::BEYOND });
     assert_eq!(case.decoded, by_peer);
     let right = 2 * wrong + t + 1 <= present;

@@ -1,4 +1,4 @@
-//! Coding and the star beside an earlier version of the library, in one run: one from request U1 of document 02 on, whose decoding writes marks
+//! Coding and the star beside an earlier version of the library, in one run: one from request U11 of document 02 on, whose decoding takes a run number
 //! as today's does. Only with the feature `earlier`; build.rs gives the functions of that version their other names.
 use crate::coding::Case;
 use crate::random::Random;
@@ -20,6 +20,7 @@ extern "C" {
         n: usize,
         t: usize,
         k: usize,
+        run: u16,
         slots: *const u8,
         slots_length: usize,
         block: *mut u8,
@@ -52,13 +53,22 @@ fn encode(n: usize, t: usize, k: usize, number: usize, block: &[u8], piece: &mut
     }
 }
 
-fn decode(n: usize, t: usize, k: usize, slots: &[u8], block: &mut [u8], named: &mut u16) -> u8 {
+fn decode(
+    n: usize,
+    t: usize,
+    k: usize,
+    run: u16,
+    slots: &[u8],
+    block: &mut [u8],
+    named: &mut u16,
+) -> u8 {
     // SAFETY: the pointers and lengths are those of slices and of a number, of which those written overlap no other.
     unsafe {
         earlier_decode(
             n,
             t,
             k,
+            run,
             slots.as_ptr(),
             slots.len(),
             block.as_mut_ptr(),

@@ -7,6 +7,8 @@
 
 /// The most points that there are.
 const POINTS: usize = 16;
+/// The bytes of a slot in front of its piece.
+const FRONT: usize = 3;
 /// The exponent that stands for 00: a sum with it is past every sum of two other exponents, where `POWERS` has zeros.
 const OF_ZERO: u16 = 510;
 
@@ -172,14 +174,15 @@ fn coefficients<const M: usize>(points: &[u8; M]) -> [[u8; M]; M] {
     rows
 }
 
-/// The block of slots of a byte and a piece of k bytes, present where the byte is 01; whether there is one. Else the block is zeros.
-pub fn decode(t: usize, k: usize, slots: &[u8], block: &mut [u8]) -> bool {
+/// The block of slots of a byte, a run number, low byte first, and a piece of k bytes, present where the byte is 01 and the number that of the run;
+/// whether there is one. Else the block is zeros.
+pub fn decode(t: usize, k: usize, run: u16, slots: &[u8], block: &mut [u8]) -> bool {
     let found = match t {
-        1 => decode_by::<2>(k, slots, block),
-        2 => decode_by::<3>(k, slots, block),
-        3 => decode_by::<4>(k, slots, block),
-        4 => decode_by::<5>(k, slots, block),
-        5 => decode_by::<6>(k, slots, block),
+        1 => decode_by::<2>(k, run, slots, block),
+        2 => decode_by::<3>(k, run, slots, block),
+        3 => decode_by::<4>(k, run, slots, block),
+        4 => decode_by::<5>(k, run, slots, block),
+        5 => decode_by::<6>(k, run, slots, block),
         _ => panic!("t is not 1 to 5"),
     };
     if !found {
@@ -189,15 +192,16 @@ pub fn decode(t: usize, k: usize, slots: &[u8], block: &mut [u8]) -> bool {
 }
 
 /// The same with sets of M slots, which is t + 1, but for the zeros.
-fn decode_by<const M: usize>(k: usize, slots: &[u8], block: &mut [u8]) -> bool {
+fn decode_by<const M: usize>(k: usize, run: u16, slots: &[u8], block: &mut [u8]) -> bool {
     // the numbers of the present slots, and their values stripe by stripe
     let mut points = Vec::with_capacity(POINTS);
     let mut stripes = vec![[0; POINTS]; k];
-    for (point, slot) in (1..).zip(slots.chunks_exact(1 + k)) {
-        if slot[0] == 1 {
+    let [low, high] = run.to_le_bytes();
+    for (point, slot) in (1..).zip(slots.chunks_exact(FRONT + k)) {
+        if slot[..FRONT] == [1, low, high] {
             let i = points.len();
             assert!(i < POINTS, "more slots than points");
-            for (values, &value) in stripes.iter_mut().zip(&slot[1..]) {
+            for (values, &value) in stripes.iter_mut().zip(&slot[FRONT..]) {
                 values[i] = value;
             }
             points.push(point);

@@ -4,6 +4,7 @@ use crate::random::Random;
 use crate::timing::{figure, print_table, ratio, Times};
 use potekawhi::raw;
 use reference::controller::{self, Outcome, State};
+use reference::wire::{slot_with, FRONT};
 use std::hint::black_box;
 use std::time::Instant;
 
@@ -12,6 +13,8 @@ const T: usize = 5;
 const K: usize = 128;
 /// A correct controller in all runs.
 const SENDER: usize = 11;
+/// The run number of all runs.
+const RUN: u16 = 513;
 /// `POTEKAWHI_OUTCOME_AGREED`.
 const AGREED: u8 = 1;
 
@@ -31,7 +34,7 @@ struct OfLibrary {
 impl Controller for OfLibrary {
     fn start(own: usize, block: Vec<u8>) -> Self {
         let mut state = [0; raw::STATE_LENGTH];
-        assert_eq!(raw::start(N, T, K, own, SENDER, &block, &mut state), 0);
+        assert_eq!(raw::start(N, T, K, own, SENDER, RUN, &block, &mut state), 0);
         OfLibrary { state, block }
     }
 
@@ -53,7 +56,7 @@ struct OfReference {
 
 impl Controller for OfReference {
     fn start(own: usize, block: Vec<u8>) -> Self {
-        let (number, state) = controller::start(N, T, K, own, SENDER, &block);
+        let (number, state) = controller::start(N, T, K, own, SENDER, RUN, &block);
         assert_eq!(number, 0);
         OfReference { state, block }
     }
@@ -89,7 +92,7 @@ impl System {
         let mut garbled = Vec::new();
         for c in 1..raw::calls(T) {
             let length = raw::message_length(N, T, K, c);
-            let slot = |_| [vec![1], random.bytes(length)].concat();
+            let slot = |_| slot_with(RUN, &random.bytes(length));
             garbled.push((0..N * N).map(slot).collect());
         }
         System {
@@ -140,7 +143,7 @@ impl System {
 
     /// What arrives at j in round c.
     fn inbox(&self, c: usize, j: usize, outboxes: &[Vec<u8>]) -> Vec<u8> {
-        let width = 1 + raw::message_length(N, T, K, c);
+        let width = FRONT + raw::message_length(N, T, K, c);
         let mut sent = outboxes.iter();
         let slot = |i: usize| {
             if self.faulty.contains(&i) {

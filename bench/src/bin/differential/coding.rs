@@ -1,11 +1,12 @@
-//! encode and decode, with the marks that it writes: right and wrong settings and lengths, any numbers of absent slots and of false pieces, which
-//! are false in all stripes or in some, random slots.
+//! encode and decode, with the marks that it writes: right and wrong settings and lengths, any run number, any numbers of absent slots, some of them
+//! by their run number, and of false pieces, which are false in all stripes or in some, random slots.
 use crate::compare::{wrong_length, Lent, Same, Tally};
-use crate::inputs::{self, EDGES, STRIPES};
+use crate::inputs::{self, of_another_run, EDGES, STRIPES};
 use crate::random::Random;
 use potekawhi::raw;
 use reference::code::{self, Decoded};
 use reference::controller::State;
+use reference::wire::{in_slot, slot_with, FRONT};
 
 /// Numbers of stripes: the least, the most, and some at and beside powers of 2.
 const LENGTHS: [usize; 11] = [1, 2, 3, 15, 16, 17, 31, 32, 33, 127, 128];
@@ -29,9 +30,13 @@ pub struct Counts {
     /// Blocks with a present piece that is false in some stripes and true in others; and with more such pieces than are corrected in a stripe.
     pub partly: u64,
     pub many_partly: u64,
+    /// Blocks with the mark of a slot of another run; and of one that has the true piece.
+    pub other_run: u64,
+    pub other_run_true: u64,
     pub beyonds: u64,
-    /// Beyond with at most t slots present.
+    /// Beyond with at most t slots present; and of these with more than t whose first byte is 01.
     pub few_present: u64,
+    pub few_of_run: u64,
     pub decode_refused: u64,
 }
 
@@ -98,17 +103,18 @@ pub fn decode(tally: &mut Tally, random: &mut Random, counts: &mut Counts) -> Sa
         n,
         t,
         k,
+        run: random.run(),
         ..State::default()
     };
     let message = inputs::some_block(random, k * (t + 1));
     let mut slots = match random.below(16) {
         0 => {
             let pieces: Vec<_> = (0..n).map(|_| random.bytes(k)).collect();
-            some_absent(random, &pieces)
+            some_absent(random, coded.run, &pieces)
         }
         1 if !inputs::costly(n, t, k) => {
             let pieces = mixed(random, &coded, &message);
-            some_absent(random, &pieces)
+            some_absent(random, coded.run, &pieces)
         }
         _ => inputs::received(random, &coded, &message),
     };
@@ -129,8 +135,19 @@ pub fn decode(tally: &mut Tally, random: &mut Random, counts: &mut Counts) -> Sa
             block.resize(wrong_length(random, block.len()), 1);
         }
     }
-
-    compare_decoding(tally, random, counts, (n, t, k), &slots, &mut block)
+    // now and then the slots of the run are those of another
+    let mut run = coded.run;
+    if random.one_in(24) {
+        run = random.other_run(run);
+    }
+    let given = State {
+        n,
+        t,
+        k,
+        run,
+        ..State::default()
+    };
+    compare_decoding(tally, random, counts, &given, &slots, &mut block)
 }
 
 /// n, t, the number of present slots, and how many of these are false in every stripe: all that there are.
@@ -154,12 +171,13 @@ pub fn decode_count(
         n,
         t,
         k,
+        run: random.run(),
         ..State::default()
     };
     let message = inputs::some_block(random, k * (t + 1));
     let slots = inputs::received_with(random, &coded, &message, present, wrong);
     let mut block = random.bytes(k * (t + 1));
-    compare_decoding(tally, random, counts, (n, t, k), &slots, &mut block)
+    compare_decoding(tally, random, counts, &coded, &slots, &mut block)
 }
 
 /// Pieces that are false in some stripes only. The library guesses all stripes from t + 1 slots that it has not seen to be false, decodes by
@@ -188,23 +206,25 @@ pub fn decode_partly(
         n,
         t,
         k,
+        run: random.run(),
         ..State::default()
     };
     let message = inputs::some_block(random, k * (t + 1));
     let slots = inputs::received_partly(random, &coded, &message, stripes);
     let mut block = random.bytes(k * (t + 1));
-    compare_decoding(tally, random, counts, (n, t, k), &slots, &mut block)
+    compare_decoding(tally, random, counts, &coded, &slots, &mut block)
 }
 
-/// What library and reference answer to the same slots.
+/// What library and reference answer to the same slots, in the run and with n, t and k of `given`.
 fn compare_decoding(
     tally: &mut Tally,
     random: &mut Random,
     counts: &mut Counts,
-    (n, t, k): (usize, usize, usize),
+    given: &State,
     slots: &[u8],
     block: &mut [u8],
 ) -> Same<()> {
+    let State { n, t, k, run, .. } = *given;
     let lent_slots = Lent::new(random, slots);
     let mut lent_block = Lent::new(random, block);
     // the marks lie between margins too
@@ -214,11 +234,12 @@ fn compare_decoding(
         n,
         t,
         k,
+        run,
         lent_slots.bytes(),
         lent_block.bytes_mut(),
         &mut marks[1],
     );
-    let (expected, named) = match code::decode(n as u64, t as u64, k as u64, slots, block) {
+    let (expected, named) = match code::decode(n as u64, t as u64, k as u64, run, slots, block) {
         Decoded::Block(named) => (0, named),
         Decoded::Beyond => (255, 0),
         Decoded::Refused(number) => (number, before),
@@ -229,25 +250,29 @@ fn compare_decoding(
         tally.same_lent("decode's block", &lent_block, block)?;
         tally.same_lent("decode's slots", &lent_slots, slots)
     };
-    let place = |text| format!("n {n}, t {t}, k {k}: {text}");
+    let place = |text| format!("n {n}, t {t}, k {k}, run {run}: {text}");
     compare().map_err(place)?;
-    let present = || slots.chunks(1 + k).filter(|slot| slot[0] == 1).count();
+    let count = |test: fn(&[u8], u16) -> bool| {
+        let slots = slots.chunks(FRONT + k);
+        slots.filter(|slot| test(slot, run)).count()
+    };
+    let present = || count(|slot, run| in_slot(slot, run).is_some());
     match answer {
         0 => {
-            let coded = State {
-                n,
-                t,
-                k,
-                ..State::default()
-            };
-            let (present, differing) = (present(), most_differing(&coded, slots, block));
+            let (present, differing) = (present(), most_differing(given, slots, block));
             let right = 2 * differing + t + 1 <= present;
             tally
                 .holds("2 * differing + t + 1 <= present", right)
                 .map_err(place)?;
-            let (unlike, later, partly) = unlike_slots(&coded, slots, block);
+            let Unlike {
+                all,
+                later,
+                partly,
+                other_run,
+                other_run_true,
+            } = unlike_slots(given, slots, block);
             tally
-                .holds("marks of the slots unlike the block's", named == unlike)
+                .holds("marks of the slots unlike the block's", named == all)
                 .map_err(place)?;
             counts.blocks += 1;
             counts.many_false += u64::from(differing > t);
@@ -258,10 +283,14 @@ fn compare_decoding(
             counts.partly += u64::from(partly != 0);
             let many = 2 * partly.count_ones() as usize + t + 1 > present;
             counts.many_partly += u64::from(partly != 0 && many);
+            counts.other_run += u64::from(other_run != 0);
+            counts.other_run_true += u64::from(other_run_true != 0);
         }
         255 => {
+            let few = present() <= t;
             counts.beyonds += 1;
-            counts.few_present += u64::from(present() <= t);
+            counts.few_present += u64::from(few);
+            counts.few_of_run += u64::from(few && count(|slot, _| slot[0] == 1) > t);
         }
         _ => counts.decode_refused += 1,
     }
@@ -271,33 +300,53 @@ fn compare_decoding(
 /// The most present values of a stripe that differ from the code of a block.
 fn most_differing(state: &State, slots: &[u8], block: &[u8]) -> usize {
     let mut differing = vec![0; state.k];
-    for (number, slot) in (1..).zip(slots.chunks(1 + state.k)) {
+    for (number, slot) in (1..).zip(slots.chunks(FRONT + state.k)) {
         let piece = inputs::piece(state, number, block);
-        for s in (0..state.k).filter(|&s| slot[0] == 1 && slot[1 + s] != piece[s]) {
+        let received = in_slot(slot, state.run).unwrap_or(&piece);
+        for s in (0..state.k).filter(|&s| received[s] != piece[s]) {
             differing[s] += 1;
         }
     }
     differing.into_iter().fold(0, usize::max)
 }
 
-/// The marks of the slots that are unlike those of a block's pieces, of those among them whose first two bytes are alike, and of the present ones
-/// that are unlike in some stripes only.
-fn unlike_slots(state: &State, slots: &[u8], block: &[u8]) -> (u16, u16, u16) {
-    let (mut unlike, mut later, mut partly) = (0, 0, 0);
-    for (i, slot) in slots.chunks(1 + state.k).enumerate() {
-        let right = [vec![1], inputs::piece(state, i + 1, block)].concat();
-        let alike = (1..=state.k).any(|s| slot[s] == right[s]);
-        unlike |= u16::from(slot != right) << i;
-        later |= u16::from(slot != right && slot[..2] == right[..2]) << i;
-        partly |= u16::from(slot != right && slot[0] == 1 && alike) << i;
-    }
-    (unlike, later, partly)
+/// The marks of the slots that are unlike those of a block's pieces: of all; of those present whose first piece byte is alike; of those present that are
+/// unlike in some stripes only; of those of another run; and of these, of those with the piece.
+#[derive(Default)]
+struct Unlike {
+    all: u16,
+    later: u16,
+    partly: u16,
+    other_run: u16,
+    other_run_true: u16,
 }
 
-/// The slots of pieces, all present or some absent.
-fn some_absent(random: &mut Random, pieces: &[Vec<u8>]) -> Vec<u8> {
+fn unlike_slots(state: &State, slots: &[u8], block: &[u8]) -> Unlike {
+    let mut unlike = Unlike::default();
+    for (i, slot) in slots.chunks(FRONT + state.k).enumerate() {
+        let right = slot_with(state.run, &inputs::piece(state, i + 1, block));
+        if slot == right {
+            continue;
+        }
+        let mark = 1 << i;
+        let alike = |s: usize| slot[FRONT + s] == right[FRONT + s];
+        unlike.all |= mark;
+        if in_slot(slot, state.run).is_some() {
+            unlike.later |= if alike(0) { mark } else { 0 };
+            unlike.partly |= if (0..state.k).any(alike) { mark } else { 0 };
+        }
+        if of_another_run(slot, state.run) {
+            unlike.other_run |= mark;
+            unlike.other_run_true |= if (0..state.k).all(alike) { mark } else { 0 };
+        }
+    }
+    unlike
+}
+
+/// The slots of pieces in a run, all present or some absent.
+fn some_absent(random: &mut Random, run: u16, pieces: &[Vec<u8>]) -> Vec<u8> {
     let absent = random.pick(&[0, 0, 0, 1, 2, 8]);
-    let slot = |piece: &Vec<u8>| inputs::slot(random, piece, absent);
+    let slot = |piece: &Vec<u8>| inputs::slot(random, run, piece, absent);
     pieces.iter().flat_map(slot).collect()
 }
 

@@ -107,7 +107,7 @@ pub struct After {
     pub outbox: Vec<u8>,
 }
 
-/// The settings and the own number of a start.
+/// The settings, the own number and the run number of a start.
 #[derive(Debug, Clone, Copy)]
 pub struct Start {
     pub n: usize,
@@ -115,6 +115,7 @@ pub struct Start {
     pub k: usize,
     pub own: usize,
     pub sender: usize,
+    pub run: u16,
 }
 
 /// A start on both sides, with a state of `length` random bytes lent to the library; refused, they stay.
@@ -131,14 +132,15 @@ pub fn start(
         k,
         own,
         sender,
+        run,
     } = start;
     let dirty = random.bytes(length);
     let mut lent_state = Lent::new(random, &dirty);
     let lent_block = Lent::new(random, block);
     let bytes = lent_block.bytes();
-    let number = raw::start(n, t, k, own, sender, bytes, lent_state.bytes_mut());
+    let number = raw::start(n, t, k, own, sender, run, bytes, lent_state.bytes_mut());
     let (expected, after, expected_bytes) = if length == state::LENGTH {
-        match controller::start(n, t, k, own, sender, block) {
+        match controller::start(n, t, k, own, sender, run, block) {
             (0, after) => (0, after, state::to_bytes(&after)),
             (refused, _) => (refused, state::from_bytes(&dirty), dirty),
         }
@@ -218,7 +220,7 @@ pub fn queries(
 ) -> Same<()> {
     ask(tally, random, state, bytes, block, block.len())?;
     if random.one_in(16) {
-        let length = random.pick(&[0, 1, 115, 116, 118, 234]);
+        let length = random.pick(&[0, 1, 116, 117, 118, 120, 238]);
         let mut other = bytes.to_vec();
         other.resize(length, 0xff);
         ask(tally, random, state, &other, block, block.len())?;

@@ -1,7 +1,7 @@
 //! Steps on states that no run reaches: states of runs with some bytes changed, states of random bytes, and states with right settings and
 //! random contents.
 use crate::compare::{self, wrong_length, Same, Tally};
-use crate::inputs::{self, EDGES};
+use crate::inputs::{self, of_another_run, EDGES};
 use crate::random::Random;
 use crate::state;
 use crate::systems::Snapshot;
@@ -17,6 +17,8 @@ pub struct Counts {
     pub calls: [u64; 10],
     /// Steps on states that name somebody: calls but the last, last calls, refused ones.
     pub naming: [u64; 3],
+    /// Steps carried out on inboxes with slots of another run.
+    pub other_run: u64,
 }
 
 /// A state that makes a call, if the lengths are right.
@@ -93,6 +95,7 @@ fn built(random: &mut Random) -> Vec<u8> {
         weak,
         core,
         named,
+        run: random.run(),
         ..State::default()
     });
     let any = random.byte();
@@ -169,6 +172,8 @@ pub fn case(
         let row = wire::call_row(state.t as u128, state.next as u128);
         counts.calls[row - 1] += 1;
         counts.naming[usize::from(row == 10)] += u64::from(state.named != 0);
+        let mut slots = inbox.chunks((inbox.len() / state.n).max(1));
+        counts.other_run += u64::from(slots.any(|slot| of_another_run(slot, state.run)));
         bytes = after.bytes;
         block = Some(after.block);
     }

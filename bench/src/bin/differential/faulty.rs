@@ -2,11 +2,11 @@
 use crate::inputs::{other_presence, piece};
 use crate::random::Random;
 use crate::system::System;
-use reference::wire;
+use reference::wire::{self, slot_with, FRONT};
 
 /// How a faulty controller chooses what it sends: the chances of its strategies.
 pub struct Behaviour {
-    weights: [usize; 6],
+    weights: [usize; 7],
     /// One choice for all recipients of a round.
     alike: bool,
     /// Before this round it sends what a correct one does.
@@ -21,31 +21,40 @@ pub enum Strategy {
     Garble,
     Replay,
     Structured,
+    Late,
 }
 
-const STRATEGIES: [Strategy; 6] = [
+const STRATEGIES: [Strategy; 7] = [
     Strategy::Correct,
     Strategy::Silent,
     Strategy::Random,
     Strategy::Garble,
     Strategy::Replay,
     Strategy::Structured,
+    Strategy::Late,
 ];
 
 impl Behaviour {
-    /// A behaviour that begins with the given round.
-    pub fn new(random: &mut Random, first: usize) -> Behaviour {
-        let weights = random.pick(&[
-            [1, 1, 1, 1, 1, 1],
-            [0, 0, 0, 0, 0, 1],
-            [4, 0, 0, 0, 0, 4],
-            [8, 1, 1, 1, 1, 2],
-            [0, 0, 0, 1, 0, 0],
-            [2, 0, 0, 4, 1, 1],
-            [1, 1, 0, 0, 4, 1],
-            [0, 1, 0, 0, 0, 0],
-            [0, 0, 1, 0, 0, 0],
+    /// A behaviour that begins with the given round; after another run mostly one with late slots.
+    pub fn new(random: &mut Random, first: usize, second_run: bool) -> Behaviour {
+        let late = random.pick(&[[0, 0, 0, 0, 0, 0, 1], [2, 0, 0, 0, 0, 1, 4]]);
+        let any = random.pick(&[
+            [1, 1, 1, 1, 1, 1, 1],
+            [0, 0, 0, 0, 0, 1, 0],
+            [4, 0, 0, 0, 0, 4, 0],
+            [8, 1, 1, 1, 1, 2, 1],
+            [0, 0, 0, 1, 0, 0, 0],
+            [2, 0, 0, 4, 1, 1, 0],
+            [1, 1, 0, 0, 4, 1, 0],
+            [0, 1, 0, 0, 0, 0, 0],
+            [0, 0, 1, 0, 0, 0, 0],
+            [0, 0, 0, 0, 0, 0, 1],
         ]);
+        let weights = if second_run && !random.one_in(3) {
+            late
+        } else {
+            any
+        };
         Behaviour {
             weights,
             alike: random.one_in(3),
@@ -73,7 +82,7 @@ pub fn slots(
             STRATEGIES[random.weighted(&behaviour.weights)]
         };
         let slot = slot(random, system, round, from, to, strategy);
-        assert_eq!(slot.len(), 1 + system.message_length(round));
+        assert_eq!(slot.len(), FRONT + system.message_length(round));
         slots.push(slot);
     }
     slots
@@ -92,27 +101,37 @@ fn slot(
     match strategy {
         Strategy::Correct => correct,
         Strategy::Silent => {
-            let mut slot = vec![0; 1 + length];
+            let mut slot = vec![0; FRONT + length];
             if random.one_in(2) {
-                slot = random.bytes(1 + length);
+                slot = slot_with(system.run, &random.bytes(length));
                 slot[0] = other_presence(random);
             }
             slot
         }
-        Strategy::Random => {
-            let mut slot = random.bytes(1 + length);
-            if !random.one_in(16) {
-                slot[0] = 1;
-            }
-            slot
-        }
+        Strategy::Random if random.one_in(16) => random.bytes(FRONT + length),
+        Strategy::Random => slot_with(system.run, &random.bytes(length)),
         Strategy::Garble => garbled(random, correct),
         Strategy::Replay => replayed(random, system, round, from, to),
         Strategy::Structured => {
-            let mut slot = vec![1];
-            slot.extend(structured(random, system, round, from, to));
-            slot
+            let message = structured(random, system, round, from, to);
+            slot_with(system.run, &message)
         }
+        Strategy::Late => late(random, system, round, from, to),
+    }
+}
+
+/// The slot of the same round of the run before, with that run's number; or what a correct one would send, or another message of the round's form, with
+/// the number of another run, which is the rule where there was no run before.
+fn late(random: &mut Random, system: &System, round: usize, from: usize, to: usize) -> Vec<u8> {
+    if let Some(slot) = system.sent_before(round, from, to) {
+        if !random.one_in(4) {
+            return slot.to_vec();
+        }
+    }
+    let other = random.other_run(system.run);
+    match wire::in_slot(system.sent(round, from, to), system.run) {
+        Some(message) if random.one_in(2) => slot_with(other, message),
+        _ => slot_with(other, &structured(random, system, round, from, to)),
     }
 }
 
@@ -128,7 +147,7 @@ fn garbled(random: &mut Random, mut slot: Vec<u8>) -> Vec<u8> {
         }
         _ => {
             for _ in 0..random.within(1, 4) {
-                let at = random.within(1, slot.len() - 1);
+                let at = random.within(FRONT, slot.len() - 1);
                 slot[at] ^= 1 << random.below(8);
             }
         }
@@ -152,8 +171,8 @@ fn replayed(random: &mut Random, system: &System, round: usize, from: usize, to:
     };
     let (source, target) = (other(random, from), other(random, to));
     let slot = system.sent(old, source, target);
-    let (first, message) = (slot[0], &slot[1..]);
-    let mut copy = vec![first];
+    let (front, message) = slot.split_at(FRONT);
+    let mut copy = front.to_vec();
     copy.extend(
         message
             .iter()
@@ -204,8 +223,8 @@ fn structured(
                     (0..n).filter(group).map(|i| 1 << i).sum()
                 }
                 2 => u16::from_le_bytes([
-                    system.sent(round, from, to)[1],
-                    system.sent(round, from, to)[2],
+                    system.sent(round, from, to)[FRONT],
+                    system.sent(round, from, to)[FRONT + 1],
                 ]),
                 _ => random.word(),
             };
@@ -223,7 +242,7 @@ fn structured(
                 0 => [zeros.iter().map(|byte| !byte).collect(), zeros].concat(),
                 // what a correct one would say, changed in one part
                 1 => {
-                    let correct = &system.sent(round, from, to)[1..];
+                    let correct = &system.sent(round, from, to)[FRONT..];
                     if random.one_in(2) {
                         [&correct[..2 * n], &ones].concat()
                     } else {

@@ -232,18 +232,24 @@ fn cycles(random: &mut Random, n: usize) -> Vec<(usize, usize)> {
     pairs
 }
 
-/// A slot: mostly present with the message; now and then absent, with zeros or with the message behind another byte.
-pub fn slot(random: &mut Random, message: &[u8], absent_in_16: usize) -> Vec<u8> {
-    let mut slot = vec![1];
-    slot.extend(message);
+/// A slot in a run: mostly present with the message; now and then absent, with zeros, or with the message behind another first byte or the number of
+/// another run.
+pub fn slot(random: &mut Random, run: u16, message: &[u8], absent_in_16: usize) -> Vec<u8> {
+    let mut slot = wire::slot_with(run, message);
     if random.below(16) < absent_in_16 {
-        match random.below(3) {
+        match random.below(5) {
             0 => slot.fill(0),
             1 => slot[0] = 0,
-            _ => slot[0] = other_presence(random),
+            2 => slot[0] = other_presence(random),
+            _ => slot = wire::slot_with(random.other_run(run), message),
         }
     }
     slot
+}
+
+/// Whether a slot has first byte 01 and the number of another run.
+pub fn of_another_run(slot: &[u8], run: u16) -> bool {
+    slot[0] == 1 && wire::in_slot(slot, run).is_none()
 }
 
 /// A first byte that means absent.
@@ -294,10 +300,14 @@ pub fn inbox(random: &mut Random, state: &State, block: &[u8]) -> Vec<u8> {
         let message = &mut messages[random.below(n)];
         message[random.below(length)] ^= 1 << random.below(8);
     }
-    let absent = random.pick(&[0, 0, 1, 4]);
+    // more are absent where a piece is taken that t + 1 members sent
+    let absent = match row {
+        7 => random.pick(&[0, 4, 8]),
+        _ => random.pick(&[0, 0, 1, 4]),
+    };
     let mut inbox = Vec::new();
     for message in &messages {
-        inbox.extend(slot(random, message, absent));
+        inbox.extend(slot(random, state.run, message, absent));
     }
     inbox
 }
@@ -397,20 +407,20 @@ pub fn received_with(
             pieces[present[i]][s] ^= random.within(1, 255) as u8;
         }
     }
-    slots_of(random, &pieces, &present)
+    slots_of(random, state.run, &pieces, &present)
 }
 
-/// The slots of pieces, those at the indices `present` present. Behind the first byte of another stands its piece too, or anything.
-fn slots_of(random: &mut Random, pieces: &[Vec<u8>], present: &[usize]) -> Vec<u8> {
+/// The slots of pieces in a run, those at the indices `present` present. In another stands its piece too, or anything.
+fn slots_of(random: &mut Random, run: u16, pieces: &[Vec<u8>], present: &[usize]) -> Vec<u8> {
     let mut slots = Vec::new();
     for (i, piece) in pieces.iter().enumerate() {
         if present.contains(&i) {
-            slots.extend(slot(random, piece, 0));
+            slots.extend(slot(random, run, piece, 0));
             continue;
         }
         let any = random.bytes(piece.len());
         let behind = if random.one_in(2) { piece } else { &any };
-        slots.extend(slot(random, behind, 16));
+        slots.extend(slot(random, run, behind, 16));
     }
     slots
 }
@@ -483,7 +493,7 @@ pub fn received_partly(
             };
         }
     }
-    slots_of(random, &pieces, &present)
+    slots_of(random, state.run, &pieces, &present)
 }
 
 /// For each of k stripes the marks of the false ones of `count` pieces, `errors` of which are false in some stripes.

@@ -94,7 +94,8 @@ fn main() -> ExitCode {
          starts, {} without a sender and with several, of which {} agreed; runs of correct controllers: {}, agreed {}, none {}, beyond {}; calls {}, \
          outside a core {}; refused steps {}; with at most t faulty, runs that name somebody {}, systems in which not all name the same {}, that agreed \
          on a block held by t + 1 after call 2 and no more {}, with a correct controller outside the core {}; with more than t, runs that name a \
-         correct controller {}",
+         correct controller {}; systems run again {}, slots of another run that came to correct controllers {}, of them late ones of the run before {}, \
+         with at most t faulty runs that name somebody by such a slot {}",
         systems.systems,
         systems.within_t,
         systems.correct_sender,
@@ -112,7 +113,11 @@ fn main() -> ExitCode {
         systems.naming_apart,
         systems.fewest_holders,
         systems.correct_outside,
-        systems.naming_correct
+        systems.naming_correct,
+        systems.second_runs,
+        systems.other_run,
+        systems.late,
+        systems.naming_other_run
     ));
 
     let mut damaged = damaged::Counts::default();
@@ -121,7 +126,7 @@ fn main() -> ExitCode {
     });
     run.line(format!(
         "damaged states: {}; steps carried out {}, by kind of call {:?}; refused 6: {}, 7: {}, 8: {}; on states that name somebody: calls but \
-         the last {}, last calls {}, refused {}",
+         the last {}, last calls {}, refused {}; carried out with slots of another run {}",
         damaged.states,
         damaged.numbers[0],
         damaged.calls,
@@ -130,7 +135,8 @@ fn main() -> ExitCode {
         damaged.numbers[8],
         damaged.naming[0],
         damaged.naming[1],
-        damaged.naming[2]
+        damaged.naming[2],
+        damaged.other_run
     ));
 
     let mut starts = starts::Counts::default();
@@ -168,8 +174,9 @@ fn main() -> ExitCode {
     });
     run.line(format!(
         "decode: {} blocks, of them {} with more than t false pieces and {} with more than t absent, {} with marks, {} with more than t, {} with \
-         that of a slot whose first byte is true, {} with pieces false in some stripes only, {} with more of these than a stripe may have; {} \
-         beyond, of them {} with at most t present; {} refused",
+         that of a slot whose first piece byte is true, {} with pieces false in some stripes only, {} with more of these than a stripe may have, {} with \
+         the mark of a slot of another run, {} of one that has the true piece; {} beyond, of them {} with at most t present, {} of these with more of \
+         any run; {} refused",
         coding.blocks,
         coding.many_false,
         coding.many_absent,
@@ -178,8 +185,11 @@ fn main() -> ExitCode {
         coding.marked_later,
         coding.partly,
         coding.many_partly,
+        coding.other_run,
+        coding.other_run_true,
         coding.beyonds,
         coding.few_present,
+        coding.few_of_run,
         coding.decode_refused
     ));
 
@@ -197,8 +207,8 @@ fn main() -> ExitCode {
         messages::case(tally, random, &mut messages)
     });
     run.line(format!(
-        "message: {} present, {} absent or not held",
-        messages.present, messages.absent
+        "message: {} present, {} absent or not held, {} of them of another run",
+        messages.present, messages.absent, messages.other_run
     ));
 
     let before = run.tally.comparisons;

@@ -1,14 +1,16 @@
-//! The message of a slot: random inboxes, lengths and slot numbers, also huge ones.
+//! The message of a slot: random inboxes, run numbers, lengths and slot numbers, also huge ones.
 use crate::compare::{Lent, Same, Tally};
 use crate::inputs::{slot, EDGES};
 use crate::random::Random;
 use potekawhi::raw;
-use reference::wire;
+use reference::wire::{self, FRONT};
 
 #[derive(Default)]
 pub struct Counts {
     pub present: u64,
     pub absent: u64,
+    /// Absent ones whose first byte is 01.
+    pub other_run: u64,
 }
 
 pub fn case(tally: &mut Tally, random: &mut Random, counts: &mut Counts) -> Same<()> {
@@ -18,15 +20,16 @@ pub fn case(tally: &mut Tally, random: &mut Random, counts: &mut Counts) -> Same
         _ => random.within(1, 40),
     };
     let slots = random.within(0, 17);
+    let run = random.run();
     let mut inbox = Vec::new();
     for _ in 0..slots {
         let message = random.bytes(length.min(40));
-        inbox.extend(slot(random, &message, 4));
+        inbox.extend(slot(random, run, &message, 6));
     }
     match random.below(4) {
         0 => {
             let more = random.below(40);
-            inbox.extend(vec![1; more]);
+            inbox.extend(wire::slot_with(run, &[1; 40])[..more].to_vec());
         }
         1 => inbox.truncate(random.within(0, inbox.len())),
         _ => {}
@@ -36,19 +39,23 @@ pub fn case(tally: &mut Tally, random: &mut Random, counts: &mut Counts) -> Same
             0 => 0,
             1 => random.pick(&EDGES),
             // a slot number whose end wraps around
-            2 => (usize::MAX / (length.saturating_add(1))).wrapping_add(random.within(0, 3)),
+            2 => (usize::MAX / length.saturating_add(FRONT)).wrapping_add(random.within(0, 3)),
             _ => random.within(1, slots + 2),
         };
         let lent = Lent::new(random, &inbox);
         let mut offset = random.number() as usize;
-        let answer = raw::message(lent.bytes(), length, j, &mut offset);
-        let message = wire::message(&inbox, length as u128, j as u128);
-        let place = |text| format!("inbox {}, length {length}, j {j}: {text}", inbox.len());
+        let answer = raw::message(lent.bytes(), run, length, j, &mut offset);
+        let message = wire::message(&inbox, run, length as u128, j as u128);
+        let place = |text| {
+            let bytes = inbox.len();
+            format!("inbox {bytes}, run {run}, length {length}, j {j}: {text}")
+        };
         // where the reference's part starts; 0 where there is none
-        let held = j != 0 && j as u128 * (length as u128 + 1) <= inbox.len() as u128;
-        let present = held && inbox[(j - 1) * (length + 1)] == 1;
+        let held = j != 0 && j as u128 * (FRONT as u128 + length as u128) <= inbox.len() as u128;
+        let slot = |j: usize| &inbox[(j - 1) * (FRONT + length)..][..FRONT];
+        let present = held && wire::in_slot(slot(j), run).is_some();
         let start = if present {
-            (j - 1) * (length + 1) + 1
+            (j - 1) * (FRONT + length) + FRONT
         } else {
             0
         };
@@ -68,6 +75,7 @@ pub fn case(tally: &mut Tally, random: &mut Random, counts: &mut Counts) -> Same
             true => counts.present += 1,
             false => counts.absent += 1,
         }
+        counts.other_run += u64::from(held && !present && slot(j)[0] == 1);
     }
     Ok(())
 }

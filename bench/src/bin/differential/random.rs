@@ -70,6 +70,29 @@ impl Random {
         order
     }
 
+    /// A run number: any, or one at an edge of its bytes.
+    pub fn run(&mut self) -> u16 {
+        let any = self.word();
+        self.pick(&[0, 1, 255, 256, 257, 0xff00, 0xffff, any, any, any])
+    }
+
+    /// The number of another run, mostly one that differs in one byte only: the run before, the one after, a bit, the bytes swapped, any.
+    pub fn other_run(&mut self, run: u16) -> u16 {
+        let other = match self.below(6) {
+            0 => run.wrapping_sub(1),
+            1 => run.wrapping_add(1),
+            2 => run ^ 1 << self.below(8),
+            3 => run ^ 0x100 << self.below(8),
+            4 => run.swap_bytes(),
+            _ => self.word(),
+        };
+        if other == run {
+            run ^ 1
+        } else {
+            other
+        }
+    }
+
     /// `size` of the lowest n bits.
     pub fn subset(&mut self, n: usize, size: usize) -> u16 {
         self.order(n)[..size].iter().map(|i| 1u16 << i).sum()

@@ -1,4 +1,4 @@
-//! Starts with settings at and past every edge, and with wrong lengths of block and state.
+//! Starts with settings at and past every edge, with any run number, and with wrong lengths of block and state.
 use crate::compare::{self, wrong_length, Same, Start, Tally};
 use crate::inputs::{self, EDGES};
 use crate::random::Random;
@@ -32,6 +32,7 @@ pub fn case(tally: &mut Tally, random: &mut Random, number: u64, counts: &mut Co
             k,
             own,
             sender,
+            run: random.run(),
         };
         let mut length = wire::block_length(n as u128, t as u128, k as u128) as usize;
         if random.one_in(5) {

@@ -1,9 +1,9 @@
 //! The bytes of a state, written and read here from and to the reference's state: n, t, k, own, sender and next as numbers, the outcome,
-//! matrix and weak of 16 rows each, the core, and who is named; all little endian.
+//! matrix and weak of 16 rows each, the core, who is named, and the run number; all little endian.
 use reference::controller::{Outcome, State};
 
 /// How many bytes each field takes.
-const WIDTHS: [usize; 11] = [8, 8, 8, 8, 8, 8, 1, 32, 32, 2, 2];
+const WIDTHS: [usize; 12] = [8, 8, 8, 8, 8, 8, 1, 32, 32, 2, 2, 2];
 
 /// Where field `i` starts.
 const fn offset(i: usize) -> usize {
@@ -20,6 +20,7 @@ pub const OUTCOME: usize = offset(6);
 pub const MATRIX: usize = offset(7);
 pub const CORE: usize = offset(9);
 pub const NAMED: usize = offset(10);
+pub const RUN: usize = offset(11);
 
 pub fn outcome_number(outcome: Outcome) -> u8 {
     match outcome {
@@ -49,6 +50,7 @@ pub fn to_bytes(state: &State) -> Vec<u8> {
     }
     bytes.extend(state.core.to_le_bytes());
     bytes.extend(state.named.to_le_bytes());
+    bytes.extend(state.run.to_le_bytes());
     assert_eq!(bytes.len(), LENGTH);
     bytes
 }
@@ -77,5 +79,6 @@ pub fn from_bytes(bytes: &[u8]) -> State {
         weak: std::array::from_fn(|i| row(offset(8) + 2 * i)),
         core: row(CORE),
         named: row(NAMED),
+        run: row(RUN),
     }
 }

@@ -1,9 +1,9 @@
-//! A system in a run: settings, who is faulty, what the faulty ones speak of, each controller between two calls, and what each has sent. What
-//! faulty controllers choose is in `faulty`, how a run goes in `systems`.
+//! A system in a run: settings, run number, who is faulty, what the faulty ones speak of, each controller between two calls, and what each has sent, in
+//! the run before too. What faulty controllers choose is in `faulty`, how a run goes in `systems`.
 use crate::inputs::{costly, sharing_block};
 use crate::random::Random;
 use reference::controller::State;
-use reference::wire;
+use reference::wire::{self, FRONT};
 
 /// A controller between two calls; the same on both sides.
 pub struct Controller {
@@ -18,6 +18,7 @@ pub struct System {
     pub k: usize,
     /// 0 if there is none.
     pub sender: usize,
+    pub run: u16,
     /// The faulty controllers, the bit worth 1 for controller 1.
     pub faulty: u16,
     /// Blocks that faulty controllers speak of; the sender's comes first, and without a sender one that controllers start with.
@@ -27,10 +28,12 @@ pub struct System {
     pub controllers: Vec<Controller>,
     /// The outboxes of each round, one for each controller.
     pub outboxes: Vec<Vec<Vec<u8>>>,
+    /// The same of the run before; empty where there was none.
+    pub before: Vec<Vec<Vec<u8>>>,
 }
 
 impl System {
-    /// A system before its start.
+    /// A system before its start, with no run before it.
     pub fn new(random: &mut Random) -> System {
         let (n, t, k) = random.settings();
         let count = match random.below(20) {
@@ -61,6 +64,33 @@ impl System {
             let last = random.within(0, t);
             faulty = random.subset(n - t - 1, last) << (t + 1);
         }
+        let blocks = System::blocks(random, (n, t, k));
+        let run = random.run();
+        System::with(random, (n, t, k), sender, run, faulty, blocks)
+    }
+
+    /// The next run of the same controllers: with another number, with the same blocks or others, and with the same sender or another.
+    pub fn after(random: &mut Random, before: System) -> System {
+        let System { n, t, k, .. } = before;
+        let blocks = if random.one_in(2) {
+            before.blocks
+        } else {
+            System::blocks(random, (n, t, k))
+        };
+        let sender = if random.one_in(2) && before.sender != 0 {
+            before.sender
+        } else {
+            random.within(1, n)
+        };
+        let run = random.other_run(before.run);
+        System {
+            before: before.outboxes,
+            ..System::with(random, (n, t, k), sender, run, before.faulty, blocks)
+        }
+    }
+
+    /// Blocks, which share pieces or differ in one bit.
+    fn blocks(random: &mut Random, (n, t, k): (usize, usize, usize)) -> Vec<Vec<u8>> {
         let first = random.bytes(k * (t + 1));
         let mut blocks = vec![first.clone()];
         for _ in 0..random.within(1, 3) {
@@ -71,6 +101,18 @@ impl System {
             }
             blocks.push(block);
         }
+        blocks
+    }
+
+    /// The system of these, or one in four without a sender.
+    fn with(
+        random: &mut Random,
+        (n, t, k): (usize, usize, usize),
+        mut sender: usize,
+        run: u16,
+        faulty: u16,
+        blocks: Vec<Vec<u8>>,
+    ) -> System {
         if random.one_in(4) {
             sender = 0;
         }
@@ -88,11 +130,13 @@ impl System {
             t,
             k,
             sender,
+            run,
             faulty,
             blocks,
             groups,
             controllers: Vec::new(),
             outboxes: Vec::new(),
+            before: Vec::new(),
         }
     }
 
@@ -126,7 +170,17 @@ impl System {
 
     /// The slot that `from` has written for `to` in a round.
     pub fn sent(&self, round: usize, from: usize, to: usize) -> &[u8] {
-        let width = 1 + self.message_length(round);
-        &self.outboxes[round - 1][from - 1][(to - 1) * width..to * width]
+        self.slot(&self.outboxes[round - 1], round, from, to)
+    }
+
+    /// The same of the run before.
+    pub fn sent_before(&self, round: usize, from: usize, to: usize) -> Option<&[u8]> {
+        let outboxes = self.before.get(round - 1)?;
+        Some(self.slot(outboxes, round, from, to))
+    }
+
+    fn slot<'a>(&self, outboxes: &'a [Vec<u8>], round: usize, from: usize, to: usize) -> &'a [u8] {
+        let width = FRONT + self.message_length(round);
+        &outboxes[from - 1][(to - 1) * width..to * width]
     }
 }

@@ -1,6 +1,8 @@
-//! Whole systems: every controller is run on both sides from start to end; the faulty ones too, whose slots are then replaced.
+//! Whole systems: every controller is run on both sides from start to end; the faulty ones too, whose slots are then replaced. Some are run again, and
+//! then slots of the first run come late.
 use crate::compare::{self, wrong_length, Same, Start, Tally};
 use crate::faulty::{self, Behaviour};
+use crate::inputs::of_another_run;
 use crate::random::Random;
 use crate::state;
 use crate::system::{Controller, System};
@@ -42,6 +44,12 @@ pub struct Counts {
     pub fewest_holders: u64,
     /// Within t, with a core: systems in which some correct controller is not in it.
     pub correct_outside: u64,
+    /// Systems that have a run before them; slots of another run that arrive at correct controllers, and those of them that carry the number of that
+    /// run; within t and agreed, runs of correct controllers that name somebody by such a slot.
+    pub second_runs: u64,
+    pub other_run: u64,
+    pub late: u64,
+    pub naming_other_run: u64,
     pub snapshots: Vec<Snapshot>,
 }
 
@@ -67,11 +75,14 @@ struct Run {
     behaviours: Vec<Behaviour>,
     /// The block of each controller after call 2.
     held: Vec<Vec<u8>>,
+    /// For each controller the marks of the slots of another run in the last round.
+    other_run: Vec<u16>,
+    /// The number of the run before.
+    before: Option<u16>,
 }
 
 impl Run {
-    fn new(random: &mut Random) -> Run {
-        let system = System::new(random);
+    fn new(random: &mut Random, system: System, before: Option<u16>) -> Run {
         // mostly faulty from the first round on, else all from one later round on
         let first = if random.one_in(5) {
             random.within(2, 3 * system.t + 8)
@@ -79,13 +90,30 @@ impl Run {
             1
         };
         let behaviours = (0..system.n)
-            .map(|_| Behaviour::new(random, first))
+            .map(|_| Behaviour::new(random, first, before.is_some()))
             .collect();
         Run {
             system,
             behaviours,
             held: Vec::new(),
+            other_run: vec![0; 16],
+            before,
         }
+    }
+
+    /// Counts the slots of another run in the inbox of a correct controller, and keeps their marks.
+    fn note_other_run(&mut self, counts: &mut Counts, i: usize, inbox: &[u8]) {
+        let (n, run) = (self.system.n, self.system.run);
+        let mut marks = 0;
+        for (j, slot) in inbox.chunks((inbox.len() / n).max(1)).enumerate() {
+            if of_another_run(slot, run) {
+                marks |= 1 << j;
+                counts.other_run += 1;
+                let late = self.before.map(u16::to_le_bytes);
+                counts.late += u64::from(late.is_some_and(|run| slot[1..3] == run));
+            }
+        }
+        self.other_run[i] = marks;
     }
 
     /// The inbox of each controller after a round.
@@ -121,6 +149,7 @@ impl Run {
                 k: self.system.k,
                 own,
                 sender: self.system.sender,
+                run: self.system.run,
             };
             let (number, state, bytes) =
                 compare::start(tally, random, settings, &block, state::LENGTH)
@@ -190,6 +219,9 @@ impl Run {
         for (i, inbox) in inboxes.iter().enumerate() {
             let place = |text| format!("controller {}, call {c}: {text}", i + 1);
             let outbox = self.system.controllers[i].state.box_length(c);
+            if !self.system.is_faulty(i + 1) {
+                self.note_other_run(counts, i, inbox);
+            }
             if random.one_in(16) {
                 counts.refused += 1;
                 self.refused(tally, random, i, inbox, outbox)
@@ -320,6 +352,11 @@ impl Run {
         )?;
         if first.state.outcome == Outcome::Agreed {
             self.holders(tally, counts, &first.block)?;
+            for (controller, named) in correct.iter().zip(&named) {
+                let other_run = self.other_run[controller.state.own - 1];
+                tally.holds("slots of another run are named", other_run & !named == 0)?;
+                counts.naming_other_run += u64::from(other_run != 0);
+            }
         }
         let ends_with =
             |block: &Vec<u8>| (first.state.outcome, &first.block) == (Outcome::Agreed, block);
@@ -342,9 +379,28 @@ impl Run {
     }
 }
 
-/// One system.
+/// One system, and of one in four the next run too.
 pub fn case(tally: &mut Tally, random: &mut Random, counts: &mut Counts) -> Same<()> {
-    let mut run = Run::new(random);
+    let system = System::new(random);
+    let first = whole(tally, random, counts, system, None)?;
+    if random.one_in(4) {
+        let before = first.run;
+        let system = System::after(random, first);
+        whole(tally, random, counts, system, Some(before))?;
+        counts.second_runs += 1;
+    }
+    Ok(())
+}
+
+/// A run of a system; `before` is the number of the run before it.
+fn whole(
+    tally: &mut Tally,
+    random: &mut Random,
+    counts: &mut Counts,
+    system: System,
+    before: Option<u16>,
+) -> Same<System> {
+    let mut run = Run::new(random, system, before);
     let System {
         n,
         t,
@@ -353,6 +409,7 @@ pub fn case(tally: &mut Tally, random: &mut Random, counts: &mut Counts) -> Same
         faulty,
         ..
     } = run.system;
+    let number = run.system.run;
     let mut whole = || {
         run.start(tally, random)?;
         for c in 1..=3 * t + 9 {
@@ -362,8 +419,10 @@ pub fn case(tally: &mut Tally, random: &mut Random, counts: &mut Counts) -> Same
         run.agreement(tally, counts)
     };
     whole().map_err(|text| {
-        format!("n {n}, t {t}, k {k}, sender {sender}, faulty {faulty:016b}: {text}")
+        format!(
+            "n {n}, t {t}, k {k}, sender {sender}, run {number} after {before:?}, faulty {faulty:016b}: {text}"
+        )
     })?;
     counts.systems += 1;
-    Ok(())
+    Ok(run.system)
 }
