@@ -8,7 +8,7 @@ ghost use lib.Dec.{eqb, ltb};
 ghost use lib.ListN.{length, replicate};
 ghost use Rattle.lists.specs.Sum.{ind};
 ghost use Rattle.io.specs.Counts.{Counts};
-ghost use Rattle.cases.specs.Random.{nextRandom, mixed, seeded, drawn, digested};
+ghost use Rattle.cases.specs.Random.{nextRandom, mixed, seeded, drawn, digested, otherRun};
 
 // The generator: x times 1664525 plus 1013904223, modulo 2 to the 32.
 // Shut out: another factor; another modulus.
@@ -56,6 +56,17 @@ pub fn word(x: usize) -> u16
     ensures { λ r. ⌜ r ≡ x % 65536 ⌝ }
 {
     (x % 65536) as u16
+}
+
+// The number of another run, which differs in one byte only: in the low one for an even c, else in the high one.
+// Shut out: the low byte for an odd c too; the same number.
+pub fn other_run(run: u16, c: usize) -> u16
+    ensures { λ r. ⌜ r ≡ otherRun run c ⌝ }
+{
+    if c % 2 == 0 {
+        return run ^ 1;
+    }
+    run ^ 256
 }
 
 fn of_byte(x: u8) -> u64

@@ -518,14 +518,6 @@ fn with_marks(s: State) -> State {
     r
 }
 
-// Slots of a run whose number differs in one byte only.
-fn other_run(l: Layout, c: usize) -> Layout {
-    if c % 2 == 0 {
-        return wire::layout_with(l.run ^ 1, l.length);
-    }
-    wire::layout_with(l.run ^ 256, l.length)
-}
-
 // Of slot j of the outbox of s, what arrives in slot j: the message, in a slot of another run where j is above `heard`.
 fn deliver_slot(mail: &mut [u8], outbox: &[u8], s: State, heard: usize, j: usize) {
     let own = layout(s);
@@ -534,7 +526,8 @@ fn deliver_slot(mail: &mut [u8], outbox: &[u8], s: State, heard: usize, j: usize
         wire::send_one(mail, own, j, m);
         return;
     }
-    wire::send_one(mail, other_run(own, s.next), j, m);
+    let other = wire::layout_with(cases::other_run(own.run, s.next), own.length);
+    wire::send_one(mail, other, j, m);
 }
 
 // What arrives of the outbox of s, for four controllers: all that is sent.

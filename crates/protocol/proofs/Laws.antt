@@ -18,10 +18,10 @@
 --     call-inside              a step that is carried out is a call of the run
 --     call-block, block-call   only call 2 and the last call write the block
 --   Late messages
---     steps-alike   inboxes with one message in each slot give one answer; late-silent: so a slot of another run is silence to every step
+--     step-same   inboxes with one message in each slot give one answer; late-silent: so a slot of another run is silence to every step
 pub use Rattle.protocol.proofs.Calls.{start-number, start-0, start-state, start-found, start-refused, start-by-size, step-number, step-refused}
 pub use Rattle.protocol.proofs.Calls.{step-carried, step-0, 0-step, 8-step, 7-settings, 7-next, settings-valid, lengths-decide, fits-not-block}
 pub use Rattle.protocol.proofs.Calls.{fits-not-inbox, fits-outbox, of-send, of-receive, of-compare, of-collect, of-tally, of-hold, of-settle, of-core}
 pub use Rattle.protocol.proofs.Calls.{of-choose, of-finish, of-outside, Keeps, call-keeps, call-inside, call-block, block-call}
 pub use Rattle.protocol.proofs.Calls.{start-run, step-run}
-pub use Rattle.protocol.proofs.Late.{steps-alike, late-silent}
+pub use Rattle.protocol.proofs.Late.{step-same, late-silent}

@@ -105,18 +105,10 @@ fn put_part(inbox: &mut [u8], layout: Layout, i: usize, m: &[u8])
     put(inbox, layout, i, &m[..end]);
 }
 
-// Slots of a run whose number differs in one byte only.
-fn other_run(layout: Layout, c: usize) -> Layout {
-    if c % 2 == 0 {
-        return wire::layout_with(layout.run ^ 1, layout.length);
-    }
-    wire::layout_with(layout.run ^ 256, layout.length)
-}
-
 // What a faulty controller's slot to j is.
 fn fault_layout(s: Setup, c: usize, layout: Layout, i: usize, j: usize) -> Layout {
     if manner(s, i) == 4 && j % 2 == 1 {
-        return other_run(layout, c);
+        return wire::layout_with(cases::other_run(layout.run, c), layout.length);
     }
     layout
 }
