@@ -141,7 +141,7 @@ fn put_fields(bytes: &mut [u8], s: State)
 }
 
 // Writes a state to a buffer of its length; nothing is written to one of another length.
-// Shut out: the weak matrix for the matrix; own number and sender the other way round; the core for those named; the next call for the run number.
+// Shut out: the weak matrix for the matrix; own number and sender the other way round; the core for those named, and for the run number.
 pub fn write(s: State, bytes: &mut [u8])
     ensures { λ _. ⌜ now (bytes .exit) ≡ cond (eqb (length (now (bytes .entry))) stateLength) (stateBytes s) (now (bytes .entry)) ⌝ }
 {
