@@ -1,6 +1,6 @@
--- Demand 3: `agreement`. Its corollary for readers: `one-plan`. Beside it, whom correct controllers name (document 02, U1): `named-by-last`,
--- `no-correct-named`, `late-named` and `named-by-many`; who held the block that is agreed on, and who is in the core (document 02, U14): `held-by-many`, `held-on` and
--- `all-in-core`.
+-- Demand 3: `agreement`. Its corollary for readers: `one-plan`. Beside it, whom correct controllers name (document 02, U1 and U11): `named-by-last`,
+-- `no-correct-named`, `late-named` and `named-by-many`; who held the block that is agreed on, and who is in the core (document 02, U14):
+-- `held-by-many`, `held-on` and `all-in-core`.
 use mathlib.Core.Path.{_≡_, sym, ap, _∙_}
 use mathlib.Core.Bool.{not}
 use mathlib.Core.Logic.{⊎-elim}

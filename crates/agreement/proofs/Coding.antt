@@ -31,7 +31,8 @@ pub record Code (run n t k : ℕ) : Type 0 where
   pub recovered : (slots B : List ℕ) → IsBlock k t B → n ≤ count n (λ i. same (messageOf slots (layoutWith run k) (i + 1)) (pieceOf k t B (i + 1))) + t
       → Decodes n t (layoutWith run k) slots B
   -- a slot that has its true piece of B is not named
-  pub unnamed : (slots B : List ℕ) (j : ℕ) → 1 ≤ j → j ≤ n → messageOf slots (layoutWith run k) j ≡ pieceOf k t B j → member (namedOf n t (layoutWith run k) slots B) (j - 1) ≡ false
+  pub unnamed : (slots B : List ℕ) (j : ℕ) → 1 ≤ j → j ≤ n → messageOf slots (layoutWith run k) j ≡ pieceOf k t B j
+      → member (namedOf n t (layoutWith run k) slots B) (j - 1) ≡ false
 
 pub code-laws : (run n t k : ℕ) → Coded n t k → Code run n t k
 code-laws run n t k v = record {
@@ -42,8 +43,10 @@ code-laws run n t k v = record {
       (λ i l y. same-eq (pieceOf k t A (i + 1)) (pieceOf k t B (i + 1)) y) many;
   recovered = λ slots B is many.
       pieces-decode n t (layoutWith run k) slots B (λ i. same (messageOf slots (layoutWith run k) (i + 1)) (pieceOf k t B (i + 1))) (is .size) (is .bytes)
-      (λ i l y. same-eq (messageOf slots (layoutWith run k) (i + 1)) (pieceOf k t B (i + 1)) y) (omega (arith, many, present-count-le n (layoutWith run k) slots, v .quorum .t-most));
+      (λ i l y. same-eq (messageOf slots (layoutWith run k) (i + 1)) (pieceOf k t B (i + 1)) y)
+      (omega (arith, many, present-count-le n (layoutWith run k) slots, v .quorum .t-most));
   unnamed = λ slots B j least most true-piece.
       let e : j - 1 + 1 ≡ j = omega arith in
-      member-named n t (layoutWith run k) slots B (j - 1) (omega arith) ∙ ap (isNamed t (layoutWith run k) slots B) e ∙ true-not-named t (layoutWith run k) slots B j true-piece;
+      member-named n t (layoutWith run k) slots B (j - 1) (omega arith) ∙ ap (isNamed t (layoutWith run k) slots B) e
+      ∙ true-not-named t (layoutWith run k) slots B j true-piece;
 }

@@ -62,7 +62,8 @@ module _ (S : System) (H : Supposed S) where
         ∙ core-of S H i f in
         sends-by S H i f (3 * S .settings .t + 7) (omega arith) (omega arith) Core (call-core (S .settings .t)) coreCall of-core
         (λ s own run next. forwarded run (s .n) (s .t) (s .k) own coreAt (heldBlock S i) (m .lent .outbox))
-        (λ x. forwarded (m .before .state .run) (m .before .state .settings .n) (m .before .state .settings .t) (m .before .state .settings .k) (m .before .state .own) (e x)
+        (λ x. forwarded (m .before .state .run) (m .before .state .settings .n) (m .before .state .settings .t) (m .before .state .settings .k)
+        (m .before .state .own) (e x)
         (block-from S H i f (3 * S .settings .t + 7) (omega arith) (omega arith) x) (m .lent .outbox))
         ∙ forwarded-member (S .settings .n) (S .settings .t) (S .settings .k) i (heldBlock S i) (coded S H i f) (numbered S H i f)
         (is-block S H i f .size) (S .run) coreAt (m .lent .outbox)

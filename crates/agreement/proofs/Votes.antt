@@ -172,7 +172,8 @@ module _ (S : System) (H : Supposed S) where
           let u : limit (S .settings .n) ≡ S .settings .n = omega (arith, few-rows) in
           let rows = heldOf (m .lent .inbox) (layoutOf S (3 * p + 5)) (S .settings .n) (S .settings .t) in
           let F : Settings → (own run c d : ℕ) → List ℕ = λ s own run c d.
-          sentByKing (roundLayout run (s .n) (s .t) (s .k) c) own (phaseOf c) (s .n) (heldOf (m .lent .inbox) (roundLayout run (s .n) (s .t) (s .k) d) (s .n) (s .t))
+          sentByKing (roundLayout run (s .n) (s .t) (s .k) c) own (phaseOf c) (s .n)
+          (heldOf (m .lent .inbox) (roundLayout run (s .n) (s .t) (s .k) d) (s .n) (s .t))
           (m .lent .outbox) in
           sends-by S H i f (3 * p + 6) (omega arith) (omega arith) Hold hold-kind holdCall of-hold (λ s own run next. F s own run next (next - 1)) refl
           ∙ ap (F (S .settings) i (S .run) (3 * p + 6)) e

@@ -1,29 +1,29 @@
 -- What the exported functions answer and leave: the definitions of the crates below, with the state as bytes. A lent state of another length is
 -- refused with 6, which is tried first.
---   badLength                                6, row 6 of the refusal table
---   beyondNumber                             what decoding answers where no block meets the rule: 255, the number of no refusal
---   Returned, returned r bytes               a number answered, and the lent bytes as the call leaves them
---   startReturned state a                    an answer of `start`, with the state as bytes; refused, the lent bytes stay
---   startBytes s own run b state             start to a lent state; b is the length of the lent block
---   ReturnedStep, returnedStep r state b o   what a step leaves: its number, the state, the block and the outbox
---   stepAsBytes a                            an answer of `step`, with the state as bytes
---   stepReturned state a                     the same where it was carried out; refused, the state stays byte for byte
---   stepBytes state b i o                    step on the state that the bytes stand for
---   outcomeIn state                          the number of the outcome in a state
---   namedIn state                            the marks of those named in a state; none where it has another length
---   finalSize state                          the length of a block by the state's settings
---   finalFits state block final              both lent blocks have it
---   finalBytes state block final             the outcome, and the final block: the block as it is, once the outcome is set
---   decodeNumber d                           the number for an answer of decoding
---   namedAfter d m                           the marks that it leaves where m was: those of the block; none for beyond; refused, m
+--   badLength                                   6, row 6 of the refusal table
+--   beyondNumber                                what decoding answers where no block meets the rule: 255, the number of no refusal
+--   Returned, returned r bytes                  a number answered, and the lent bytes as the call leaves them
+--   startReturned state a                       an answer of `start`, with the state as bytes; refused, the lent bytes stay
+--   startBytes s own run b state                start to a lent state; b is the length of the lent block
+--   ReturnedStep, returnedStep r state b o      what a step leaves: its number, the state, the block and the outbox
+--   stepAsBytes a                               an answer of `step`, with the state as bytes
+--   stepReturned state a                        the same where it was carried out; refused, the state stays byte for byte
+--   stepBytes state b i o                       step on the state that the bytes stand for
+--   outcomeIn state                             the number of the outcome in a state
+--   namedIn state                               the marks of those named in a state; none where it has another length
+--   finalSize state                             the length of a block by the state's settings
+--   finalFits state block final                 both lent blocks have it
+--   finalBytes state block final                the outcome, and the final block: the block as it is, once the outcome is set
+--   decodeNumber d                              the number for an answer of decoding
+--   namedAfter d m                              the marks that it leaves where m was: those of the block; none for beyond; refused, m
 --   DecodeLeaves n t layout slots b m r b′ m′   decoding: r is the number of its answer, b′ the block that it leaves, and m′ the marks
---   setRows s                                the sets C, D, F and E as the first of 16 rows of marks
---   setBytes s                               the bytes of these four rows
---   starReturned s sets                      an answer of the star; refused, the lent bytes stay
---   ofLengths a lent b out w                 w where `lent` has a bytes and `out` b; else 6, and `out` stays
---   starBytes n t rows sets                  the star of the rows in 32 bytes, to 8 bytes
---   pairBytes n rows pairs                   the missing pairs of the rows in 32 bytes, to 15 bytes
---   pairStarBytes n t pairs sets             the star of the missing pairs in 15 bytes, to 8 bytes
+--   setRows s                                   the sets C, D, F and E as the first of 16 rows of marks
+--   setBytes s                                  the bytes of these four rows
+--   starReturned s sets                         an answer of the star; refused, the lent bytes stay
+--   ofLengths a lent b out w                    w where `lent` has a bytes and `out` b; else 6, and `out` stays
+--   starBytes n t rows sets                     the star of the rows in 32 bytes, to 8 bytes
+--   pairBytes n rows pairs                      the missing pairs of the rows in 32 bytes, to 15 bytes
+--   pairStarBytes n t pairs sets                the star of the missing pairs in 15 bytes, to 8 bytes
 use mathlib.Core.Path.{_≡_}
 use mathlib.Core.Bool.{Bool, cond, _&&_}
 use mathlib.Core.List.{List, _∷_}

@@ -1,2 +1,2 @@
--- Random numbers and digests.
+-- Random numbers, run numbers and digests.
 pub mod Random

@@ -1,4 +1,4 @@
-// What the programs that run cases and print them have in common: random numbers, digests, bytes and lengths of lent slices, and printing to
+// What the programs that run cases and print them have in common: random numbers, run numbers, digests, bytes and lengths of lent slices, and printing to
 // standard output. No contract can say what is printed.
 use libc::STDOUT_FILENO;
 ghost use mathlib.Core.Path.{_≡_};
@@ -8,7 +8,10 @@ ghost use lib.Dec.{eqb, ltb};
 ghost use lib.ListN.{length, replicate};
 ghost use Rattle.lists.specs.Sum.{ind};
 ghost use Rattle.io.specs.Counts.{Counts};
-ghost use Rattle.cases.specs.Random.{nextRandom, mixed, seeded, drawn, digested, otherRun};
+ghost use Rattle.cases.specs.Random.{nextRandom, mixed, seeded, drawn, digested, someRun, otherRun};
+
+// The run numbers of cases.
+const RUNS: [u16; 4] = [0, 1, 256, 65535];
 
 // The generator: x times 1664525 plus 1013904223, modulo 2 to the 32.
 // Shut out: another factor; another modulus.
@@ -56,6 +59,14 @@ pub fn word(x: usize) -> u16
     ensures { λ r. ⌜ r ≡ x % 65536 ⌝ }
 {
     (x % 65536) as u16
+}
+
+// One of four run numbers, by the remainder of x: the least, the greatest, and the two whose only bit is the lowest of a byte.
+// Shut out: by the remainder by 3; 255 for 256.
+pub fn some_run(x: usize) -> u16
+    ensures { λ r. ⌜ r ≡ someRun x ⌝ }
+{
+    RUNS[x % 4]
 }
 
 // The number of another run, which differs in one byte only: in the low one for an even c, else in the high one.

@@ -14,5 +14,5 @@
 --   Inboxes with one message in each slot
 --     received-same, marks-same   give one block, and one set of marks
 pub use Rattle.dispersal.proofs.Calls.{sent-block, sent-silence, received-kept, received-message, length-received, received-all, sent-pieces}
-pub use Rattle.dispersal.proofs.Calls.{two-pieces-is, marks-set, marked-yes, yes-marked, marked-self, length-marks, bytes-marks, sent-marks, row-of-marks}
-pub use Rattle.dispersal.proofs.Calls.{received-same, marks-same}
+pub use Rattle.dispersal.proofs.Calls.{two-pieces-is, marks-set, marked-yes, yes-marked, marked-self, length-marks, bytes-marks, sent-marks}
+pub use Rattle.dispersal.proofs.Calls.{row-of-marks, received-same, marks-same}

@@ -68,7 +68,8 @@ three-silent run k B before silent least most size is-bytes sized-before three =
       k-most = most;
     } in
     let spoken : ℕ → Bool = λ i. not (silent (i + 1)) in (
-      0-decode 7 2 (layoutWith run k) (all run k B silent) before coded (length-slots (layoutWith run k) (sent silent k 2 B) (sized run k B silent) 7) sized-before,
+      0-decode 7 2 (layoutWith run k) (all run k B silent) before coded
+          (length-slots (layoutWith run k) (sent silent k 2 B) (sized run k B silent) 7) sized-before,
       pieces-decode 7 2 (layoutWith run k) (all run k B silent) B spoken size is-bytes (λ i l e. read run k B silent i l false (spoke run k B silent i e))
           (omega (
             arith,

@@ -47,8 +47,8 @@ example-d = (refl, meets-decodes 4 1 (layoutWith 0 1) (fourPieces 0x00 0x22 0x36
 -- example e: too many of the pieces differ from the code of the candidate for the stripe, so no block meets the rule
 example-e : decodes 0x1e 0x22 0x37 0x5b Beyond (0 ∷ 0 ∷ [])
 unfolding sum count tabulate filled gadd gmul ginv gpow polyMul reduce outside tooMany broken refusalOf encodingRefusal decodingRefusal starRefusal
-    blockLength width slotOf part holds runIn isPresent messageOf gsum evaluate horner plus scale timesRoot wrongBy combine withRoot start advance next run smaller
-    reduced series candidate hasPiece received selected points column differences decodeRefusal
+    blockLength width slotOf part holds runIn isPresent messageOf gsum evaluate horner plus scale timesRoot wrongBy combine withRoot start advance next run
+    smaller reduced series candidate hasPiece received selected points column differences decodeRefusal
 example-e = (refl, stripe-beyond 4 1 (layoutWith 0 1) (fourPieces 0x1e 0x22 0x37 0x5b) (omega arith) 0 (omega arith) refl, refl)
 
 pub examples : Examples

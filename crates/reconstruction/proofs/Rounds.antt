@@ -179,9 +179,11 @@ module _ (n t core : ℕ) (inbox : List ℕ) (layout : Layout) (good : ℕ → B
       (and-right (not (eqb (length (M (first n q))) 0)) _ (and-right (member core (first n q)) _ passes)))
 
 -- ---- the last call
-pub finished-none : (n t : ℕ) (layout : Layout) (core : ℕ) (inbox b : List ℕ) → restricted core n ≡ 0 → finished n t layout core inbox b ≡ finish (ending None 0) (replicate (length b) 0)
+pub finished-none : (n t : ℕ) (layout : Layout) (core : ℕ) (inbox b : List ℕ) → restricted core n ≡ 0
+    → finished n t layout core inbox b ≡ finish (ending None 0) (replicate (length b) 0)
 unfolding finished
-finished-none n t layout core inbox b e = cond-yes (eqb (restricted core n) 0) (finish (ending None 0) (replicate (length b) 0)) _ (eq-eqb (restricted core n) 0 e)
+finished-none n t layout core inbox b e =
+    cond-yes (eqb (restricted core n) 0) (finish (ending None 0) (replicate (length b) 0)) _ (eq-eqb (restricted core n) 0 e)
 
 -- a core: what decoding gives
 with-core : (n t : ℕ) (layout : Layout) (core : ℕ) (inbox b : List ℕ) → (restricted core n ≡ 0 → ⊥)
@@ -194,7 +196,8 @@ with-core n t layout core inbox b z = cond-no (eqb (restricted core n) 0) (finis
 ruled : (n t : ℕ) (layout : Layout) (core : ℕ) (inbox b : List ℕ) → (restricted core n ≡ 0 → ⊥) → decodeRefusal n t layout inbox b ≡ 0
     → finished n t layout core inbox b ≡ finishedBy n t layout inbox (length b) (rebuilt n t layout inbox)
 ruled n t layout core inbox b z e =
-    with-core n t layout core inbox b z ∙ cond-yes (eqb (decodeRefusal n t layout inbox b) 0) _ (finish (ending Open 0) b) (eq-eqb (decodeRefusal n t layout inbox b) 0 e)
+    with-core n t layout core inbox b z
+    ∙ cond-yes (eqb (decodeRefusal n t layout inbox b) 0) _ (finish (ending Open 0) b) (eq-eqb (decodeRefusal n t layout inbox b) 0 e)
 
 pub finished-agreed : FinishedAgreed
 finished-agreed n t layout core inbox b z e B d =
@@ -202,13 +205,15 @@ finished-agreed n t layout core inbox b z e B d =
     ∙ ap (finishedBy n t layout inbox (length b)) (rebuilt-block n t layout inbox (omega (arith, decode-0 n t layout inbox b e .0 .quorum .n-most)) B d)
 
 pub finished-beyond : FinishedBeyond
-finished-beyond n t layout core inbox b z e d = ruled n t layout core inbox b z e ∙ ap (finishedBy n t layout inbox (length b)) (rebuilt-none n t layout inbox d)
+finished-beyond n t layout core inbox b z e d =
+    ruled n t layout core inbox b z e ∙ ap (finishedBy n t layout inbox (length b)) (rebuilt-none n t layout inbox d)
 
 -- decoding refused: open, and the block as it was
 pub finished-refused : (n t : ℕ) (layout : Layout) (core : ℕ) (inbox b : List ℕ) → (restricted core n ≡ 0 → ⊥) → (decodeRefusal n t layout inbox b ≡ 0 → ⊥)
     → finished n t layout core inbox b ≡ finish (ending Open 0) b
 finished-refused n t layout core inbox b z e =
-    with-core n t layout core inbox b z ∙ cond-no (eqb (decodeRefusal n t layout inbox b) 0) _ (finish (ending Open 0) b) (ne-eqb (decodeRefusal n t layout inbox b) 0 e)
+    with-core n t layout core inbox b z
+    ∙ cond-no (eqb (decodeRefusal n t layout inbox b) 0) _ (finish (ending Open 0) b) (ne-eqb (decodeRefusal n t layout inbox b) 0 e)
 
 -- what decoding answers and leaves is what the last call sets
 pub finished-answers : (n t : ℕ) (layout : Layout) (core : ℕ) (inbox b : List ℕ) → (restricted core n ≡ 0 → ⊥) → (d : Decoded) (after : List ℕ)

@@ -53,7 +53,8 @@ module _ (t : ℕ) (layout : Layout) (slots block : List ℕ) where
   pub counts-none : countsOf 0 ≡ replicate (layout .length) 0
   unfolding countsOf differing
   counts-none =
-      tabulate-ext (λ s. differing 0 layout slots s (stripe t block s)) (λ _. 0) (layout .length) (λ s h. count-none-below _) ∙ tabulate-const 0 (layout .length)
+      tabulate-ext (λ s. differing 0 layout slots s (stripe t block s)) (λ _. 0) (layout .length) (λ s h. count-none-below _)
+      ∙ tabulate-const 0 (layout .length)
 
   pub length-counts : (i : ℕ) → length (countsOf i) ≡ layout .length
   unfolding countsOf

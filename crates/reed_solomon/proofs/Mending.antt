@@ -46,19 +46,22 @@ module _ (n t : ℕ) (layout : Layout) (slots xs : List ℕ) (l : Lent n t layou
         right = λ i _ g.
             ⊎-elim
             (λ (u : i < s).
-            subst (λ (x : List ℕ). 2 * differing n layout slots i x + t + 1 ≤ presentCount n layout slots) (sym (stripe-front t after before s (m .kept refl) i u))
+            subst (λ (x : List ℕ). 2 * differing n layout slots i x + t + 1 ≤ presentCount n layout slots)
+            (sym (stripe-front t after before s (m .kept refl) i u))
             (b .right i (omega arith) u))
             (λ (u : s ≤ i).
             ⊎-elim
             (λ (v : s < i). r .right i (omega arith) g)
             (λ (v : i ≤ s).
             let e : s ≡ i = omega arith in
-            subst (λ j. 2 * differing n layout slots j (stripe t after j) + t + 1 ≤ presentCount n layout slots) e (right-at s (stripe t after s) (m .right refl)))
+            subst (λ j. 2 * differing n layout slots j (stripe t after j) + t + 1 ≤ presentCount n layout slots) e
+            (right-at s (stripe t after s) (m .right refl)))
             (lt-or-le s i))
             (lt-or-le i s);
       }
 
-pub all-right : (n t : ℕ) (layout : Layout) (slots block : List ℕ) (named s : ℕ) → Checked n t layout slots (presentCount n layout slots) block 0 named s → layout .length ≤ s
+pub all-right : (n t : ℕ) (layout : Layout) (slots block : List ℕ) (named s : ℕ)
+    → Checked n t layout slots (presentCount n layout slots) block 0 named s → layout .length ≤ s
     → length block ≡ layout .length * (t + 1) → Bytes block → Decodes n t layout slots block × (named ≡ namedOf n t layout slots block)
 all-right n t layout slots block named s c all size bytes = (
   record { size = size ∙ sym (block-length-is (layout .length) t); bytes = bytes; right = λ i g. c .right i (omega arith) (omega arith) },

@@ -19,7 +19,8 @@ use Rattle.reed_solomon.specs.Encode.{pieceOf}
 use Rattle.reed_solomon.specs.Decode.{hasPiece, received, isNamed, namedOf, NamedAbsent, NamedDiffers, NotNamed, NamedOtherRun}
 use Rattle.reed_solomon.proofs.Rule.{length-piece, getD-piece}
 
-pub member-named : (n t : ℕ) (layout : Layout) (slots block : List ℕ) (i : ℕ) → i < n → member (namedOf n t layout slots block) i ≡ isNamed t layout slots block (i + 1)
+pub member-named : (n t : ℕ) (layout : Layout) (slots block : List ℕ) (i : ℕ) → i < n
+    → member (namedOf n t layout slots block) i ≡ isNamed t layout slots block (i + 1)
 unfolding namedOf
 member-named n t layout slots block i l = member-set n (λ i. isNamed t layout slots block (i + 1)) i l
 

@@ -36,8 +36,8 @@ use Rattle.reed_solomon.specs.First.{firstBytes, isRightStripe, meets, D
 use Rattle.reed_solomon.specs.Steps.{points, column, differences, isRight, NoneRight, Pointed}
 use Rattle.reed_solomon.proofs.Sizes.{both-true, true-both}
 use Rattle.reed_solomon.proofs.First.{Right, first-right}
-use Rattle.reed_solomon.proofs.Stripes.{length-points, differing-points, agreements-differences, rising-points, units-rising, points-rising, different-numbers}
-use Rattle.reed_solomon.proofs.Stripes.{length-stripe, bytes-stripe, block-joined}
+use Rattle.reed_solomon.proofs.Stripes.{length-points, differing-points, agreements-differences, rising-points, units-rising, points-rising}
+use Rattle.reed_solomon.proofs.Stripes.{different-numbers, length-stripe, bytes-stripe, block-joined}
 use Rattle.lists.specs.Join.{joined}
 use Rattle.lists.proofs.Joins.{joined-ext}
 
@@ -70,7 +70,8 @@ module _ (n t : ℕ) (layout : Layout) (slots : List ℕ) where
       let both = both-true (length slots) (n * width layout) (length block) (blockLength (layout .length) t) (r .1) in
       (r .0, both .0, both .1)
 
-  pub 0-decode : (block : List ℕ) → Coded n t (layout .length) → length slots ≡ n * width layout → length block ≡ blockLength (layout .length) t → decodeRefusal n t layout slots block ≡ 0
+  pub 0-decode : (block : List ℕ) → Coded n t (layout .length) → length slots ≡ n * width layout → length block ≡ blockLength (layout .length) t
+      → decodeRefusal n t layout slots block ≡ 0
   unfolding decodeRefusal
   0-decode block v a b =
       0-decoding n t (layout .length) (decodeFits n t layout slots block) v
@@ -84,7 +85,8 @@ module _ (n t : ℕ) (layout : Layout) (slots : List ℕ) where
   right-points : (s : ℕ) (m : List ℕ) → isRight t xs (column layout slots s xs) m ≡ isRightStripe n t layout slots s m
   right-points s m = ap₂ (λ d c. leb (2 * d + t + 1) c) (differing-points layout slots s n m) (length-points n layout slots)
 
-  pub right-rule : (s : ℕ) (m : List ℕ) → isRight t xs (column layout slots s xs) m ≡ true → 2 * differing n layout slots s m + t + 1 ≤ presentCount n layout slots
+  pub right-rule : (s : ℕ) (m : List ℕ) → isRight t xs (column layout slots s xs) m ≡ true
+      → 2 * differing n layout slots s m + t + 1 ≤ presentCount n layout slots
   right-rule s m e = leb-true (2 * differing n layout slots s m + t + 1) (presentCount n layout slots) (sym (right-points s m) ∙ e)
 
   rule-right : (s : ℕ) (m : List ℕ) → 2 * differing n layout slots s m + t + 1 ≤ presentCount n layout slots → isRight t xs (column layout slots s xs) m ≡ true
@@ -108,7 +110,8 @@ module _ (n t : ℕ) (layout : Layout) (slots : List ℕ) where
 
     decodes-joined : (B : List ℕ) → Decodes n t layout slots B → B ≡ joined (λ s. candidate t xs (column layout slots s xs)) (layout .length)
     decodes-joined B d =
-        block-joined (layout .length) t B (d .size ∙ block-length-is (layout .length) t) ∙ joined-ext (stripe t B) (λ s. candidate t xs (column layout slots s xs)) (layout .length) (each B d)
+        block-joined (layout .length) t B (d .size ∙ block-length-is (layout .length) t)
+        ∙ joined-ext (stripe t B) (λ s. candidate t xs (column layout slots s xs)) (layout .length) (each B d)
 
     -- where a stripe's candidate is not right, no block meets the rule
     pub stripe-beyond : (s : ℕ) → s < layout .length → isRight t xs (column layout slots s xs) (candidate t xs (column layout slots s xs)) ≡ false
@@ -164,7 +167,8 @@ Rebuilds n t layout slots (some B) = Decodes n t layout slots B
 
 rebuilds : (n t : ℕ) (layout : Layout) (slots : List ℕ) → Rebuilds n t layout slots (rebuilt n t layout slots)
 unfolding rebuilt
-rebuilds n t layout slots = go (firstBytes (blockLength (layout .length) t) (meets n t layout slots)) (first-right (blockLength (layout .length) t) (meets n t layout slots))
+rebuilds n t layout slots = go (firstBytes (blockLength (layout .length) t) (meets n t layout slots))
+    (first-right (blockLength (layout .length) t) (meets n t layout slots))
   where
     go : (r : Option (List ℕ)) → Right (blockLength (layout .length) t) (meets n t layout slots) r → Rebuilds n t layout slots r
     go none h = λ B d. true≢false (sym (decodes-meets n t layout slots B d) ∙ h B (d .size) (d .bytes))
@@ -188,7 +192,8 @@ rebuilt-none n t layout slots unmet = go (rebuilt n t layout slots) (rebuilds n 
     go (some C) h = absurd (unmet C h)
 
 -- a block meets the rule, or none does
-pub decodes-or-not : (n t : ℕ) (layout : Layout) (slots : List ℕ) → ((B : List ℕ) × Decodes n t layout slots B) ⊎ ((B : List ℕ) → Decodes n t layout slots B → ⊥)
+pub decodes-or-not : (n t : ℕ) (layout : Layout) (slots : List ℕ)
+    → ((B : List ℕ) × Decodes n t layout slots B) ⊎ ((B : List ℕ) → Decodes n t layout slots B → ⊥)
 decodes-or-not n t layout slots = go (rebuilt n t layout slots) (rebuilds n t layout slots)
   where
     go : (r : Option (List ℕ)) → Rebuilds n t layout slots r → ((B : List ℕ) × Decodes n t layout slots B) ⊎ ((B : List ℕ) → Decodes n t layout slots B → ⊥)

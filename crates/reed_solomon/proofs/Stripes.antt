@@ -84,7 +84,8 @@ module _ (layout : Layout) (slots : List ℕ) (s : ℕ) where
       (λ i l. ap (λ y. not (eqb (evaluate m (getD xs i 0)) y)) (getD-tabulate (λ j. received layout slots s (getD xs j 0)) (length xs) i 0 l))
 
   -- what differs at the points of the present slots is what the rule counts
-  pub differing-points : (n : ℕ) (m : List ℕ) → differences (points n layout slots) (column layout slots s (points n layout slots)) m ≡ differing n layout slots s m
+  pub differing-points : (n : ℕ) (m : List ℕ) → differences (points n layout slots) (column layout slots s (points n layout slots)) m
+      ≡ differing n layout slots s m
   unfolding points differing differs
   differing-points n m = differences-column (points n layout slots) m ∙ count-selected (hasPiece layout slots) (differs m) n
 

@@ -19,7 +19,7 @@
 --   PiecesDecode                             a block meets the rule where N + t + 1 is at most twice the number of slots that have its piece (law
 --                                            `pieces-decode`)
 --   FewBeyond                                with at most t present, no block does (law `few-beyond`)
---   NamedAbsent, NamedDiffers, NotNamed       document 02's words for the slots that are named: those that are absent, or differ in any stripe from the code
+--   NamedAbsent, NamedDiffers, NotNamed      document 02's words for the slots that are named: those that are absent, or differ in any stripe from the code
 --                                            of the block, and no others (laws `named-absent`, `named-differs`, `not-named`)
 --   NamedOtherRun                            so a slot that carries another run's number is named, whatever its message (law `named-other-run`)
 use mathlib.Core.Path.{_≡_}
@@ -82,7 +82,8 @@ DecodesUnique = (n t : ℕ) (layout : Layout) (slots : List ℕ) → n < 256 →
 
 abbrev pub AnswersUnique : Type 0
 AnswersUnique =
-    (n t : ℕ) (layout : Layout) (slots before : List ℕ) (d e : Decoded) (B C : List ℕ) → Answers n t layout slots before d B → Answers n t layout slots before e C
+    (n t : ℕ) (layout : Layout) (slots before : List ℕ) (d e : Decoded) (B C : List ℕ)
+    → Answers n t layout slots before d B → Answers n t layout slots before e C
     → (d ≡ e) × (B ≡ C)
 
 -- `right` says of the index i that slot i + 1 has the piece of B
@@ -96,11 +97,13 @@ abbrev pub FewBeyond : Type 0
 FewBeyond = (n t : ℕ) (layout : Layout) (slots : List ℕ) → 1 ≤ layout .length → presentCount n layout slots ≤ t → (B : List ℕ) → Decodes n t layout slots B → ⊥
 
 abbrev pub NamedAbsent : Type 0
-NamedAbsent = (t : ℕ) (layout : Layout) (slots block : List ℕ) (j : ℕ) → 1 ≤ layout .length → hasPiece layout slots j ≡ false → isNamed t layout slots block j ≡ true
+NamedAbsent =
+    (t : ℕ) (layout : Layout) (slots block : List ℕ) (j : ℕ) → 1 ≤ layout .length → hasPiece layout slots j ≡ false → isNamed t layout slots block j ≡ true
 
 abbrev pub NamedDiffers : Type 0
 NamedDiffers =
-    (t : ℕ) (layout : Layout) (slots block : List ℕ) (j s : ℕ) → s < layout .length → (received layout slots s j ≡ evaluate (stripe t block s) j → ⊥) → isNamed t layout slots block j ≡ true
+    (t : ℕ) (layout : Layout) (slots block : List ℕ) (j s : ℕ) → s < layout .length → (received layout slots s j ≡ evaluate (stripe t block s) j → ⊥)
+    → isNamed t layout slots block j ≡ true
 
 abbrev pub NotNamed : Type 0
 NotNamed =

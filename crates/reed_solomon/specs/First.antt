@@ -1,15 +1,15 @@
 -- The block that meets decoding's rule as a function, for definitions that need one: the first of all blocks, in dictionary order, that meets
 -- it. Within the settings it is the only one (`DecodesUnique`), so the order says nothing. The definition is never computed.
---   firstBelow m f                 the first of f 0, .., f (m - 1) that is not none
---   firstBytes len p               the first list of len bytes that passes the test p; none where none does
+--   firstBelow m f                      the first of f 0, .., f (m - 1) that is not none
+--   firstBytes len p                    the first list of len bytes that passes the test p; none where none does
 --   isRightStripe n t layout slots s m  the rule as a test: m are the right bytes of stripe s
 --   meets n t layout slots B            each stripe of B is right
---   DecodesMeets                   what meets the rule passes the test (law `decodes-meets`)
---   MeetsDecodes                   a block that passes the test meets the rule (law `meets-decodes`)
+--   DecodesMeets                        what meets the rule passes the test (law `decodes-meets`)
+--   MeetsDecodes                        a block that passes the test meets the rule (law `meets-decodes`)
 --   rebuilt n t layout slots            the block that meets the rule; none where none does
---   RebuiltDecodes                 it does meet the rule (law `rebuilt-decodes`)
---   RebuiltBlock                   it is every block that meets the rule, where 1 .. n are different elements of the field (law `rebuilt-block`)
---   RebuiltNone                    it is none where no block meets the rule (law `rebuilt-none`)
+--   RebuiltDecodes                      it does meet the rule (law `rebuilt-decodes`)
+--   RebuiltBlock                        it is every block that meets the rule, where 1 .. n are different elements of the field (law `rebuilt-block`)
+--   RebuiltNone                         it is none where no block meets the rule (law `rebuilt-none`)
 use mathlib.Core.Path.{_≡_}
 use mathlib.Core.Bool.{Bool, true, cond}
 use mathlib.Core.List.{List, [], _∷_}
@@ -44,7 +44,8 @@ DecodesMeets = (n t : ℕ) (layout : Layout) (slots B : List ℕ) → Decodes n 
 
 abbrev pub MeetsDecodes : Type 0
 MeetsDecodes =
-    (n t : ℕ) (layout : Layout) (slots B : List ℕ) → length B ≡ blockLength (layout .length) t → Bytes B → meets n t layout slots B ≡ true → Decodes n t layout slots B
+    (n t : ℕ) (layout : Layout) (slots B : List ℕ) → length B ≡ blockLength (layout .length) t → Bytes B
+    → meets n t layout slots B ≡ true → Decodes n t layout slots B
 
 unfoldable pub rebuilt : (n t : ℕ) → Layout → List ℕ → Option (List ℕ)
 rebuilt n t layout slots = firstBytes (blockLength (layout .length) t) (meets n t layout slots)

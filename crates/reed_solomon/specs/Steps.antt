@@ -1,29 +1,29 @@
 -- For the contracts of private functions; a reader of the public contracts needs none of it.
 -- The rule for one stripe, at a list of points:
---   points n layout slots                  the points that are read: the numbers of the present slots, rising
---   column layout slots s xs               the values received at the points xs
---   valuesAt m xs                     the values of the polynomial m at the points xs
---   differences xs ys m               at how many of the points xs the message m does not take the value that ys has
---   unequal a b, different xs ys m    the marks of the places at which a and b differ; of those of the points xs
---   isRight t xs ys m                 the rule, for the values ys at the points xs
---   NoneRight t xs ys                 no bytes are right
---   Pointed t xs                      xs are points of controllers, rising, enough for t + 1 bytes and not too many
---   Settled t xs ys found m           found says whether some bytes are right, and then m are
---   Listed n layout slots count xs         the first count of xs are the points
+--   points n layout slots           the points that are read: the numbers of the present slots, rising
+--   column layout slots s xs        the values received at the points xs
+--   valuesAt m xs                   the values of the polynomial m at the points xs
+--   differences xs ys m             at how many of the points xs the message m does not take the value that ys has
+--   unequal a b, different xs ys m  the marks of the places at which a and b differ; of those of the points xs
+--   isRight t xs ys m               the rule, for the values ys at the points xs
+--   NoneRight t xs ys               no bytes are right
+--   Pointed t xs                    xs are points of controllers, rising, enough for t + 1 bytes and not too many
+--   Settled t xs ys found m         found says whether some bytes are right, and then m are
+--   Listed n layout slots count xs  the first count of xs are the points
 -- Bytes column by column:
---   every w l j n                     n bytes of l, every w-th from byte j on
---   transposed h w l                  the bytes of l, which has h rows of w bytes, column by column
---   rowValues k t cols x              the values at x of k polynomials of t + 1 coefficients that stand in cols column by column
+--   every w l j n         n bytes of l, every w-th from byte j on
+--   transposed h w l      the bytes of l, which has h rows of w bytes, column by column
+--   rowValues k t cols x  the values at x of k polynomials of t + 1 coefficients that stand in cols column by column
 -- A block beside the slots:
---   counted m piece counts            1 added to each count at which the message m has another byte than piece
---   Compared n t layout slots block named counts   the marks of the slots that are named, and how many present values differ in each stripe
---   FirstWrong t present counts from s        by the counts, the stripes from `from` to s are right
---   Checked n t layout slots present block from named s   the marks of the slots that are named, and the stripes from `from` to s are right
---   Room t k block cols tmp           what is lent has the lengths that the work on k stripes needs
---   Lent n t layout slots xs               xs are the points of the present slots, enough for t + 1 bytes
---   Mended t layout slots xs s found before after   found says whether some bytes of stripe s are right; then those of the block after the call are, and the
---                                     stripes before it stay
---   Rebuilds n t layout slots d block      what is left in the block: the block that meets the rule, with its marks; with beyond, none meets it
+--   counted m piece counts                               1 added to each count at which the message m has another byte than piece
+--   Compared n t layout slots block named counts         the marks of the slots that are named, and how many present values differ in each stripe
+--   FirstWrong t present counts from s                   by the counts, the stripes from `from` to s are right
+--   Checked n t layout slots present block from named s  the marks of the slots that are named, and the stripes from `from` to s are right
+--   Room t k block cols tmp                              what is lent has the lengths that the work on k stripes needs
+--   Lent n t layout slots xs                             xs are the points of the present slots, enough for t + 1 bytes
+--   Mended t layout slots xs s found before after        found says whether some bytes of stripe s are right; then those of the block after the call are, and
+--                                                        the stripes before it stay
+--   Rebuilds n t layout slots d block                    what is left in the block: the block that meets the rule, with its marks; with beyond, none meets it
 use mathlib.Core.Path.{_≡_}
 use mathlib.Core.Bool.{Bool, true, false, not}
 use mathlib.Core.List.{List}

@@ -548,17 +548,6 @@ fn play_parts(
     );
 }
 
-// One of four run numbers.
-fn run_number(n: usize, manner: usize) -> u16 {
-    let choice = (n % 4 + manner % 4) % 4;
-    match choice {
-        0 => 0,
-        1 => 1,
-        2 => 256,
-        _ => 65535,
-    }
-}
-
 // A manner with settings, if n allows t.
 fn play_case(n: usize, t: usize, k: usize, manner: usize)
     requires { ⌜ (n ≤ 16) × (t ≤ 5) × (k ≤ 128) ⌝ }
@@ -577,7 +566,7 @@ fn play_case(n: usize, t: usize, k: usize, manner: usize)
         &mut block,
         &mut other,
         &mut out,
-        case_of(n, t, k, run_number(n, manner), manner),
+        case_of(n, t, k, cases::some_run(n % 4 + manner % 4), manner),
     );
 }
 

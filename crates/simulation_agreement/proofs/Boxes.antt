@@ -49,7 +49,8 @@ module _ (F : Scenario) (p : Proper F) where
       ⊎-elim
       (λ (y : F .faulty j ≡ true).
       subst Bytes (sym (slot-faulty F c now i j y))
-      (written-each Byte (layoutAt F c) (lit< tt) (lit< tt) (lit< tt) (lit< tt) (sentAs (F .said c j i)) (subst Bytes (sym (sent-content (F .said c j i))) (p .said-bytes c j i))))
+      (written-each Byte (layoutAt F c) (lit< tt) (lit< tt) (lit< tt) (lit< tt) (sentAs (F .said c j i))
+      (subst Bytes (sym (sent-content (F .said c j i))) (p .said-bytes c j i))))
       (λ (y : F .faulty j ≡ false). subst Bytes (sym (slot-correct F c now i j y)) (slot-bytes (now j .outbox) (layoutAt F c) i (h j)))
       (either (F .faulty j))
 

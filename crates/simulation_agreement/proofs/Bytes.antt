@@ -63,7 +63,8 @@ slots-bytes layout f n word sized each = record {
 }
 
 -- one message to all
-one-bytes : (layout : Layout) (m : List ℕ) (n : ℕ) → layout .run < 65536 → IsBytes (layout .length) m → IsBytes (n * width layout) (slots layout (λ _. bytes m) n)
+one-bytes : (layout : Layout) (m : List ℕ) (n : ℕ) → layout .run < 65536 → IsBytes (layout .length) m
+    → IsBytes (n * width layout) (slots layout (λ _. bytes m) n)
 one-bytes layout m n word h = slots-bytes layout (λ _. bytes m) n word (λ j. sized-bytes layout m (h .size)) (λ j. h .bytes)
 
 to-all-bytes : (layout : Layout) (n : ℕ) (m o : List ℕ) → layout .run < 65536 → Bytes m → Bytes o → IsBytes (length o) (toAll layout n m o)
@@ -81,7 +82,8 @@ piece-of-bytes : (k t : ℕ) (b : List ℕ) (j : ℕ) → IsBytes k (pieceOf k t
 piece-of-bytes k t b j = record { size = length-piece k t b j; bytes = bytes-piece k t b j }
 
 -- ---- calls
-module _ (s : State) (b i o : List ℕ) (r : Ready s (length b) (length i) (length o)) (word : s .run < 65536) (block : Bytes b) (inbox : Bytes i) (outbox : Bytes o) where
+module _ (s : State) (b i o : List ℕ) (r : Ready s (length b) (length i) (length o)) (word : s .run < 65536)
+    (block : Bytes b) (inbox : Bytes i) (outbox : Bytes o) where
   coded : Coded (s .settings .n) (s .settings .t) (s .settings .k)
   coded = r .valid .coded
 
@@ -138,7 +140,8 @@ module _ (s : State) (b i o : List ℕ) (r : Ready s (length b) (length i) (leng
             ∙ row 1 Block (round-block (s .settings .t)) ∙ row-block (s .settings .n) (s .settings .t) (s .settings .k)));
       }
 
-  pieces : s .next ≡ 2 → (b′ : List ℕ) → length b′ ≡ length b → IsBytes (length o) (sentPieces (s .run) (s .settings .n) (s .settings .t) (s .settings .k) (s .own) b′ o)
+  pieces : s .next ≡ 2 → (b′ : List ℕ) → length b′ ≡ length b
+      → IsBytes (length o) (sentPieces (s .run) (s .settings .n) (s .settings .t) (s .settings .k) (s .own) b′ o)
   pieces at b′ long =
       let L = kindLayout (s .run) Pieces (s .settings .n) (s .settings .t) (s .settings .k) in
       let l = kind-room 2 Pieces at (round-pieces (s .settings .t)) (omega arith) (omega arith) in
@@ -175,7 +178,8 @@ module _ (s : State) (b i o : List ℕ) (r : Ready s (length b) (length i) (leng
       (λ (e : s .own ≡ p → ⊥). silent _ (king-none (outboxLayout s) (s .own) p (s .settings .n) m o e))
       (same-or-not (s .own) p)
 
-  forward : s .next ≡ 3 * s .settings .t + 7 → (core : ℕ) → IsBytes (length o) (forwarded (s .run) (s .settings .n) (s .settings .t) (s .settings .k) (s .own) core b o)
+  forward : s .next ≡ 3 * s .settings .t + 7 → (core : ℕ)
+      → IsBytes (length o) (forwarded (s .run) (s .settings .n) (s .settings .t) (s .settings .k) (s .own) core b o)
   forward at core =
       let L = kindLayout (s .run) Forward (s .settings .n) (s .settings .t) (s .settings .k) in
       let l = kind-room (3 * s .settings .t + 7) Forward at (round-forward (s .settings .t)) (omega arith) (omega arith) in
@@ -248,7 +252,8 @@ module _ (s : State) (b i o : List ℕ) (r : Ready s (length b) (length i) (leng
       subst (λ (l : Layout). IsBytes (length b) (finished (s .settings .n) (s .settings .t) l core i b .block)) (sym layout-is)
       (⊎-elim
       (λ (z : restricted core (s .settings .n) ≡ 0).
-      subst (λ (x : Finished). IsBytes (length b) (x .block)) (sym (finished-none (s .settings .n) (s .settings .t) (layoutWith (s .run) (s .settings .k)) core i b z))
+      subst (λ (x : Finished). IsBytes (length b) (x .block))
+      (sym (finished-none (s .settings .n) (s .settings .t) (layoutWith (s .run) (s .settings .k)) core i b z))
       (zeros-bytes (length b)))
       (λ (z : restricted core (s .settings .n) ≡ 0 → ⊥).
       let e = 0-decode (s .settings .n) (s .settings .t) (layoutWith (s .run) (s .settings .k)) i b coded long (r .block-length) in
@@ -258,7 +263,8 @@ module _ (s : State) (b i o : List ℕ) (r : Ready s (length b) (length i) (leng
       (sym (finished-agreed (s .settings .n) (s .settings .t) (layoutWith (s .run) (s .settings .k)) core i b z e (d .0) (d .1)))
       (record { size = d .1 .size ∙ sym (r .block-length); bytes = d .1 .bytes }))
       (λ (d : (B : List ℕ) → Decodes (s .settings .n) (s .settings .t) (layoutWith (s .run) (s .settings .k)) i B → ⊥).
-      subst (λ (x : Finished). IsBytes (length b) (x .block)) (sym (finished-beyond (s .settings .n) (s .settings .t) (layoutWith (s .run) (s .settings .k)) core i b z e d))
+      subst (λ (x : Finished). IsBytes (length b) (x .block))
+      (sym (finished-beyond (s .settings .n) (s .settings .t) (layoutWith (s .run) (s .settings .k)) core i b z e d))
       (zeros-bytes (length b)))
       (decodes-or-not (s .settings .n) (s .settings .t) (layoutWith (s .run) (s .settings .k)) i))
       (same-or-not (restricted core (s .settings .n)) 0))

@@ -92,7 +92,8 @@ module _ (S : Settings) (block : List ℕ) (faulty : ℕ) (places input : List �
           outbox = λ i a b l f.
               let pos = length-pos (v .coded) (c + 1) (omega arith) (omega arith) in
               ap (λ (x : List ℕ). part (inboxLength (S .n) (S .t) (S .k) (c + 1 + 1)) x (i - 1)) is-sent
-              ∙ ap (λ (w : ℕ). part w sending (i - 1)) (inbox-is runNumber (S .n) (S .t) (S .k) (c + 1) pos ∙ sym (outbox-is runNumber (S .n) (S .t) (S .k) (c + 1) pos))
+              ∙ ap (λ (w : ℕ). part w sending (i - 1))
+              (inbox-is runNumber (S .n) (S .t) (S .k) (c + 1) pos ∙ sym (outbox-is runNumber (S .n) (S .t) (S .k) (c + 1) pos))
               ∙ ap (λ (p : Playing). p .outbox) (correct-is i a b f);
         })
 
@@ -129,7 +130,8 @@ first-state S block s e x l =
     let z : x ≡ 0 = omega arith in
     getD-replicate 16 x s zeroState (omega arith) ∙ e ∙ ap (λ (y : ℕ). startOf S (y + 1) runNumber (length block) .state) (sym z)
 
-pub next-state : (S : Settings) (block : List ℕ) (states : List State) (i : ℕ) (s : State) → i < length states → s ≡ startOf S (i + 1) runNumber (length block) .state
+pub next-state : (S : Settings) (block : List ℕ) (states : List State) (i : ℕ) (s : State)
+    → i < length states → s ≡ startOf S (i + 1) runNumber (length block) .state
     → ((x : ℕ) → x < i → getD states x zeroState ≡ startOf S (x + 1) runNumber (length block) .state)
     → (x : ℕ) → x < i + 1 → getD (set states i s) x zeroState ≡ startOf S (x + 1) runNumber (length block) .state
 next-state S block states i s l e h x g =

@@ -264,7 +264,11 @@ module _ {S : Settings} (v : FileSettings S) where
   pub inbox-le : (c : ℕ) → c ≤ 3 * S .t + 8 → inboxLength (S .n) (S .t) (S .k) (c + 1) ≤ 3120
   inbox-le zero l = omega (arith, first-inbox (S .n) (S .t) (S .k))
   inbox-le (suc c) l =
-      omega (arith, inbox-is runNumber (S .n) (S .t) (S .k) (suc c) (length-pos (v .coded) (suc c) (omega arith) l), box-most (layoutIn S (suc c)) (message-le (suc c)))
+      omega (
+        arith,
+        inbox-is runNumber (S .n) (S .t) (S .k) (suc c) (length-pos (v .coded) (suc c) (omega arith) l),
+        box-most (layoutIn S (suc c)) (message-le (suc c)),
+      )
 
   pub outbox-le : (c : ℕ) → 1 ≤ c → c ≤ 3 * S .t + 9 → outboxLength (S .n) (S .t) (S .k) c ≤ 3120
   outbox-le c least most =

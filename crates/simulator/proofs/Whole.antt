@@ -54,7 +54,8 @@ pub held-start : (S : Settings) (block : List ℕ) (faulty : ℕ) (places input 
     → AfterCalls (tableScenario S block faulty places input) 0 states blocks (blockLength (S .k) (S .t)) sent (inboxLength (S .n) (S .t) (S .k) 1)
 held-start S block faulty places input states blocks sent size s b =
     let F = tableScenario S block faulty places input in
-    let is : (i : ℕ) → played F 0 i ≡ record { state = startOf S i runNumber (length block) .state; block = block; outbox = [] } = λ i. played-start F i ∙ began-is F i in
+    let is : (i : ℕ) → played F 0 i ≡ record { state = startOf S i runNumber (length block) .state; block = block; outbox = [] }
+    = λ i. played-start F i ∙ began-is F i in
     record {
       state = λ i l m.
           let e : i - 1 + 1 ≡ i = omega arith in

@@ -7,7 +7,7 @@
 --   widthOf i            the width of field i, counted from 0
 --   offset i             where field i starts: the sum of the widths before it
 --   stateLength          how many bytes a state takes: the sum of all widths
---   sixNumbers s          the first six fields, which are numbers
+--   sixNumbers s         the first six fields, which are numbers
 --   fieldsOf s           the bytes of the twelve fields: numbers, and 16 rows of marks for each matrix
 --   fieldBytes s i       those of field i
 --   stateBytes s         the bytes of a state

@@ -46,14 +46,8 @@ fn faulty(s: Setup, i: usize) -> bool {
 
 // The run number: one of four, each with each choice of faulty controllers.
 fn run_number(s: Setup) -> u16 {
-    let x = s.seed % 16;
-    let choice = (x + x / 4) % 4;
-    match choice {
-        0 => 0,
-        1 => 1,
-        2 => 256,
-        _ => 65535,
-    }
+    let x = (s.seed % 16) as usize;
+    cases::some_run(x + x / 4)
 }
 
 // How a faulty controller behaves: 0 silent, 1 all ones to every other receiver and zeros to the rest, 2 any bytes, 3 any bytes or absent, 4 any bytes,

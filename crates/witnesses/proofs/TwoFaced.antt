@@ -1,8 +1,8 @@
--- Four controllers, t 1, k 1. Controller 4 is faulty: in every round it sends different bytes to different controllers. The steps of 1, 2 and 3 contain
--- refused ones before, between and after the calls. One of its slots is of another run (document 02, U11). Two systems: `two-faced`, in which 1 is the sender and has the block 0a14, and `without-sender`
--- (document 02, U6), in which 1, 2 and 3 are started with 0a14 and nobody hears what 4 sends in round 1. `two-faced-supposed`,
--- `without-sender-supposed`: what demand 3 supposes holds, computed; `two-faced-agreed`, `without-sender-agreed`: by demand 3, agreed and 0a14;
--- `two-faced-named`: whom 1, 2 and 3 name (document 02, U1).
+-- Four controllers, t 1, k 1. Controller 4 is faulty: in every round it sends different bytes to different controllers, and once a slot of another run
+-- (document 02, U11). The steps of 1, 2 and 3 contain refused ones before, between and after the calls. Two systems: `two-faced`, in which 1 is the
+-- sender and has the block 0a14, and `without-sender` (document 02, U6), in which 1, 2 and 3 are started with 0a14 and nobody hears what 4 sends in
+-- round 1. `two-faced-supposed`, `without-sender-supposed`: what demand 3 supposes holds, computed; `two-faced-agreed`, `without-sender-agreed`: by
+-- demand 3, agreed and 0a14; `two-faced-named`: whom 1, 2 and 3 name (document 02, U1).
 --   from4-1, from4-2, from4-3   the slots that 4 sends to 1, 2 and 3, round after round
 --   from1 sender                the slot that 1 sends to each in round 1, whether as the sender or not
 --   stepsOf slot piece from4    the steps of the controller with that piece, where slot is what 1 sends it in round 1
@@ -41,7 +41,8 @@ use Rattle.protocol.specs.Step.{startRefusal, startOf, lengthsFit, stepRefusal,
 use Rattle.agreement.specs.Agreement.{System, Correct, Supposed, StartedAlike, Concluded, Holds, atStart, lastInbox}
 use Rattle.agreement.specs.Named.{namedBy}
 use Rattle.agreement.proofs.Laws.{agreement, named-by-last}
-use Rattle.witnesses.proofs.Test.{each, Meets, meets-supposed, answers, Step, small, small-bytes, smalls, lents, runNumber, present, late, absent, rows, box}
+use Rattle.witnesses.proofs.Test.{each, Meets, meets-supposed, answers, Step, small, small-bytes, smalls, lents, runNumber, present, late, absent}
+use Rattle.witnesses.proofs.Test.{rows, box}
 
 abbrev zeros : List ℕ
 zeros = rows 0 0 0 0
