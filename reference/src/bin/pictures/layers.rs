@@ -56,7 +56,7 @@ impl Crates {
             cases: 0,
         };
         let mut names = BTreeSet::new();
-        for line in text.lines() {
+        for line in text.lines().filter(|line| !line.starts_with('#')) {
             let (name, used) = line.split_once(':').expect("a name and a colon");
             let is_case = name.ends_with("_cases");
             assert!(names.insert(name), "{name} stands twice");
