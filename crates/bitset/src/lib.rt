@@ -1,5 +1,7 @@
 // Sets of controllers as 16-bit numbers, index i for controller i + 1, and rows of such sets in message bytes.
 // Every function is total: an index past 15 is in no set.
+#![tactic(auto)]
+
 ghost use Rattle.std.specs.Prelude.{◌≡◌, true, ◌*◌, ◌^◌, ◌<◌, min};
 ghost use Rattle.lists.specs.Fill.{filled};
 ghost use Rattle.bitset.specs.Set.{member, set_of, size_of, inserted, removed, intersection, difference, union, restricted, lowest_of};

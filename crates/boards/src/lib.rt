@@ -1,6 +1,8 @@
 // The functions that programs in C, or in Rust, link as a static library: those of the crates below over numbers and byte slices, with the
 // state as bytes in a lent buffer. include/potekawhi.h declares them for C. Here are a run and its lengths; the code and the star by themselves
 // are in code.rt.
+#![tactic(auto)]
+
 mod code;
 
 ghost use Rattle.std.specs.Prelude.{◌≡◌, cond, length};

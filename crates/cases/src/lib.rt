@@ -1,5 +1,7 @@
 // What the programs that run cases and print them have in common: random numbers, run numbers, digests, bytes and lengths of lent slices, and printing to
 // standard output. No contract can say what is printed.
+#![tactic(auto)]
+
 ghost use Rattle.std.specs.Prelude.{◌≡◌, ◌/◌, ◌%◌, ◌≤◌, ◌&&◌, ltb, length, replicate, if◌then◌else◌, ◌==◌, nat_lt};
 ghost use Rattle.lists.specs.Sum.{ind};
 ghost use Rattle.io.specs.Counts.{IsPrefixLen};

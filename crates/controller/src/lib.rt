@@ -1,6 +1,8 @@
 // One controller's part in the broadcast of a block: start, then a step for each call (document 01, 'The house', 'Rounds', 'Turned down').
 // The state goes in and comes back by value; the block, the inbox and the outbox are lent. What each call does is its definition in the
 // crate protocol; here the calls are put together from the layers below.
+#![tactic(auto)]
+
 mod calls;
 mod refusal;
 

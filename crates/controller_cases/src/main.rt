@@ -14,6 +14,8 @@
 // call follows. The state's row has the same marks.
 // The expected output comes from the independent reference:
 //     cargo run --release --bin controller_vectors > crates/controller_cases/stdout
+#![tactic(auto)]
+
 ghost use Rattle.std.specs.Prelude.{◌<◌};
 
 use protocol::{Started, State, Stepped};

@@ -1,4 +1,6 @@
 // Calls 1 to 3 of a controller (document 01, 'Rounds'; document 02, U6: sender 0 is none): the sender's block to all, the pieces, the marks.
+#![tactic(auto)]
+
 ghost use Rattle.std.specs.Prelude.{◌≡◌, ◌&&◌, ◌++◌, ◌+◌, ◌*◌, ◌≤◌, length, take, drop};
 ghost use Rattle.lists.specs.Same.{same};
 ghost use Rattle.bitset.specs.Set.{set_of};

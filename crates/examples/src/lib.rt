@@ -1,1 +1,2 @@
 // Document 01's checked examples as theorems over the definitions; no code.
+#![tactic(auto)]

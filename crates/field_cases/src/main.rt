@@ -1,8 +1,10 @@
 // Runs every product, inverse, power and exponent of `gf256` and compares it with a second way of computing it: products bit by bit,
 // powers by doubling, inverses and exponents by search. A line for each kind: how many cases, and in how many the two agree.
+#![tactic(auto)]
+
 ghost use Rattle.std.specs.Prelude.{◌≤◌};
 
-#[derive(Drop)]
+#[derive(Clone, Copy)]
 enum Kind {
     Product,
     Inverse,

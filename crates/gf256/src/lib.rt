@@ -1,6 +1,8 @@
 // The field of 256 elements: bytes, with exclusive or as the sum and the product of polynomials over two elements reduced by 11d
 // (document 01, 'Field and code'). Every function has an answer for every byte. Crates above know the contracts and the laws of
 // proofs/Laws.antt; each table is read by one function here and seen by nobody else. Loops over many elements use no table.
+#![tactic(auto)]
+
 ghost use Rattle.std.specs.Prelude.{◌≡◌, ◌/◌, min, length, get_or};
 ghost use Rattle.lists.specs.Fill.{tabulate, filled};
 ghost use Rattle.gf256.specs.Field.{gadd, gmul, gpow, ginv, glog};

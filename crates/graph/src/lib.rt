@@ -1,5 +1,7 @@
 // The neighbour graph of rows of marks, held as its missing pairs (document 02, U9): 120 bits, one for each pair of different indices below
 // 16, in 15 bytes. Index i stands for controller i + 1.
+#![tactic(auto)]
+
 ghost use Rattle.std.specs.Prelude.{◌≡◌, not, ◌&&◌, ◌||◌, ◌-◌, ◌*◌, ◌%◌, ◌^◌, ◌<◌, min, eqb, ltb, get_or};
 ghost use Rattle.lists.specs.Sum.{sum, ind};
 ghost use Rattle.bitset.specs.Set.{member, set_of};

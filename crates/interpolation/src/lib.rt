@@ -1,12 +1,14 @@
 // Interpolation of a polynomial through values some of which are wrong (Welch and Berlekamp, by the pairs of Kötter), over a list of points
 // and a list of values. It knows of the field only its contracts and laws.
+#![tactic(auto)]
+
 ghost use Rattle.std.specs.Prelude.{◌≡◌, ◌+◌, ◌-◌, ◌≤◌, ◌<◌, length};
 ghost use Rattle.polynomial.specs.Polynomial.{evaluate, plus, scale, times_root};
 ghost use Rattle.interpolation.specs.Interpolation.{ratio, wrong_by, advance, next, run, reduced, series, candidate, candidate_into};
 ghost use Rattle.interpolation.specs.Steps.{ratios_of, SameWidth, Next, Zeros};
 
 // Bounds of the weighted degrees of two pairs of polynomials.
-#[derive(Drop)]
+#[derive(Clone, Copy)]
 struct Weights {
     u: usize,
     v: usize,

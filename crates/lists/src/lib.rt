@@ -1,4 +1,6 @@
 // Definitions and laws of sums, counts and lists for the crates above, the comparison of two byte strings, and the bytes of 16-bit numbers.
+#![tactic(auto)]
+
 ghost use Rattle.std.specs.Prelude.{◌≡◌, ◌+◌, ◌*◌, ◌/◌, ◌%◌, ◌<◌};
 ghost use Rattle.lists.specs.Same.{same};
 

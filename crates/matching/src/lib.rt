@@ -1,5 +1,7 @@
 // The first largest matching of the pairs that are not neighbours (document 01, 'Star and core'). The graph comes as its missing pairs
 // (document 02, U9), of which the search makes its rows once. Index i stands for controller i + 1.
+#![tactic(auto)]
+
 ghost use Rattle.std.specs.Prelude.{◌≡◌, true, [], ◌<◌, ◌≤◌, min, set};
 ghost use Rattle.graph.specs.Bits.{adjacent};
 ghost use Rattle.matching.specs.Answer.{ends, IsFirstLargest};
@@ -137,7 +139,7 @@ fn is_hopeless(graph: &[u16; 16], s: u16, k: usize) -> bool
 }
 
 // What a search for a matching finds: its pairs, the first one last.
-#[derive(Drop)]
+#[derive(Clone, Copy)]
 struct Search {
     pub ok: bool,
     pub small: [u8; 8],
@@ -196,7 +198,7 @@ fn first_of_size(graph: &[u16; 16], s: u16, k: usize) -> Search
 }
 
 // A matching: its pairs, each the smaller end first, the first pair last; zeros after them.
-#[derive(Drop)]
+#[derive(Clone, Copy)]
 pub struct Matching {
     pub count: usize,
     pub small: [u8; 8],

@@ -1,6 +1,8 @@
 // The vote among the controllers on a matrix of marks, bit by bit (document 01, 'Rounds', call 4 and rounds 3p + 1 to 3p + 3; Berman, Garay
 // and Perry). Index i is controller i + 1; a king is named by its number. Every function is total: a number n over 16 counts as 16.
 // The rules for one bit are in one_bit.rt, what is sent is in send.rt.
+#![tactic(auto)]
+
 mod one_bit;
 mod send;
 
@@ -16,27 +18,27 @@ pub use send::{send_as_king, send_matrix, send_seen};
 use wire::Layout;
 
 // A matrix: a row of marks for each controller.
-#[derive(Drop)]
+#[derive(Clone, Copy)]
 pub struct Matrix {
     pub rows: [u16; 16],
 }
 
 // Where zero is seen and where one is seen.
-#[derive(Drop)]
+#[derive(Clone, Copy)]
 pub struct Seen {
     pub zeros: [u16; 16],
     pub ones: [u16; 16],
 }
 
 // The bits now held, and where their count is below n - t.
-#[derive(Drop)]
+#[derive(Clone, Copy)]
 pub struct Held {
     pub rows: [u16; 16],
     pub weak: [u16; 16],
 }
 
 // What is asked of the slots for each bit.
-#[derive(Drop)]
+#[derive(Clone, Copy)]
 enum Rule {
     ZeroSeen,
     OneSeen,

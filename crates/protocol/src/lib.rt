@@ -1,5 +1,7 @@
 // The state of a controller, written out and changed here alone, and what start and step answer (document 01, 'The house'; document 02, U1 and U11).
 // The definitions of every call, of start and of step are in specs/.
+#![tactic(auto)]
+
 ghost use Rattle.std.specs.Prelude.{◌≡◌};
 ghost use Rattle.protocol.specs.State.{initial, zero_state, with_call, with_matrix, with_votes, with_core, with_named};
 
@@ -8,7 +10,7 @@ use settings::Settings;
 
 // The settings, the own number, the run number, the number of the next call, the outcome, the matrix of the vote with the bits whose count was low, the core, and
 // the marks of those whom the controller names. The block is lent beside it.
-#[derive(Drop)]
+#[derive(Clone, Copy)]
 pub struct State {
     pub settings: Settings,
     pub own: usize,
@@ -22,14 +24,14 @@ pub struct State {
 }
 
 // What start answers: the refusal number, or 0, and the state.
-#[derive(Drop)]
+#[derive(Clone, Copy)]
 pub struct Started {
     pub number: u8,
     pub state: State,
 }
 
 // What a step answers: the refusal number, or 0, and the state.
-#[derive(Drop)]
+#[derive(Clone, Copy)]
 pub struct Stepped {
     pub number: u8,
     pub state: State,

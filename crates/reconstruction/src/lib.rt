@@ -1,4 +1,6 @@
 // Calls 3t + 7 to 3t + 9 of a controller (document 01, 'Rounds'): pieces for everyone from the core, everyone's piece, the block.
+#![tactic(auto)]
+
 ghost use Rattle.std.specs.Prelude.{◌≡◌, ◌&&◌, List, ℕ, ◌+◌, ◌*◌, ◌≤◌, ◌<◌, length};
 ghost use Rattle.lists.specs.Same.{same};
 ghost use Rattle.bitset.specs.Set.{member, first};
@@ -13,7 +15,7 @@ use reed_solomon::Decoded;
 use wire::{Layout, Round};
 
 // How a run stands or ended (document 01, 'The house').
-#[derive(Drop)]
+#[derive(Clone, Copy)]
 pub enum Outcome {
     Open,
     Agreed,
@@ -22,7 +24,7 @@ pub enum Outcome {
 }
 
 // What the last call sets in the state: the outcome, and whom the controller names, as marks (document 02, U1).
-#[derive(Drop)]
+#[derive(Clone, Copy)]
 pub struct Ending {
     pub outcome: Outcome,
     pub named: u16,

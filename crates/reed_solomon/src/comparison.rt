@@ -9,7 +9,7 @@ use crate::columns;
 use wire::Layout;
 
 // A block compared with all slots: the marks of those that do not hold their piece of it, and the first stripe in which too many differ.
-#[derive(Drop)]
+#[derive(Clone, Copy)]
 pub(crate) struct Comparison {
     pub(crate) named: u16,
     pub(crate) wrong: usize,

@@ -1,5 +1,7 @@
 // The Reed-Solomon code (document 01, 'Field and code'; document 02, U2 and U1): one piece of a block's coding, and a block from the present ones of
 // n slots of pieces, with the marks of those that are not its own. It knows of the field only its contracts and laws.
+#![tactic(auto)]
+
 mod columns;
 mod comparison;
 mod guessing;
@@ -15,7 +17,7 @@ ghost use Rattle.reed_solomon.specs.Steps.{Pointed, Mended, Rebuilds, Lent, Room
 use wire::Layout;
 
 // What decoding answers. The block itself is in the lent bytes; with it come the marks of the slots that were absent or did not hold their piece.
-#[derive(Drop)]
+#[derive(Clone, Copy)]
 pub enum Decoded {
     Block(u16),
     Beyond,

@@ -9,7 +9,7 @@ use wire::Layout;
 
 // From where the next guess is made, where the stripe looked at was found: the marks of the points that were seen to be false, by index, and the index
 // to start from.
-#[derive(Drop)]
+#[derive(Clone, Copy)]
 pub(crate) struct Search {
     pub(crate) found: bool,
     pub(crate) marks: u16,

@@ -7,12 +7,14 @@
 // answers with 0 to 3 of them: answer, row and block.
 // The expected output comes from the independent reference, which decodes by trying sets of t + 1 present slots:
 //     cargo run --release --bin code_vectors > crates/reed_solomon_cases/stdout
+#![tactic(auto)]
+
 ghost use Rattle.std.specs.Prelude.{◌≡◌, ◌<◌, ◌≤◌};
 
 use reed_solomon::Decoded;
 
 // The settings, the run number, how false pieces are made, what random bytes come from, and which slots have one: the bit worth 1 for controller 1.
-#[derive(Drop)]
+#[derive(Clone, Copy)]
 struct Case {
     n: usize,
     t: usize,
@@ -24,14 +26,14 @@ struct Case {
 }
 
 // What decoding answered: 0 a block, 9 beyond, else the number of the refusal; and the row of marks, empty where there is no block.
-#[derive(Drop)]
+#[derive(Clone, Copy)]
 struct Answer {
     number: u8,
     named: u16,
 }
 
 // How many calls answered a block, beyond, and a row that is not empty, and a digest of what they answered and left.
-#[derive(Drop)]
+#[derive(Clone, Copy)]
 struct Tally {
     blocks: u64,
     beyond: u64,

@@ -1,11 +1,13 @@
 // The settings of a run, and which of them are refused with which number (document 01, 'Turned down', rows 1 to 6; row 5 as document 02, U6,
 // has it).
+#![tactic(auto)]
+
 ghost use Rattle.std.specs.Prelude.{◌≡◌, ◌++◌, ◌-◌, length, replicate};
 ghost use Rattle.settings.specs.Refusal.{outside, too_many, broken, tried, refusal_of};
 ghost use Rattle.settings.specs.Refusal.{partial, state_refusal, encoding_refusal, decoding_refusal, lengths_refusal, star_refusal};
 
 // What all controllers of a system share: n controllers of which at most t are faulty, k stripes, the sender; sender 0: none.
-#[derive(Drop)]
+#[derive(Clone, Copy)]
 pub struct Settings {
     pub n: usize,
     pub t: usize,
@@ -14,7 +16,7 @@ pub struct Settings {
 }
 
 // Who tries the table: each entry point tries rows of its own.
-#[derive(Drop)]
+#[derive(Clone, Copy)]
 pub enum Entry {
     // start: 1 to 6
     Start,

@@ -1,5 +1,7 @@
 // The simulator as a program (document 01, 'The house program'): a system file comes on standard input, and its output goes to standard output.
 // One byte more than the longest file is read, so that a file that is too long is known.
+#![tactic(auto)]
+
 use libc::{STDIN_FILENO, STDOUT_FILENO};
 
 // Writes the first `length` bytes.

@@ -1,5 +1,7 @@
 // The simulator (document 01, 'The house program'): plays what a system file says and writes the outcome and block of each correct
 // controller; or writes which line of the file is wrong.
+#![tactic(auto)]
+
 mod inbox;
 mod lines;
 mod run;

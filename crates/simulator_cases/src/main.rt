@@ -1,6 +1,7 @@
 // Plays each system file that its arguments name: the files of data/, right ones and broken ones. For each it writes the name and then the
 // simulator's output. Files, names and the expected output come from the independent reference:
 //     cargo run --release --bin system_files -- crates/simulator_cases
+#![tactic(auto)]
 
 // Prints the first `length` bytes.
 fn print(bytes: &[u8], length: usize) {

@@ -1,4 +1,6 @@
 // The star of a neighbour graph and its core (document 01, 'Star and core'). Index i stands for controller i + 1.
+#![tactic(auto)]
+
 ghost use Rattle.std.specs.Prelude.{◌≡◌, not, ◌&&◌, ◌^◌, ◌<◌, ◌≤◌};
 ghost use Rattle.bitset.specs.Set.{member, set_of, size_of, removed, intersection, difference};
 ghost use Rattle.graph.specs.Neighbour.{neighbour, missing};
@@ -15,7 +17,7 @@ use settings::star_refusal;
 
 // The number of a refusal, or 0, and the sets C, D, F and E, of which E is the core. All four are empty where the star is refused or
 // no core is found.
-#[derive(Drop)]
+#[derive(Clone, Copy)]
 pub struct Sets {
     pub refusal: u8,
     pub c: u16,

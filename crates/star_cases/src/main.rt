@@ -3,6 +3,8 @@
 // chances, those of numbers past n too, and the missing pairs of one kind of graph for each n, 15 bytes. The expected output comes from
 // the independent reference, which searches exhaustively:
 //     cargo run --release --bin star_vectors > crates/star_cases/stdout
+#![tactic(auto)]
+
 ghost use Rattle.std.specs.Prelude.{◌≤◌, ◌<◌};
 
 use star::Sets;

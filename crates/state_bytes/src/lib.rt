@@ -1,4 +1,6 @@
 // The state of a controller as bytes, for callers that keep it in a buffer of their own, as those of the static library do.
+#![tactic(auto)]
+
 ghost use Rattle.std.specs.Prelude.{◌≡◌, cond, ◌<◌, ◌≤◌, eqb, length, get_or};
 ghost use Rattle.bitset.specs.Row.{rows_in};
 ghost use Rattle.reconstruction.specs.Outcomes.{outcome_number};

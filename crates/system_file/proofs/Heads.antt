@@ -17,7 +17,7 @@ use Rattle.lists.proofs.Parts.{drop-take}
 use Rattle.text.specs.Read.{value_of, number_in, is_bytes, bytes_of}
 use Rattle.text.specs.declared.lines.Numbers.{Numbers}
 use Rattle.text.specs.Lines.{line_at, is_ended, next_at, is_names, rest, field, is_numbers, numbers_of}
-use Rattle.text.proofs.Laws.{number_range, number_is, number_in, length-bytes, line_part, ended_yes, next_is, held_ended, held_short, rest_le, rest_end}
+use Rattle.text.proofs.Laws.{number_range, number_is, number_in_lem, length-bytes, line_part, ended_yes, next_is, held_ended, held_short, rest_le, rest_end}
 use Rattle.text.proofs.Laws.{NumbersFound, numbers-found, numbers_none, numbers_range, numbers_four}
 use Rattle.settings.specs.Refusal.{state_refusal}
 use Rattle.settings.specs.Valid.{Coded, Valid}
@@ -58,8 +58,8 @@ module _ (l : List ℕ) where
       let rk = number_range 1 32 (field 2 l) (and_left _ _ e3) in
       let rs = number_range 0 n (field 3 l) (and_left _ _ e4) in
       let q = leb-true (3 * value_of (field 1 l) + 1) n (and_left _ _ e2) in
-      let t = number_in 1 5 (field 1 l) (number_is _ _ _ (and_left _ _ e1)) rt.0 (omega arith) in
-      let s = number_in 0 16 (field 3 l) (number_is _ _ _ (and_left _ _ e4)) rs.0 (omega arith) in
+      let t = number_in_lem 1 5 (field 1 l) (number_is _ _ _ (and_left _ _ e1)) rt.0 (omega arith) in
+      let s = number_in_lem 0 16 (field 3 l) (number_is _ _ _ (and_left _ _ e4)) rs.0 (omega arith) in
       record {
         numbers = numbers_four ranges l refl ∙ rw (and_left (number_in 4 16 (field 0 l)) _ e, t, and_left (number_in 1 32 (field 2 l)) _ e3, s);
         valid = record {

@@ -6,7 +6,7 @@ use settings::Settings;
 use text::lines;
 
 // What the settings line says, with the bytes of the file where its block starts and ends.
-#[derive(Drop)]
+#[derive(Clone, Copy)]
 pub(crate) enum Head {
     Said {
         settings: Settings,

@@ -1,5 +1,7 @@
 // The reader of system files (document 01, 'The house program'): the settings, the block, who is faulty, and where in the file each message
 // stands, in one pass; or the first wrong line.
+#![tactic(auto)]
+
 mod head;
 mod messages;
 mod table;
@@ -19,7 +21,7 @@ use text::lines;
 const LIMIT: usize = 65536;
 
 // Whether a file has its form: the first wrong or missing line, 0 for a file that is too long.
-#[derive(Drop)]
+#[derive(Clone, Copy)]
 pub enum Form {
     Right,
     Wrong(usize),

@@ -10,7 +10,7 @@ use settings::Settings;
 use text::lines;
 
 // What a message line says, with the byte of the file where its message starts.
-#[derive(Drop)]
+#[derive(Clone, Copy)]
 enum Line {
     Said {
         round: usize,
@@ -22,14 +22,14 @@ enum Line {
 }
 
 // A message line that was entered in the table: its sender, and where the next line starts.
-#[derive(Drop)]
+#[derive(Clone, Copy)]
 enum Entered {
     Made { from: usize, next: usize },
     Wrong,
 }
 
 // All message lines: the faulty controllers, or the first wrong line.
-#[derive(Drop)]
+#[derive(Clone, Copy)]
 pub(crate) enum Lines {
     Right(u16),
     Wrong(usize),

@@ -11,7 +11,7 @@
 --     NumbersFound, numbers-found          the numbers in the first fields: what the answer tells; numbers_none; numbers_range: each is in its range;
 --                                          numbers_three, numbers_four: the test, field by field
 --   Numbers
---     number_yes, number_no        the answer by the test; number_is, number_range, number_in: the test's parts
+--     number_yes, number_no        the answer by the test; number_is, number_range, number_in_lem: the test's parts
 --     answer_value, answer-wrong   the test by the answer
 --     digit_lt, value_grows, every_append   digits
 --   Bytes in hexadecimal
@@ -26,7 +26,7 @@ pub use Rattle.text.proofs.Fields.{before_at, before_past, before_le, before_tak
 pub use Rattle.text.proofs.LineParts.{line_le, line_part, yes_ended, no_ended, ended_yes, next_is, held_ended, held_short, held_next, Named}
 pub use Rattle.text.proofs.LineParts.{names_said, names_none}
 pub use Rattle.text.proofs.LineNumbers.{rest_le, rest_end, NumbersFound, numbers-found, numbers_none, numbers_range, numbers_three, numbers_four}
-pub use Rattle.text.proofs.Numbers.{digit_lt, value_grows, every_append, number_yes, number_no, number_is, number_range, number_in, answer_value}
+pub use Rattle.text.proofs.Numbers.{digit_lt, value_grows, every_append, number_yes, number_no, number_is, number_range, number_in_lem, answer_value}
 pub use Rattle.text.proofs.Numbers.{answer-wrong}
 pub use Rattle.text.proofs.Bytes.{hex_lt, bytes_half, length-bytes_of, bytes-digits, length-bytes, get_or-bytes, bytes_lt, bytes_odd, bytes_other}
 pub use Rattle.text.proofs.Digits.{decimal_le, decimal_short, length-hexadecimal}

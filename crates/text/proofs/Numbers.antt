@@ -166,9 +166,9 @@ module _ (low high : ℕ) (f : List ℕ) where
         leb-true (value_of f) high (and_right (leb low (value_of f)) (leb (value_of f) high) r),
       )
 
-  pub number_in : is_number f ≡ true → low ≤ value_of f → value_of f ≤ high → number_in low high f ≡ true
+  pub number_in_lem : is_number f ≡ true → low ≤ value_of f → value_of f ≤ high → number_in low high f ≡ true
   unfolding number_in
-  number_in e l h =
+  number_in_lem e l h =
       and_both (is_number f) (leb low (value_of f) && leb (value_of f) high) e
       (and_both (leb low (value_of f)) (leb (value_of f) high) (le-leb low (value_of f) l) (le-leb (value_of f) high h))
 
@@ -208,5 +208,5 @@ module _ (low high : ℕ) (f : List ℕ) where
   pub value_read : headed f ≡ true → low ≤ capped high 0 f → capped high 0 f ≤ high → number_read low high f ≡ Value (capped high 0 f)
   value_read h l m =
       let p = capped_fits high f m in
-      number_yes (number_in (number-headed f ∙ and_both (every is_digit f) (headed f) p.0 h) (omega (arith, p.1)) (omega (arith, p.1)))
+      number_yes (number_in_lem (number-headed f ∙ and_both (every is_digit f) (headed f) p.0 h) (omega (arith, p.1)) (omega (arith, p.1)))
       ∙ ap Value (sym p.1)

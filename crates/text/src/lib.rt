@@ -1,5 +1,7 @@
 // Lines, decimal numbers without leading zero and lower-case hexadecimal bytes (document 01, 'The house program'): reading and writing.
 // Every public function is total: no number or length makes a sum or a product overflow.
+#![tactic(auto)]
+
 pub mod lines;
 
 ghost use Rattle.std.specs.Prelude.{◌≡◌, ◌++◌, ◌+◌, ◌*◌, ◌≤◌, ◌<◌, min, length, take, drop};

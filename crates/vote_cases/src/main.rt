@@ -4,12 +4,14 @@
 // controllers then have; a line for each correct controller with its number and the digest of its last matrix. The expected output comes from the
 // independent reference:
 //     cargo run --release --bin vote_vectors > crates/vote_cases/stdout
+#![tactic(auto)]
+
 ghost use Rattle.std.specs.Prelude.{◌≡◌, ◌+◌, ◌*◌, ◌<◌, ◌≤◌, length};
 
 use wire::{Layout, Round};
 
 // A vote: which controllers are faulty is one of four choices, the rest comes from the seed.
-#[derive(Drop)]
+#[derive(Clone, Copy)]
 struct Setup {
     n: usize,
     t: usize,
@@ -18,7 +20,7 @@ struct Setup {
 }
 
 // What happens to each controller in turn.
-#[derive(Drop)]
+#[derive(Clone, Copy)]
 enum Stage {
     Send,
     Receive,

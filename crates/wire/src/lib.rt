@@ -1,5 +1,7 @@
 // Rounds and calls (document 01, 'The house' and 'Rounds'); the lengths of messages and boxes are in length.rt, their slots in slot.rt. Every
 // function is total: no number or length makes a sum or a product overflow.
+#![tactic(auto)]
+
 mod length;
 mod slot;
 
@@ -15,7 +17,7 @@ pub use slot::{
 };
 
 // The kinds of rounds, a row of document 01's table each. Outside: no round of the run.
-#[derive(Drop)]
+#[derive(Clone, Copy)]
 pub enum Round {
     Block,
     Pieces,
@@ -29,7 +31,7 @@ pub enum Round {
 }
 
 // The kinds of calls. Call c reads round c - 1 and fills round c. Outside: no call of the run.
-#[derive(Drop)]
+#[derive(Clone, Copy)]
 pub enum Call {
     Send,
     Receive,

@@ -6,7 +6,7 @@ ghost use Rattle.wire.specs.Slot.{layout_with, header, width, is_present, messag
 use lists::{high, low, word};
 
 // What a slot of the run with the number `run` is: a header, which carries that number, and then a message of `length` bytes.
-#[derive(Drop)]
+#[derive(Clone, Copy)]
 pub struct Layout {
     pub run: u16,
     pub length: usize,

@@ -3,6 +3,8 @@
 // and j; a write has a name and all bytes of the outbox after it.
 // The expected output comes from the independent reference:
 //     cargo run --release --bin wire_vectors > crates/wire_cases/stdout
+#![tactic(auto)]
+
 use wire::{Call, Layout, Round};
 
 // The place of a kind of round in document 01's table, from 1; 0 for none.
