@@ -5,14 +5,13 @@ use mathlib.Core.Bool.{Bool, cond, true, false, not, ◌&&◌}
 use mathlib.Core.List.{List, [], ◌∷◌, ◌++◌, append-nil}
 use mathlib.Core.Logic.{◌⊎◌, inl, inr, ⊎_elim}
 use Prim.Native.Nat.{ℕ, zero, suc, ◌+◌, ◌-◌, ◌*◌, ◌/◌, ◌%◌, ◌<◌, ◌≤◌, min}
-use native.Mathlib.Nat.{suc-mul, zero-mul, mul-le-mul_right, le-div_iff_mul-le, div-lt_iff_lt-mul, le_of_eq}
-use native.Mathlib.Numerals.{add-one}
+use native.Mathlib.Nat.{zero-mul, mul-le-mul_right, le-div_iff_mul-le, div-lt_iff_lt-mul, le_of_eq}
 use native.Mathlib.Omega.{arith}
 use borrow.Author.Tests.{eq-eqb, ne_eqb, le-leb, lt-leb, eqb-false, leb-true}
 use lib.Dec.{leb, eqb}
-use lib.ListN.{length, get_or, set, take, drop, replicate, length-append, length-drop, length-take, replicate-append-replicate, drop_of_length-le}
+use lib.ListN.{length, get_or, set, take, drop, replicate, length-append, length-drop, length-take, drop_of_length-le}
 use lib.ListN.{get_or-replicate, length-replicate}
-use lib.Seq.{length-take-le, take_all, take-append-le, drop-append-le, take_at, drop_at, drop-drop, get_or-take, get_or-drop}
+use lib.Seq.{length-take-le, take_all, take_at, drop_at, drop-drop, get_or-take}
 use Rattle.lists.proofs.Tests.{either, and_left, and_right, and_both, and_no_left, and_no_right, and_tail, cond_yes, cond_no, lt_or_le, same_or_not}
 use Rattle.lists.specs.Join.{part}
 use Rattle.lists.proofs.Parts.{all_take, all_drop, all_zeros, next_offset, drop-take, length_put}
@@ -20,7 +19,7 @@ use Rattle.lists.proofs.Joins.{part_take, joined_none, joined_more, joined_ext, 
 use Rattle.lists.proofs.Joins.{part_put_other}
 use Rattle.wire.specs.declared.slot.Layout.{Layout}
 use Rattle.wire.specs.Slot.{header, width, slot_of, holds, run_in, is_present, message_of, offset_of, Sent, silence, bytes, written, slots, to_all, put_slot}
-use Rattle.wire.specs.Slot.{relayed, silenced, copied, SameMessages, OtherRun, OtherRunAbsent, LateAbsent}
+use Rattle.wire.specs.Slot.{relayed, silenced, copied, SameMessages, OtherRunAbsent, LateAbsent}
 
 -- ---- the layout
 pub width_pos : (layout : Layout) → 0 < width layout

@@ -12,7 +12,7 @@
 --   message_length n t k c              the length of a message of round c; 0 outside the settings and rounds
 --   box_length n t k c                  the length of an inbox or outbox of round c: n slots, whatever the run; 0 outside the settings and rounds
 --   inbox_length, outbox_length n t k c  the length that call c is lent; 0 for the first inbox and the last outbox
-use Rattle.std.specs.Prelude.{Bool, true, cond, List, [], ◌∷◌, ℕ, ◌+◌, ◌-◌, ◌*◌, eqb, get_or}
+use Rattle.std.specs.Prelude.{Bool, cond, List, [], ◌∷◌, ℕ, ◌+◌, ◌-◌, ◌*◌, eqb, get_or}
 use Rattle.settings.specs.Refusal.{lengths_refusal}
 use Rattle.wire.specs.declared.Round.{Round}
 use Rattle.wire.specs.declared.Round.TheVariants.{Block, Pieces, Marks, Matrix, Seen, King, Forward, Rebuild, Outside}
