@@ -1,0 +1,43 @@
+-- `complement` meets its contract.
+use Rattle.graph.specs.Neighbour.{missing}
+use Rattle.graph.specs.Bits.{adjacent}
+use Rattle.graph.proofs.Laws.{missing_16}
+use Rattle.matching.specs.Steps.{complement}
+use Rattle.lists.proofs.Fills.{filled_none, fill_more, fill_end}
+use lib.ListN.{replicate}
+use native.Mathlib.Omega.{arith}
+use mathlib.Core.Path.{sym, ◌∙◌}
+use Prim.Native.Nat.{◌-◌, min}
+use Rattle.matching.proofs.complement.Goals as goal
+
+pub loop-i-init : goal.loop-i-init
+loop-i-init c = (omega arith, sym (filled_none _ _))
+
+pub missing_row-requires : goal.missing_row-requires
+missing_row-requires c = tt
+
+pub offset_bounds-graph-i : goal.offset_bounds-graph-i
+offset_bounds-graph-i c = omega arith
+
+pub bounds-graph-i : goal.bounds-graph-i
+bounds-graph-i c = omega arith
+
+pub overflow_add-i : goal.overflow_add-i
+overflow_add-i c = omega arith
+
+pub loop-i-smaller : goal.loop-i-smaller
+loop-i-smaller c = omega arith
+
+pub loop-i-preserved : goal.loop-i-preserved
+loop-i-preserved c =
+    let L = c in
+    let A = L.args in (
+      omega arith,
+      fill_more (missing (min A.n 16) (adjacent A.bits)) L.loop-i.i (replicate 16 0) L.loop-i.graph c.missing_row.result (omega arith)
+          L.loop-i.invariant.1
+          (c.missing_row.ensures ∙ missing_16 A.bits A.n L.loop-i.i),
+    )
+
+pub returns : goal.returns
+unfolding complement
+returns c = fill_end _ _ _ _ c.loop-i.invariant.1 (omega arith)

@@ -1,0 +1,52 @@
+-- `component` meets its contract.
+use Rattle.matching.proofs.Steps.{lowest_in, grow_start, grow_more, grow_less, grow_done}
+use native.Mathlib.Omega.{arith}
+use Rattle.matching.proofs.component.Goals as goal
+
+pub insert-c-requires : goal.insert-c-requires
+insert-c-requires c = tt
+
+pub loop-next-init : goal.loop-next-init
+loop-next-init c = grow_start _ _ _ c.ranges.s.fits _ c.requires c.insert-c.ensures
+
+pub lowest-x-requires : goal.lowest-x-requires
+lowest-x-requires c = tt
+
+pub remove-unseen-requires : goal.remove-unseen-requires
+remove-unseen-requires c = tt
+
+pub offset_bounds-graph-x : goal.offset_bounds-graph-x
+offset_bounds-graph-x c = omega (arith, (let L = c in omega (arith, c.lowest-x.ensures, (lowest_in L.loop-next.next L.loop-next.invariant.next_small c.loop-next-test.true).0)))
+
+pub bounds-graph-x : goal.bounds-graph-x
+bounds-graph-x c = omega (arith, (let L = c in omega (arith, c.lowest-x.ensures, (lowest_in L.loop-next.next L.loop-next.invariant.next_small c.loop-next-test.true).0)))
+
+pub intersection-requires : goal.intersection-requires
+intersection-requires c = tt
+
+pub union-c-requires : goal.union-c-requires
+union-c-requires c = tt
+
+pub intersection-next-requires : goal.intersection-next-requires
+intersection-next-requires c = tt
+
+pub loop-next-smaller : goal.loop-next-smaller
+loop-next-smaller c =
+    let R = c in
+    let T = R in
+    let S = T in
+    grow_less _ _ _ S.ranges.s.fits _ _ _ _ _ T.loop-next.invariant T.loop-next-test.true R.lowest-x.ensures R.remove-unseen.ensures
+
+pub loop-next-preserved : goal.loop-next-preserved
+loop-next-preserved c =
+    let U = c in
+    let R = U in
+    let T = R in
+    let S = T in
+    grow_more _ _ _ S.ranges.s.fits _ _ _ _ _ _ _ _ T.loop-next.invariant T.loop-next-test.true R.lowest-x.ensures R.remove-unseen.ensures
+    U.intersection.ensures U.union-c.ensures c.intersection-next.ensures
+
+pub returns : goal.returns
+returns c =
+    let S = c in
+    (c.loop-next.invariant.has, grow_done _ _ _ S.ranges.s.fits _ _ _ c.loop-next.invariant (omega arith))

@@ -1,0 +1,55 @@
+-- `halves` meets its contract.
+use Rattle.matching.proofs.Steps.{lowest_in, halve_start, halve_less, halve_more, halve_done}
+use Rattle.matching.specs.Steps.{In}
+use Rattle.bitset.proofs.Laws.{size_le}
+use Rattle.bitset.specs.Set.{size_of}
+use native.Mathlib.Omega.{arith}
+use mathlib.Core.Path.{sym, ap, subst}
+use Prim.Native.Nat.{ℕ, ◌+◌, ◌/◌}
+use Rattle.matching.proofs.halves.Goals as goal
+
+pub loop-left-init : goal.loop-left-init
+loop-left-init c = halve_start _ c.requires _ c.ranges.s.fits
+
+pub lowest-requires : goal.lowest-requires
+lowest-requires c = tt
+
+pub component-c-requires : goal.component-c-requires
+component-c-requires c =
+    let L = c in
+    subst (In L.loop-left.left) (sym c.lowest.ensures) (lowest_in L.loop-left.left L.loop-left.invariant.small c.loop-left-test.true).1
+
+pub difference-left-requires : goal.difference-left-requires
+difference-left-requires c = tt
+
+pub size-requires : goal.size-requires
+size-requires c = tt
+
+pub overflow_add-sum : goal.overflow_add-sum
+overflow_add-sum c =
+    let L = c in
+    omega (arith, L.loop-left.invariant.fits, c.size.ensures, size_le c.component-c.result)
+
+pub loop-left-smaller : goal.loop-left-smaller
+loop-left-smaller c =
+    let C = c in
+    let T = C in
+    let L = T in
+    omega (
+      arith,
+      halve_less _ L.requires _ _ _ _ L.loop-left.invariant T.loop-left-test.true (has C) C.component-c.ensures.1 (omega arith),
+      ap size_of
+          c.difference-left.ensures,
+    )
+
+pub loop-left-preserved : goal.loop-left-preserved
+loop-left-preserved c =
+    let C = c in
+    let T = C in
+    let L = T in
+    halve_more _ L.requires _ _ _ _ L.loop-left.invariant T.loop-left-test.true (has C) C.component-c.ensures.1 (omega arith) _ _
+    c.difference-left.ensures
+    (ap (λ (x : ℕ). L.loop-left.sum + x / 2) c.size.ensures)
+
+pub returns : goal.returns
+returns c = halve_done _ c.requires _ _ _ c.loop-left.invariant (omega arith)

@@ -1,0 +1,21 @@
+-- `matching::largest` meets its contract: the edges that the search goes along are the missing pairs.
+use Rattle.matching.proofs.Graph.{complement_sym, answer_is}
+use Rattle.graph.specs.Bits.{adjacent}
+use Rattle.graph.proofs.Laws.{adjacent_sym}
+use Rattle.matching.specs.Steps.{Symmetric}
+use native.Mathlib.Omega.{arith}
+use mathlib.Core.Path.{sym, subst}
+use Prim.Native.Nat.{min}
+use Rattle.matching.proofs.largest.Goals as goal
+
+pub first_largest-requires : goal.first_largest-requires
+first_largest-requires c =
+    let C = c in
+    let A = C.args in
+    subst Symmetric (sym C.complement-graph.ensures) (complement_sym (min A.n 16) (adjacent A.bits) (omega arith) (adjacent_sym A.bits))
+
+pub returns : goal.returns
+returns c =
+    let C = c in
+    let A = C.args in
+    answer_is (min A.n 16) (adjacent A.bits) (omega arith) _ _ _ C.complement-graph.ensures c.below.ensures c.first_largest.ensures

@@ -1,0 +1,28 @@
+-- `phase_king::send::send_matrix` meets its contract: the rows are written, and their message is sent.
+use Rattle.phase_king.proofs.Writes.{rows_front, is_to_all}
+use Rattle.bitset.specs.Row.{rows_of}
+use lib.Seq.{length-take-le}
+use lib.ListN.{take, replicate}
+use native.Mathlib.Omega.{arith}
+use Prim.Native.Nat.{ℕ}
+use mathlib.Core.List.{List}
+use mathlib.Core.Path.{sym}
+use Rattle.phase_king.proofs.send.send_matrix.Goals as goal
+
+pub slice_bounds-send_all-end : goal.slice_bounds-send_all-end
+slice_bounds-send_all-end c =
+    let R = c in
+    sym (length-take-le R.rows_length-end.result R.write_rows.new.out (omega arith))
+
+pub returns : goal.returns
+returns c =
+    let A = c in
+    let L = A in
+    let R = L in
+    let W = R in
+    let a = W.args in
+    let o : List ℕ = replicate 32 0 in
+    let end = R.rows_length-end.result in
+    is_to_all a.layout a.n L.limit.result (rows_of a.n a.rows.now) (take end W.write_rows.new.out) a.outbox.now A.send_all.new.name
+    L.limit.ensures (rows_front a.n end a.rows.now W.write_rows.new.out o R.rows_length-end.ensures (omega arith) W.write_rows.ensures)
+    A.send_all.ensures

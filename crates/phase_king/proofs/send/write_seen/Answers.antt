@@ -1,0 +1,12 @@
+-- `phase_king::send::write_seen` meets its contract: one matrix behind the other.
+use Rattle.phase_king.proofs.Writes.{seen_written}
+use Rattle.phase_king.proofs.send.write_seen.Goals as goal
+
+pub returns : goal.returns
+returns c =
+    let L = c in
+    let W = L in
+    let a = W.args in
+    seen_written a.n L.rows_length-start.result a.zeros.now a.ones.now a.m.now W.write_rows.new.out
+    c.write_rows-2.new.out
+    L.rows_length-start.ensures W.requires W.write_rows.ensures c.write_rows-2.ensures
