@@ -2,12 +2,11 @@
 // standard output. No contract can say what is printed.
 #![tactic(auto)]
 
-ghost use Rattle.std.specs.Prelude.{◌≡◌, ◌/◌, ◌%◌, ◌≤◌, ◌&&◌, ltb, length, replicate, if◌then◌else◌, ◌==◌, nat_lt};
+ghost use Rattle.std.specs.Prelude.{◌≡◌, ◌/◌, ◌%◌, ◌≤◌, ◌&&◌, ltb, length, take, replicate, if◌then◌else◌, ◌==◌, nat_lt};
 ghost use Rattle.lists.specs.Sum.{ind};
-ghost use Rattle.io.specs.Counts.{IsPrefixLen};
 ghost use Rattle.cases.specs.Random.{next_random, mixed, seeded, drawn, digested, some_run, other_run};
 
-use libc::STDOUT_FILENO;
+use std::io;
 
 // The run numbers of cases.
 const RUNS: [u16; 4] = [0, 1, 256, 65535];
@@ -144,7 +143,7 @@ pub fn is_third(t: usize, i: usize) -> bool
 // The length x for a part of s; 0 where s is shorter.
 // Shut out: 0 where it fits; an exact fit refused.
 pub fn fitting(x: usize, s: &[u8]) -> usize
-    ensures prefix_len { IsPrefixLen result s.now }
+    ensures prefix_len { (result ≤ length s.now) × (result ≡ length (take result s.now)) }
     ensures value { result ≡ (if ltb (length s.now) x then 0 else x) }
 {
     if s.len() < x {
@@ -164,85 +163,64 @@ pub fn fill(s: &mut [u8], v: u8)
 }
 
 // Prints a text.
-pub fn text(s: &[u8])
-    ensures { Unit {0} }
-{
-    io::write_all(STDOUT_FILENO, s);
+pub fn text(rt: &impl Print, s: &[u8]) -> io::Result<()> {
+    rt.write_all(s)
 }
 
-pub fn newline()
-    ensures { Unit {0} }
-{
-    text(b"\n");
+pub fn newline(rt: &impl Print) -> io::Result<()> {
+    text(rt, b"\n")
 }
 
 // A number in decimal.
-pub fn decimal(x: usize)
-    ensures { Unit {0} }
-{
-    io::print_decimal(STDOUT_FILENO, x as u64);
+pub fn decimal(rt: &impl Print, x: usize) -> io::Result<()> {
+    print!(rt; "{x}")
 }
 
 // A space and a number.
-fn number(x: usize) {
-    text(b" ");
-    decimal(x);
+fn number(rt: &impl Print, x: usize) -> io::Result<()> {
+    print!(rt; " {x}")
 }
 
 // A text, then a space and a number for each.
-pub fn numbers(name: &[u8], xs: &[usize])
-    ensures* { ⊤ₛ }
-{
-    text(name);
-    let mut i: usize = 0;
-    while i < xs.len() {
-        number(xs[i]);
-        i += 1;
+pub fn numbers(rt: &impl Print, name: &[u8], xs: &[usize]) -> io::Result<()> {
+    text(rt, name)?;
+    for x in xs {
+        number(rt, *x)?;
     }
+    Ok(())
 }
 
 // A line: the same for bytes.
-pub fn byte_line(name: &[u8], xs: &[u8])
-    ensures* { ⊤ₛ }
-{
-    text(name);
-    let mut i: usize = 0;
-    while i < xs.len() {
-        byte_number(xs[i]);
-        i += 1;
+pub fn byte_line(rt: &impl Print, name: &[u8], xs: &[u8]) -> io::Result<()> {
+    text(rt, name)?;
+    for x in xs {
+        byte_number(rt, *x)?;
     }
-    newline();
+    newline(rt)
 }
 
-fn byte_number(x: u8) {
-    number(x as usize);
+fn byte_number(rt: &impl Print, x: u8) -> io::Result<()> {
+    number(rt, x as usize)
 }
 
-fn hex_byte(x: u8) {
-    io::print_hex(STDOUT_FILENO, x as u64, 2);
+fn hex_byte(rt: &impl Print, x: u8) -> io::Result<()> {
+    print!(rt; "{x:02x}")
 }
 
 // A space, and two hexadecimal digits for each byte; a dash for no byte.
-pub fn hex(s: &[u8])
-    ensures* { ⊤ₛ }
-{
-    text(b" ");
+pub fn hex(rt: &impl Print, s: &[u8]) -> io::Result<()> {
+    text(rt, b" ")?;
     if s.len() == 0 {
-        text(b"-");
-        return;
+        return text(rt, b"-");
     }
-    let mut i: usize = 0;
-    while i < s.len() {
-        hex_byte(s[i]);
-        i += 1;
+    for x in s {
+        hex_byte(rt, *x)?;
     }
+    Ok(())
 }
 
 // Ends a line: a space, and a digest in eight hexadecimal digits.
-pub fn end_digest(d: u64)
-    ensures { Unit {0} }
-{
-    text(b" ");
-    io::print_hex(STDOUT_FILENO, d, 8);
-    newline();
+pub fn end_digest(rt: &impl Print, d: u64) -> io::Result<()> {
+    print!(rt; " {d:08x}")?;
+    newline(rt)
 }
