@@ -21,6 +21,7 @@ ghost use Rattle.std.specs.Prelude.{◌<◌};
 use protocol::{Started, State, Stepped};
 use reconstruction::Outcome;
 use settings::Settings;
+use std::io;
 use wire::Layout;
 
 // n, t, k, own number, sender, run number and lent length of each start: each row of the refusal table by itself; two rows that apply, of which the
@@ -162,12 +163,11 @@ fn call_count(t: usize) -> usize {
     wire::calls(t)
 }
 
-fn same(yes: bool) {
+fn same(rt: &impl Print, yes: bool) -> io::Result<()> {
     if yes {
-        cases::text(b" same");
-        return;
+        return cases::text(rt, b" same");
     }
-    cases::text(b" changed");
+    cases::text(rt, b" changed")
 }
 
 // The byte that a lent slice has at index p before a call; no byte is 00 or 01.
@@ -307,72 +307,83 @@ fn given(n: usize, t: usize, k: usize, own: usize, sender: usize, next: usize) -
 }
 
 // A name and the settings.
-fn print_settings(name: &[u8], s: State) {
+fn print_settings(rt: &impl Print, name: &[u8], s: State) -> io::Result<()> {
     let x = s.settings;
-    cases::numbers(name, &[x.n, x.t, x.k, s.own, x.sender]);
+    cases::numbers(rt, name, &[x.n, x.t, x.k, s.own, x.sender])
 }
 
 // Which state a start with these settings answered.
-fn print_started(s: State, r: State) {
+fn print_started(rt: &impl Print, s: State, r: State) -> io::Result<()> {
     if same_state(r, plain(0, 0, 0, 0, 0, 0, 0)) {
-        cases::text(b" zero");
-        return;
+        return cases::text(rt, b" zero");
     }
     if same_state(r, s) {
-        cases::text(b" begun");
-        return;
+        return cases::text(rt, b" begun");
     }
-    cases::text(b" other");
+    cases::text(rt, b" other")
 }
 
 // A start with the settings of s.
-fn start_with(s: State, block: &mut [u8]) {
+fn start_with(rt: &impl Print, s: State, block: &mut [u8]) -> io::Result<()> {
     fill(block);
     let r = begin(s, block);
     let state = r.state;
-    print_settings(b"start", s);
-    cases::numbers(b"", &[s.run as usize, block.len()]);
-    cases::numbers(b":", &[r.number as usize]);
-    print_started(s, state);
-    same(is_filled(block));
-    cases::newline();
+    print_settings(rt, b"start", s)?;
+    cases::numbers(rt, b"", &[s.run as usize, block.len()])?;
+    cases::numbers(rt, b":", &[r.number as usize])?;
+    print_started(rt, s, state)?;
+    same(rt, is_filled(block))?;
+    cases::newline(rt)
 }
 
-fn start_cut(s: State, length: usize, block: &mut [u8]) {
+fn start_cut(rt: &impl Print, s: State, length: usize, block: &mut [u8]) -> io::Result<()> {
     let b = cases::fitting(length, block);
-    start_with(s, &mut block[..b]);
+    start_with(rt, s, &mut block[..b])
 }
 
-fn start(s: State, length: usize) {
-    let mut space = io::buffer();
+fn start(rt: &impl Print, s: State, length: usize) -> io::Result<()> {
+    let mut space = [0u8; 4096];
     let block: &mut [u8] = &mut space;
-    start_cut(s, length, block);
+    start_cut(rt, s, length, block)
 }
 
-fn print_step(s: State, b: usize, i: usize, o: usize) {
-    print_settings(b"step", s);
-    cases::numbers(b"", &[s.next, b, i, o]);
+fn print_step(rt: &impl Print, s: State, b: usize, i: usize, o: usize) -> io::Result<()> {
+    print_settings(rt, b"step", s)?;
+    cases::numbers(rt, b"", &[s.next, b, i, o])
 }
 
 // Steps, on lent bytes that are filled.
-fn step_on(s: State, block: &mut [u8], inbox: &[u8], outbox: &mut [u8]) {
+fn step_on(
+    rt: &impl Print,
+    s: State,
+    block: &mut [u8],
+    inbox: &[u8],
+    outbox: &mut [u8],
+) -> io::Result<()> {
     let r = advance(s, block, inbox, outbox);
     let state = r.state;
-    cases::numbers(b":", &[r.number as usize]);
-    same(same_state(s, state));
-    same(is_filled(block));
-    same(is_filled(outbox));
-    cases::newline();
+    cases::numbers(rt, b":", &[r.number as usize])?;
+    same(rt, same_state(s, state))?;
+    same(rt, is_filled(block))?;
+    same(rt, is_filled(outbox))?;
+    cases::newline(rt)
 }
 
-fn step_with(s: State, block: &mut [u8], inbox: &mut [u8], outbox: &mut [u8]) {
+fn step_with(
+    rt: &impl Print,
+    s: State,
+    block: &mut [u8],
+    inbox: &mut [u8],
+    outbox: &mut [u8],
+) -> io::Result<()> {
     fill(block);
     fill(inbox);
     fill(outbox);
-    step_on(s, block, inbox, outbox);
+    step_on(rt, s, block, inbox, outbox)
 }
 
 fn step_cut(
+    rt: &impl Print,
     s: State,
     b: usize,
     i: usize,
@@ -380,23 +391,23 @@ fn step_cut(
     block: &mut [u8],
     inbox: &mut [u8],
     outbox: &mut [u8],
-) {
+) -> io::Result<()> {
     let x = cases::fitting(b, block);
     let y = cases::fitting(i, inbox);
     let z = cases::fitting(o, outbox);
-    print_step(s, x, y, z);
-    step_with(s, &mut block[..x], &mut inbox[..y], &mut outbox[..z]);
+    print_step(rt, s, x, y, z)?;
+    step_with(rt, s, &mut block[..x], &mut inbox[..y], &mut outbox[..z])
 }
 
 // A step on s with lent lengths b, i and o.
-fn step(s: State, b: usize, i: usize, o: usize) {
-    let mut block_space = io::buffer();
-    let mut inbox_space = io::buffer();
-    let mut outbox_space = io::buffer();
+fn step(rt: &impl Print, s: State, b: usize, i: usize, o: usize) -> io::Result<()> {
+    let mut block_space = [0u8; 4096];
+    let mut inbox_space = [0u8; 4096];
+    let mut outbox_space = [0u8; 4096];
     let block: &mut [u8] = &mut block_space;
     let inbox: &mut [u8] = &mut inbox_space;
     let outbox: &mut [u8] = &mut outbox_space;
-    step_cut(s, b, i, o, block, inbox, outbox);
+    step_cut(rt, s, b, i, o, block, inbox, outbox)
 }
 
 // One byte more.
@@ -413,27 +424,28 @@ fn shorter(x: usize) -> usize {
 }
 
 // Each lent length of a call too long and too short by one byte, and all three.
-fn lengths_at(n: usize, t: usize, k: usize, c: usize) {
+fn lengths_at(rt: &impl Print, n: usize, t: usize, k: usize, c: usize) -> io::Result<()> {
     let s = given(n, t, k, n, 1, c);
     let b = block_length(s);
     let i = inbox_length(s);
     let o = outbox_length(s);
-    step(s, longer(b), i, o);
-    step(s, shorter(b), i, o);
-    step(s, b, longer(i), o);
-    step(s, b, shorter(i), o);
-    step(s, b, i, longer(o));
-    step(s, b, i, shorter(o));
-    step(s, longer(b), shorter(i), longer(o));
+    step(rt, s, longer(b), i, o)?;
+    step(rt, s, shorter(b), i, o)?;
+    step(rt, s, b, longer(i), o)?;
+    step(rt, s, b, shorter(i), o)?;
+    step(rt, s, b, i, longer(o))?;
+    step(rt, s, b, i, shorter(o))?;
+    step(rt, s, longer(b), shorter(i), longer(o))
 }
 
-fn lengths(n: usize, t: usize, k: usize) {
+fn lengths(rt: &impl Print, n: usize, t: usize, k: usize) -> io::Result<()> {
     let last = call_count(t);
     let mut c: usize = 0;
     while c < last {
         c += 1;
-        lengths_at(n, t, k, c);
+        lengths_at(rt, n, t, k, c)?;
     }
+    Ok(())
 }
 
 fn start_at(i: usize) -> [usize; 7]
@@ -443,17 +455,18 @@ fn start_at(i: usize) -> [usize; 7]
 }
 
 // A start of the table.
-fn start_row(r: [usize; 7]) {
+fn start_row(rt: &impl Print, r: [usize; 7]) -> io::Result<()> {
     let run = cases::word(r[5]);
-    start(plain(r[0], r[1], r[2], r[3], r[4], run, 1), r[6]);
+    start(rt, plain(r[0], r[1], r[2], r[3], r[4], run, 1), r[6])
 }
 
-fn starts() {
+fn starts(rt: &impl Print) -> io::Result<()> {
     let mut i: usize = 0;
     while i < 49 {
-        start_row(start_at(i));
+        start_row(rt, start_at(i))?;
         i += 1;
     }
+    Ok(())
 }
 
 fn step_at(i: usize) -> [usize; 9]
@@ -463,38 +476,47 @@ fn step_at(i: usize) -> [usize; 9]
 }
 
 // A step of the table.
-fn step_row(r: [usize; 9]) {
+fn step_row(rt: &impl Print, r: [usize; 9]) -> io::Result<()> {
     let s = given(r[0], r[1], r[2], r[3], r[4], r[5]);
-    step(s, r[6], r[7], r[8]);
+    step(rt, s, r[6], r[7], r[8])
 }
 
-fn steps() {
+fn steps(rt: &impl Print) -> io::Result<()> {
     let mut i: usize = 0;
     while i < 43 {
-        step_row(step_at(i));
+        step_row(rt, step_at(i))?;
         i += 1;
     }
+    Ok(())
 }
 
-fn print_outcome(o: Outcome) {
+fn print_outcome(rt: &impl Print, o: Outcome) -> io::Result<()> {
     match o {
-        Outcome::Open => cases::text(b" open"),
-        Outcome::Agreed => cases::text(b" agreed"),
-        Outcome::None => cases::text(b" none"),
-        Outcome::Beyond => cases::text(b" beyond"),
+        Outcome::Open => cases::text(rt, b" open")?,
+        Outcome::Agreed => cases::text(rt, b" agreed")?,
+        Outcome::None => cases::text(rt, b" none")?,
+        Outcome::Beyond => cases::text(rt, b" beyond")?,
     }
+    Ok(())
 }
 
 // The number and the state that call c answered, and what it left in block and outbox.
-fn print_call(c: usize, n: u8, s: State, block: &[u8], outbox: &[u8]) {
+fn print_call(
+    rt: &impl Print,
+    c: usize,
+    n: u8,
+    s: State,
+    block: &[u8],
+    outbox: &[u8],
+) -> io::Result<()> {
     let outcome = s.outcome;
-    cases::numbers(b"call", &[c]);
-    cases::numbers(b":", &[n as usize, s.next]);
-    print_outcome(outcome);
-    cases::numbers(b"", &[s.named as usize, s.run as usize]);
-    cases::hex(block);
-    cases::hex(outbox);
-    cases::newline();
+    cases::numbers(rt, b"call", &[c])?;
+    cases::numbers(rt, b":", &[n as usize, s.next])?;
+    print_outcome(rt, outcome)?;
+    cases::numbers(rt, b"", &[s.named as usize, s.run as usize])?;
+    cases::hex(rt, block)?;
+    cases::hex(rt, outbox)?;
+    cases::newline(rt)
 }
 
 // The state with the row of marks of states that are given.
@@ -524,113 +546,141 @@ fn deliver(mail: &mut [u8], outbox: &[u8], s: State, heard: usize) {
     deliver_slot(mail, outbox, s, heard, 4);
 }
 
-fn step_in_run(s: State, block: &mut [u8], inbox: &[u8], outbox: &mut [u8]) -> State {
+fn step_in_run(
+    rt: &impl Print,
+    s: State,
+    block: &mut [u8],
+    inbox: &[u8],
+    outbox: &mut [u8],
+) -> io::Result<State> {
     fill(outbox);
     let r = advance(with_marks(s), block, inbox, outbox);
     let state = r.state;
-    print_call(s.next, r.number, state, block, outbox);
-    state
+    print_call(rt, s.next, r.number, state, block, outbox)?;
+    Ok(state)
 }
 
 // A step of a run, on the mail that the one before left; it leaves what arrives.
 fn call_with(
+    rt: &impl Print,
     s: State,
     heard: usize,
     block: &mut [u8],
     mail: &mut [u8],
     outbox: &mut [u8],
-) -> State {
+) -> io::Result<State> {
     let i = cases::fitting(inbox_length(s), mail);
-    let state = step_in_run(s, block, &mail[..i], outbox);
+    let state = step_in_run(rt, s, block, &mail[..i], outbox)?;
     cases::fill(mail, 0);
     if heard != SILENT {
         deliver(mail, outbox, s, heard);
     }
-    state
+    Ok(state)
 }
 
-fn call_cut(s: State, heard: usize, block: &mut [u8], mail: &mut [u8], outbox: &mut [u8]) -> State {
+fn call_cut(
+    rt: &impl Print,
+    s: State,
+    heard: usize,
+    block: &mut [u8],
+    mail: &mut [u8],
+    outbox: &mut [u8],
+) -> io::Result<State> {
     let o = cases::fitting(outbox_length(s), outbox);
-    call_with(s, heard, block, mail, &mut outbox[..o])
+    call_with(rt, s, heard, block, mail, &mut outbox[..o])
 }
 
 // A step, the lengths being those of the next call; the outbox is lent with other bytes.
-fn call(s: State, heard: usize, block: &mut [u8], mail: &mut [u8]) -> State {
-    let mut space = io::buffer();
+fn call(
+    rt: &impl Print,
+    s: State,
+    heard: usize,
+    block: &mut [u8],
+    mail: &mut [u8],
+) -> io::Result<State> {
+    let mut space = [0u8; 4096];
     let outbox: &mut [u8] = &mut space;
-    call_cut(s, heard, block, mail, outbox)
+    call_cut(rt, s, heard, block, mail, outbox)
 }
 
 // So many steps.
-fn calls(s: State, count: usize, heard: usize, block: &mut [u8], mail: &mut [u8]) {
+fn calls(
+    rt: &impl Print,
+    s: State,
+    count: usize,
+    heard: usize,
+    block: &mut [u8],
+    mail: &mut [u8],
+) -> io::Result<()> {
     let mut state = s;
     let mut c: usize = 0;
     while c < count {
-        state = call(state, heard, block, mail);
+        state = call(rt, state, heard, block, mail)?;
         c += 1;
     }
+    Ok(())
 }
 
-fn print_heard(heard: usize) {
+fn print_heard(rt: &impl Print, heard: usize) -> io::Result<()> {
     if heard == SILENT {
-        cases::text(b" silent");
-        return;
+        return cases::text(rt, b" silent");
     }
-    cases::numbers(b"", &[heard]);
+    cases::numbers(rt, b"", &[heard])
 }
 
 // All calls, and two more steps.
-fn run(s: State, heard: usize, block: &mut [u8]) {
+fn run(rt: &impl Print, s: State, heard: usize, block: &mut [u8]) -> io::Result<()> {
     let r = begin(s, block);
     let state = r.state;
-    print_settings(b"run", state);
-    cases::numbers(b"", &[state.run as usize]);
-    print_heard(heard);
-    cases::hex(block);
-    cases::newline();
-    let mut space = io::buffer();
+    print_settings(rt, b"run", state)?;
+    cases::numbers(rt, b"", &[state.run as usize])?;
+    print_heard(rt, heard)?;
+    cases::hex(rt, block)?;
+    cases::newline(rt)?;
+    let mut space = [0u8; 4096];
     let mail: &mut [u8] = &mut space;
     calls(
+        rt,
         state,
         longer(longer(call_count(s.settings.t))),
         heard,
         block,
         mail,
-    );
+    )
 }
 
 // Of four controllers the sender, with a block whose pieces are all alike, so that it marks whomever it hears.
-fn run_small(run_number: u16, heard: usize) {
+fn run_small(rt: &impl Print, run_number: u16, heard: usize) -> io::Result<()> {
     let mut block = [10u8, 0];
-    run(plain(4, 1, 1, 1, 1, run_number, 1), heard, &mut block);
+    run(rt, plain(4, 1, 1, 1, 1, run_number, 1), heard, &mut block)
 }
 
-fn run_sender() {
+fn run_sender(rt: &impl Print) -> io::Result<()> {
     let mut block = [10u8, 20, 30, 40, 50, 60];
-    run(plain(7, 2, 2, 2, 2, 256, 1), SILENT, &mut block);
+    run(rt, plain(7, 2, 2, 2, 2, 256, 1), SILENT, &mut block)
 }
 
-fn run_other() {
+fn run_other(rt: &impl Print) -> io::Result<()> {
     let mut block = [10u8, 20, 30, 40, 50, 60];
-    run(plain(7, 2, 2, 4, 2, 65535, 1), SILENT, &mut block);
+    run(rt, plain(7, 2, 2, 4, 2, 65535, 1), SILENT, &mut block)
 }
 
 // Without a sender (document 02, U6) the block is kept until the last call.
-fn run_without_sender() {
+fn run_without_sender(rt: &impl Print) -> io::Result<()> {
     let mut block = [10u8, 20];
-    run(plain(4, 1, 1, 3, 0, 1, 1), SILENT, &mut block);
+    run(rt, plain(4, 1, 1, 3, 0, 1, 1), SILENT, &mut block)
 }
 
 // Nobody heard; all in slots of another run, which is the same; all but controller 4; and all.
-fn runs() {
-    run_small(0, SILENT);
-    run_sender();
-    run_other();
-    run_without_sender();
-    run_small(0, 0);
-    run_small(256, 3);
-    run_small(65535, 3);
-    run_small(258, 4);
+fn runs(rt: &impl Print) -> io::Result<()> {
+    run_small(rt, 0, SILENT)?;
+    run_sender(rt)?;
+    run_other(rt)?;
+    run_without_sender(rt)?;
+    run_small(rt, 0, 0)?;
+    run_small(rt, 256, 3)?;
+    run_small(rt, 65535, 3)?;
+    run_small(rt, 258, 4)
 }
 
 // The state of controller 1, the sender, before its last call.
@@ -641,128 +691,153 @@ fn before_last(n: usize, t: usize, k: usize, run: u16, core: u16) -> State {
     s
 }
 
-fn last_with(s: State, block: &mut [u8], inbox: &[u8], outbox: &mut [u8]) {
+fn last_with(
+    rt: &impl Print,
+    s: State,
+    block: &mut [u8],
+    inbox: &[u8],
+    outbox: &mut [u8],
+) -> io::Result<()> {
     let r = advance(s, block, inbox, outbox);
     let state = r.state;
-    print_call(s.next, r.number, state, block, outbox);
+    print_call(rt, s.next, r.number, state, block, outbox)
 }
 
 // The outbox of the last call has no byte.
-fn last_cut(s: State, block: &mut [u8], inbox: &[u8], outbox: &mut [u8]) {
+fn last_cut(
+    rt: &impl Print,
+    s: State,
+    block: &mut [u8],
+    inbox: &[u8],
+    outbox: &mut [u8],
+) -> io::Result<()> {
     let o = cases::fitting(outbox_length(s), outbox);
-    last_with(s, block, inbox, &mut outbox[..o]);
+    last_with(rt, s, block, inbox, &mut outbox[..o])
 }
 
-fn last(s: State, block: &mut [u8], inbox: &[u8]) {
-    let mut space = io::buffer();
+fn last(rt: &impl Print, s: State, block: &mut [u8], inbox: &[u8]) -> io::Result<()> {
+    let mut space = [0u8; 4096];
     let outbox: &mut [u8] = &mut space;
-    print_settings(b"last", s);
-    cases::numbers(b"", &[s.run as usize, s.core as usize]);
-    cases::hex(inbox);
-    cases::newline();
-    last_cut(s, block, inbox, outbox);
+    print_settings(rt, b"last", s)?;
+    cases::numbers(rt, b"", &[s.run as usize, s.core as usize])?;
+    cases::hex(rt, inbox)?;
+    cases::newline(rt)?;
+    last_cut(rt, s, block, inbox, outbox)
 }
 
 // n 4, t 1 and k 1.
-fn last_small(run: u16, core: u16, inbox: &[u8]) {
+fn last_small(rt: &impl Print, run: u16, core: u16, inbox: &[u8]) -> io::Result<()> {
     let mut block = [255u8; 2];
-    last(before_last(4, 1, 1, run, core), &mut block, inbox);
+    last(rt, before_last(4, 1, 1, run, core), &mut block, inbox)
 }
 
 // Pieces of 0a14: all true; examples d and e of document 01, and d with slot 1 absent; all true, and no member of the core within n.
-fn last_examples() {
+fn last_examples(rt: &impl Print) -> io::Result<()> {
     last_small(
+        rt,
         0,
         15,
         b"\x01\x00\x00\x1e\x01\x00\x00\x22\x01\x00\x00\x36\x01\x00\x00\x5a",
-    );
+    )?;
     last_small(
+        rt,
         1,
         15,
         b"\x01\x01\x00\x00\x01\x01\x00\x22\x01\x01\x00\x36\x01\x01\x00\x5a",
-    );
+    )?;
     last_small(
+        rt,
         256,
         15,
         b"\x00\x00\x01\x1e\x01\x00\x01\x22\x01\x00\x01\x36\x01\x00\x01\x5a",
-    );
+    )?;
     last_small(
+        rt,
         65535,
         15,
         b"\x01\xff\xff\x1e\x01\xff\xff\x22\x01\xff\xff\x37\x01\xff\xff\x5b",
-    );
+    )?;
     last_small(
+        rt,
         0,
         65520,
         b"\x01\x00\x00\x1e\x01\x00\x00\x22\x01\x00\x00\x36\x01\x00\x00\x5a",
-    );
+    )
 }
 
 // The same pieces in run 258: slot 3 is of run 2 or 257, with its true piece, or of run 2 with a false one. Then 1 and 4 are of run 513, and two pieces
 // are left; then 2 is of run 0 besides, and one piece determines nothing. Last, the slots before these in run 513, in which 1 and 4 are left.
-fn last_late() {
+fn last_late(rt: &impl Print) -> io::Result<()> {
     last_small(
+        rt,
         258,
         15,
         b"\x01\x02\x01\x1e\x01\x02\x01\x22\x01\x02\x00\x36\x01\x02\x01\x5a",
-    );
+    )?;
     last_small(
+        rt,
         258,
         15,
         b"\x01\x02\x01\x1e\x01\x02\x01\x22\x01\x01\x01\x36\x01\x02\x01\x5a",
-    );
+    )?;
     last_small(
+        rt,
         258,
         15,
         b"\x01\x02\x01\x1e\x01\x02\x01\x22\x01\x02\x00\x37\x01\x02\x01\x5a",
-    );
+    )?;
     last_small(
+        rt,
         258,
         15,
         b"\x01\x01\x02\x1e\x01\x02\x01\x22\x01\x02\x01\x36\x01\x01\x02\x5a",
-    );
+    )?;
     last_small(
+        rt,
         258,
         15,
         b"\x01\x01\x02\x1e\x01\x00\x00\x22\x01\x02\x01\x36\x01\x01\x02\x5a",
-    );
+    )?;
     last_small(
+        rt,
         513,
         15,
         b"\x01\x01\x02\x1e\x01\x02\x01\x22\x01\x02\x01\x36\x01\x01\x02\x5a",
-    );
+    )
 }
 
 // Three stripes 0a14, each with another false value.
-fn last_stripes() {
+fn last_stripes(rt: &impl Print) -> io::Result<()> {
     let mut block = [255u8; 6];
     last(
+        rt,
         before_last(4, 1, 3, 1, 7),
         &mut block,
         b"\x01\x01\x00\x1e\x00\x1e\x01\x01\x00\x22\x22\x00\x01\x01\x00\x36\x36\x36\x01\x01\x00\x00\x5a\x5a",
-    );
+    )
 }
 
 // Four pieces of 0a141e and three silent slots, n 7 and t 2 (document 02, U2).
-fn last_silent() {
+fn last_silent(rt: &impl Print) -> io::Result<()> {
     let mut block = [255u8; 3];
     last(
+        rt,
         before_last(7, 2, 1, 256, 127),
         &mut block,
         b"\x01\x00\x01\x00\x00\x00\x00\x00\x01\x00\x01\x50\x01\x00\x01\xa7\x00\x00\x00\x00\x00\x00\x00\x00\x01\x00\x01\xfd",
-    );
+    )
 }
 
-fn main() {
-    starts();
-    step(plain(0, 0, 0, 0, 0, 0, 0), 0, 0, 0);
-    steps();
-    lengths(4, 1, 1);
-    lengths(7, 2, 2);
-    lengths(16, 5, 3);
-    runs();
-    last_examples();
-    last_late();
-    last_stripes();
-    last_silent();
+fn main(rt: HostRuntime) -> io::Result<()> {
+    starts(&rt)?;
+    step(&rt, plain(0, 0, 0, 0, 0, 0, 0), 0, 0, 0)?;
+    steps(&rt)?;
+    lengths(&rt, 4, 1, 1)?;
+    lengths(&rt, 7, 2, 2)?;
+    lengths(&rt, 16, 5, 3)?;
+    runs(&rt)?;
+    last_examples(&rt)?;
+    last_late(&rt)?;
+    last_stripes(&rt)?;
+    last_silent(&rt)
 }

@@ -4,6 +4,8 @@
 
 ghost use Rattle.std.specs.Prelude.{◌≤◌};
 
+use std::io;
+
 #[derive(Clone, Copy)]
 enum Kind {
     Product,
@@ -101,15 +103,15 @@ fn agreeing(kind: Kind, cases: u64) -> u64 {
     n
 }
 
-fn report(name: &[u8], kind: Kind, cases: u64) {
-    cases::numbers(name, &[cases as usize]);
-    cases::numbers(b" agree", &[agreeing(kind, cases) as usize]);
-    cases::newline();
+fn report(rt: &impl Print, name: &[u8], kind: Kind, cases: u64) -> io::Result<()> {
+    cases::numbers(rt, name, &[cases as usize])?;
+    cases::numbers(rt, b" agree", &[agreeing(kind, cases) as usize])?;
+    cases::newline(rt)
 }
 
-fn main() {
-    report(b"products", Kind::Product, 65536);
-    report(b"inverses", Kind::Inverse, 256);
-    report(b"powers", Kind::Power, 256);
-    report(b"logs", Kind::Log, 256);
+fn main(rt: HostRuntime) -> io::Result<()> {
+    report(&rt, b"products", Kind::Product, 65536)?;
+    report(&rt, b"inverses", Kind::Inverse, 256)?;
+    report(&rt, b"powers", Kind::Power, 256)?;
+    report(&rt, b"logs", Kind::Log, 256)
 }

@@ -12,6 +12,7 @@
 ghost use Rattle.std.specs.Prelude.{◌≡◌, ◌<◌, ◌≤◌};
 
 use reed_solomon::Decoded;
+use std::io;
 
 // The settings, the run number, how false pieces are made, what random bytes come from, and which slots have one: the bit worth 1 for controller 1.
 #[derive(Clone, Copy)]
@@ -486,55 +487,57 @@ fn play_sets(
     r
 }
 
-fn print_code(c: Case, d: u64) {
-    cases::numbers(b"code", &[c.n, c.t, c.k]);
-    cases::text(b":");
-    cases::end_digest(d);
+fn print_code(rt: &impl Print, c: Case, d: u64) -> io::Result<()> {
+    cases::numbers(rt, b"code", &[c.n, c.t, c.k])?;
+    cases::text(rt, b":")?;
+    cases::end_digest(rt, d)
 }
 
 // A text, the answer's number and its row.
-fn print_answer(name: &[u8], a: Answer) {
-    cases::numbers(name, &[a.number as usize, a.named as usize]);
+fn print_answer(rt: &impl Print, name: &[u8], a: Answer) -> io::Result<()> {
+    cases::numbers(rt, name, &[a.number as usize, a.named as usize])
 }
 
-fn print_tally(c: Case, r: Tally) {
-    cases::numbers(b"decode", &[c.n, c.t, c.k, c.manner]);
+fn print_tally(rt: &impl Print, c: Case, r: Tally) -> io::Result<()> {
+    cases::numbers(rt, b"decode", &[c.n, c.t, c.k, c.manner])?;
     cases::numbers(
+        rt,
         b":",
         &[r.blocks as usize, r.beyond as usize, r.naming as usize],
-    );
-    cases::end_digest(r.digest);
+    )?;
+    cases::end_digest(rt, r.digest)
 }
 
 // The pieces in manner 0, else all sets of false slots.
 fn play_blocks(
+    rt: &impl Print,
     slots: &mut [u8],
     m: &mut [u8],
     block: &mut [u8],
     other: &mut [u8],
     out: &mut [u8],
     c: Case,
-)
+) -> io::Result<()>
     requires { (c.n ≤ 16) × (c.t ≤ 5) × (c.k ≤ 128) }
 {
     fill(block, c.seed, 0);
     fill(other, c.seed, c.t);
     if c.manner == 0 {
-        print_code(c, gather(slots, m, block, other, c));
-        return;
+        return print_code(rt, c, gather(slots, m, block, other, c));
     }
-    print_tally(c, play_sets(slots, m, block, other, out, c));
+    print_tally(rt, c, play_sets(slots, m, block, other, out, c))
 }
 
 // The same on the parts of the lent bytes that n, t and k ask for.
 fn play_parts(
+    rt: &impl Print,
     slots: &mut [u8],
     m: &mut [u8],
     block: &mut [u8],
     other: &mut [u8],
     out: &mut [u8],
     c: Case,
-)
+) -> io::Result<()>
     requires { (c.n ≤ 16) × (c.t ≤ 5) × (c.k ≤ 128) }
 {
     let size = block_length(c);
@@ -544,35 +547,37 @@ fn play_parts(
     let o = cases::fitting(size, other);
     let r = cases::fitting(size, out);
     play_blocks(
+        rt,
         &mut slots[..a],
         &mut m[..p],
         &mut block[..b],
         &mut other[..o],
         &mut out[..r],
         c,
-    );
+    )
 }
 
 // A manner with settings, if n allows t.
-fn play_case(n: usize, t: usize, k: usize, manner: usize)
+fn play_case(rt: &impl Print, n: usize, t: usize, k: usize, manner: usize) -> io::Result<()>
     requires { (n ≤ 16) × (t ≤ 5) × (k ≤ 128) }
 {
     if n <= 3 * t {
-        return;
+        return Ok(());
     }
-    let mut slots = io::buffer();
-    let mut m = io::buffer();
-    let mut block = io::buffer();
-    let mut other = io::buffer();
-    let mut out = io::buffer();
+    let mut slots = [0u8; 4096];
+    let mut m = [0u8; 4096];
+    let mut block = [0u8; 4096];
+    let mut other = [0u8; 4096];
+    let mut out = [0u8; 4096];
     play_parts(
+        rt,
         &mut slots,
         &mut m,
         &mut block,
         &mut other,
         &mut out,
         case_of(n, t, k, cases::some_run(n % 4 + manner % 4), manner),
-    );
+    )
 }
 
 fn stripes(x: usize) -> usize
@@ -587,22 +592,23 @@ fn stripes(x: usize) -> usize
 }
 
 // n from 4 to 16, t from 1 to 5, four numbers of stripes and six manners.
-fn play_at(x: usize)
+fn play_at(rt: &impl Print, x: usize) -> io::Result<()>
     requires { x < 1560 }
 {
-    play_case(4 + x / 120, 1 + x / 24 % 5, stripes(x / 6 % 4), x % 6);
+    play_case(rt, 4 + x / 120, 1 + x / 24 % 5, stripes(x / 6 % 4), x % 6)
 }
 
-fn play_all() {
+fn play_all(rt: &impl Print) -> io::Result<()> {
     let mut x: usize = 0;
     while x < 1560 {
-        play_at(x);
+        play_at(rt, x)?;
         x += 1;
     }
+    Ok(())
 }
 
 // Coding with a block and a piece of these lengths. All bytes of both slices count for the digest.
-fn try_encode(r: [usize; 6], block: &[u8], piece: &mut [u8]) {
+fn try_encode(rt: &impl Print, r: [usize; 6], block: &[u8], piece: &mut [u8]) -> io::Result<()> {
     let size = cases::fitting(r[4], block);
     let end = cases::fitting(r[5], piece);
     let a = encode(
@@ -611,13 +617,13 @@ fn try_encode(r: [usize; 6], block: &[u8], piece: &mut [u8]) {
         &block[..size],
         &mut piece[..end],
     );
-    cases::numbers(b"encode", &r);
-    cases::numbers(b":", &[a as usize]);
-    cases::end_digest(cases::digest(cases::digest(0, block), piece));
+    cases::numbers(rt, b"encode", &r)?;
+    cases::numbers(rt, b":", &[a as usize])?;
+    cases::end_digest(rt, cases::digest(cases::digest(0, block), piece))
 }
 
 // The same for decoding.
-fn try_decode(r: [usize; 6], slots: &[u8], block: &mut [u8]) {
+fn try_decode(rt: &impl Print, r: [usize; 6], slots: &[u8], block: &mut [u8]) -> io::Result<()> {
     let end = cases::fitting(r[4], slots);
     let size = cases::fitting(r[5], block);
     let a = decode(
@@ -625,9 +631,9 @@ fn try_decode(r: [usize; 6], slots: &[u8], block: &mut [u8]) {
         &slots[..end],
         &mut block[..size],
     );
-    cases::numbers(b"decode", &r);
-    print_answer(b":", a);
-    cases::end_digest(cases::digest(cases::digest(0, slots), block));
+    cases::numbers(rt, b"decode", &r)?;
+    print_answer(rt, b":", a)?;
+    cases::end_digest(rt, cases::digest(cases::digest(0, slots), block))
 }
 
 fn encoding(i: usize) -> [usize; 6]
@@ -642,172 +648,195 @@ fn decoding(i: usize) -> [usize; 6]
     DECODINGS[i]
 }
 
-fn try_encoding(i: usize)
+fn try_encoding(rt: &impl Print, i: usize) -> io::Result<()>
     requires { i < 43 }
 {
-    let mut block_space = io::buffer();
-    let mut piece_space = io::buffer();
+    let mut block_space = [0u8; 4096];
+    let mut piece_space = [0u8; 4096];
     let block: &mut [u8] = &mut block_space;
     let piece: &mut [u8] = &mut piece_space;
     cases::fill(block, 85);
     cases::fill(piece, 170);
-    try_encode(encoding(i), block, piece);
+    try_encode(rt, encoding(i), block, piece)
 }
 
 // All slots are present in run 257, with pieces of 01.
-fn try_decoding(i: usize)
+fn try_decoding(rt: &impl Print, i: usize) -> io::Result<()>
     requires { i < 41 }
 {
-    let mut slots_space = io::buffer();
-    let mut block_space = io::buffer();
+    let mut slots_space = [0u8; 4096];
+    let mut block_space = [0u8; 4096];
     let slots: &mut [u8] = &mut slots_space;
     let block: &mut [u8] = &mut block_space;
     cases::fill(slots, 1);
     cases::fill(block, 170);
-    try_decode(decoding(i), slots, block);
+    try_decode(rt, decoding(i), slots, block)
 }
 
-fn try_encodings() {
+fn try_encodings(rt: &impl Print) -> io::Result<()> {
     let mut i: usize = 0;
     while i < 43 {
-        try_encoding(i);
+        try_encoding(rt, i)?;
         i += 1;
     }
+    Ok(())
 }
 
-fn try_decodings() {
+fn try_decodings(rt: &impl Print) -> io::Result<()> {
     let mut i: usize = 0;
     while i < 41 {
-        try_decoding(i);
+        try_decoding(rt, i)?;
         i += 1;
     }
+    Ok(())
 }
 
-fn example_piece(number: usize) {
+fn example_piece(rt: &impl Print, number: usize) -> io::Result<()> {
     let mut piece = [0u8; 1];
     encode(case_of(4, 1, 1, 0, 0), number, b"\x0a\x14", &mut piece);
-    cases::text(b"c");
-    cases::hex(&piece);
-    cases::newline();
+    cases::text(rt, b"c")?;
+    cases::hex(rt, &piece)?;
+    cases::newline(rt)
 }
 
-fn example_decoded(name: &[u8], c: Case, slots: &[u8], block: &mut [u8]) {
+fn example_decoded(
+    rt: &impl Print,
+    name: &[u8],
+    c: Case,
+    slots: &[u8],
+    block: &mut [u8],
+) -> io::Result<()> {
     let a = decode(c, slots, block);
-    print_answer(name, a);
-    cases::hex(block);
-    cases::newline();
+    print_answer(rt, name, a)?;
+    cases::hex(rt, block)?;
+    cases::newline(rt)
 }
 
-fn example_slots(name: &[u8], run: u16, slots: &[u8]) {
+fn example_slots(rt: &impl Print, name: &[u8], run: u16, slots: &[u8]) -> io::Result<()> {
     let mut block = [255u8; 2];
-    example_decoded(name, case_of(4, 1, 1, run, 0), slots, &mut block);
+    example_decoded(rt, name, case_of(4, 1, 1, run, 0), slots, &mut block)
 }
 
 // Slots of three stripes 0a14: 4 is false in the first, 1 in the second, 2 in the third.
-fn example_stripes() {
+fn example_stripes(rt: &impl Print) -> io::Result<()> {
     let mut block = [255u8; 6];
     example_decoded(
+        rt,
         b"apart",
         case_of(4, 1, 3, 0, 0),
         b"\x01\x00\x00\x1e\x00\x1e\x01\x00\x00\x22\x22\x00\x01\x00\x00\x36\x36\x36\x01\x00\x00\x00\x5a\x5a",
         &mut block,
-    );
+    )
 }
 
 // Slots of seven controllers, t 2: those that are present have their pieces of 0a141e.
-fn example_present(name: &[u8], slots: &[u8]) {
+fn example_present(rt: &impl Print, name: &[u8], slots: &[u8]) -> io::Result<()> {
     let mut block = [255u8; 3];
-    example_decoded(name, case_of(7, 2, 1, 256, 0), slots, &mut block);
+    example_decoded(rt, name, case_of(7, 2, 1, 256, 0), slots, &mut block)
 }
 
 // Examples c, d and e of document 01, example d with slot 1 absent too; zeros, which code to zeros, with slot 1 absent.
-fn examples() {
-    example_piece(1);
-    example_piece(2);
-    example_piece(3);
-    example_piece(4);
+fn examples(rt: &impl Print) -> io::Result<()> {
+    example_piece(rt, 1)?;
+    example_piece(rt, 2)?;
+    example_piece(rt, 3)?;
+    example_piece(rt, 4)?;
     example_slots(
+        rt,
         b"d",
         1,
         b"\x01\x01\x00\x00\x01\x01\x00\x22\x01\x01\x00\x36\x01\x01\x00\x5a",
-    );
+    )?;
     example_slots(
+        rt,
         b"d",
         1,
         b"\x00\x01\x00\x1e\x01\x01\x00\x22\x01\x01\x00\x36\x01\x01\x00\x5a",
-    );
+    )?;
     example_slots(
+        rt,
         b"e",
         65535,
         b"\x01\xff\xff\x1e\x01\xff\xff\x22\x01\xff\xff\x37\x01\xff\xff\x5b",
-    );
+    )?;
     example_slots(
+        rt,
         b"zeros",
         0,
         b"\x00\x00\x00\x00\x01\x00\x00\x00\x01\x00\x00\x00\x01\x00\x00\x00",
-    );
-    example_stripes();
+    )?;
+    example_stripes(rt)
 }
 
 // Pieces of 0a14 in run 258, of which 1 carries number 2, and 3 number 257, with a true piece or a false one; then 2 carries another too, and nothing is
 // determined. Last, slots of which 1 and 4 are of run 1 with pieces of 0a14, 2 and 3 of run 2 with pieces of 0b14: each run has its block.
-fn late_examples() {
+fn late_examples(rt: &impl Print) -> io::Result<()> {
     example_slots(
+        rt,
         b"late",
         258,
         b"\x01\x02\x00\x1e\x01\x02\x01\x22\x01\x01\x01\x36\x01\x02\x01\x5a",
-    );
+    )?;
     example_slots(
+        rt,
         b"late, false",
         258,
         b"\x01\x02\x00\x1f\x01\x02\x01\x22\x01\x01\x01\x37\x01\x02\x01\x5a",
-    );
+    )?;
     example_slots(
+        rt,
         b"too late",
         258,
         b"\x01\x02\x00\x1e\x01\x01\x02\x22\x01\x01\x01\x36\x01\x02\x01\x5a",
-    );
+    )?;
     example_slots(
+        rt,
         b"run 1",
         1,
         b"\x01\x01\x00\x1e\x01\x02\x00\x23\x01\x02\x00\x37\x01\x01\x00\x5a",
-    );
+    )?;
     example_slots(
+        rt,
         b"run 2",
         2,
         b"\x01\x01\x00\x1e\x01\x02\x00\x23\x01\x02\x00\x37\x01\x01\x00\x5a",
-    );
+    )
 }
 
 // Three of seven silent, and at most t + 1 present.
-fn silent_examples() {
+fn silent_examples(rt: &impl Print) -> io::Result<()> {
     example_present(
+        rt,
         b"silent",
         b"\x00\x00\x01\xff\x01\x00\x01\x5a\x00\x00\x01\xff\x01\x00\x01\xa7\x01\x00\x01\xad\x00\x00\x01\xff\x01\x00\x01\xfd",
-    );
+    )?;
     example_present(
+        rt,
         b"present 0",
         b"\x00\x00\x00\x00\x00\x00\x00\x00\x00\x00\x00\x00\x00\x00\x00\x00\x00\x00\x00\x00\x00\x00\x00\x00\x00\x00\x00\x00",
-    );
+    )?;
     example_present(
+        rt,
         b"present 1",
         b"\x01\x00\x01\x00\x00\x00\x00\x00\x00\x00\x00\x00\x00\x00\x00\x00\x00\x00\x00\x00\x00\x00\x00\x00\x00\x00\x00\x00",
-    );
+    )?;
     example_present(
+        rt,
         b"present 2",
         b"\x01\x00\x01\x00\x01\x00\x01\x5a\x00\x00\x00\x00\x00\x00\x00\x00\x00\x00\x00\x00\x00\x00\x00\x00\x00\x00\x00\x00",
-    );
+    )?;
     example_present(
+        rt,
         b"present 3",
         b"\x01\x00\x01\x00\x01\x00\x01\x5a\x01\x00\x01\x50\x00\x00\x00\x00\x00\x00\x00\x00\x00\x00\x00\x00\x00\x00\x00\x00",
-    );
+    )
 }
 
-fn main() {
-    play_all();
-    try_encodings();
-    try_decodings();
-    examples();
-    late_examples();
-    silent_examples();
+fn main(rt: HostRuntime) -> io::Result<()> {
+    play_all(&rt)?;
+    try_encodings(&rt)?;
+    try_decodings(&rt)?;
+    examples(&rt)?;
+    late_examples(&rt)?;
+    silent_examples(&rt)
 }

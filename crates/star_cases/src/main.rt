@@ -8,6 +8,7 @@
 ghost use Rattle.std.specs.Prelude.{◌≤◌, ◌<◌};
 
 use star::Sets;
+use std::io;
 
 // 16 bits for a purpose, a graph and two controllers.
 fn draw(purpose: usize, k: usize, i: usize, j: usize) -> usize {
@@ -146,10 +147,11 @@ fn bits(k: usize, n: usize) -> [u8; 15] {
     r
 }
 
-fn print_star(k: usize, n: usize, t: usize, s: Sets) {
-    cases::decimal(n);
-    cases::numbers(b"", &[t, k]);
+fn print_star(rt: &impl Print, k: usize, n: usize, t: usize, s: Sets) -> io::Result<()> {
+    cases::decimal(rt, n)?;
+    cases::numbers(rt, b"", &[t, k])?;
     cases::numbers(
+        rt,
         b":",
         &[
             s.refusal as usize,
@@ -158,81 +160,83 @@ fn print_star(k: usize, n: usize, t: usize, s: Sets) {
             s.f as usize,
             s.e as usize,
         ],
-    );
-    cases::newline();
+    )?;
+    cases::newline(rt)
 }
 
 // The star of graph k; from 28 on, of bits.
-fn play(k: usize, n: usize, t: usize) {
+fn play(rt: &impl Print, k: usize, n: usize, t: usize) -> io::Result<()> {
     if k < 28 {
-        print_star(k, n, t, star::find(&rows(k, n, t), n, t));
-        return;
+        return print_star(rt, k, n, t, star::find(&rows(k, n, t), n, t));
     }
-    print_star(k - 28, n, t, star::of_bits(bits(k, n), n, t));
+    print_star(rt, k - 28, n, t, star::of_bits(bits(k, n), n, t))
 }
 
 // The missing pairs of graph k.
-fn print_bits(k: usize, n: usize, t: usize) {
+fn print_bits(rt: &impl Print, k: usize, n: usize, t: usize) -> io::Result<()> {
     let pairs = graph::bits_of(&rows(k, n, t), n);
-    cases::decimal(n);
-    cases::byte_line(b":", &pairs);
+    cases::decimal(rt, n)?;
+    cases::byte_line(rt, b":", &pairs)
 }
 
 // The 28 graphs of n controllers of which at most t are faulty, and the nine chances.
-fn kinds(n: usize, t: usize) {
+fn kinds(rt: &impl Print, n: usize, t: usize) -> io::Result<()> {
     let mut k: usize = 0;
     while k < 37 {
-        play(k, n, t);
+        play(rt, k, n, t)?;
         k += 1;
     }
+    Ok(())
 }
 
 // If n allows t. The missing pairs are printed once for n.
-fn play_size(n: usize, t: usize)
+fn play_size(rt: &impl Print, n: usize, t: usize) -> io::Result<()>
     requires { t ≤ 5 }
 {
     if 3 * t < n {
-        kinds(n, t);
+        kinds(rt, n, t)?;
     }
     if t == 5 {
-        print_bits(12, n, 1);
+        print_bits(rt, 12, n, 1)?;
     }
+    Ok(())
 }
 
 // n from 4 to 16, t from 1 to 5.
-fn play_at(x: usize)
+fn play_at(rt: &impl Print, x: usize) -> io::Result<()>
     requires { x < 65 }
 {
-    play_size(4 + x / 5, 1 + x % 5);
+    play_size(rt, 4 + x / 5, 1 + x % 5)
 }
 
-fn sizes() {
+fn sizes(rt: &impl Print) -> io::Result<()> {
     let mut x: usize = 0;
     while x < 65 {
-        play_at(x);
+        play_at(rt, x)?;
         x += 1;
     }
+    Ok(())
 }
 
 // Settings that are refused or just taken.
-fn edges() {
-    play(0, 3, 1);
-    play(0, 3, 0);
-    play(0, 17, 5);
-    play(0, 0, 0);
-    play(0, 4, 0);
-    play(0, 4, 2);
-    play(0, 7, 2);
-    play(0, 16, 6);
-    play(0, 16, 5);
-    play(28, 3, 0);
-    play(28, 17, 5);
-    play(28, 4, 2);
-    play(28, 16, 6);
-    print_bits(1, 17, 1);
+fn edges(rt: &impl Print) -> io::Result<()> {
+    play(rt, 0, 3, 1)?;
+    play(rt, 0, 3, 0)?;
+    play(rt, 0, 17, 5)?;
+    play(rt, 0, 0, 0)?;
+    play(rt, 0, 4, 0)?;
+    play(rt, 0, 4, 2)?;
+    play(rt, 0, 7, 2)?;
+    play(rt, 0, 16, 6)?;
+    play(rt, 0, 16, 5)?;
+    play(rt, 28, 3, 0)?;
+    play(rt, 28, 17, 5)?;
+    play(rt, 28, 4, 2)?;
+    play(rt, 28, 16, 6)?;
+    print_bits(rt, 1, 17, 1)
 }
 
-fn main() {
-    sizes();
-    edges();
+fn main(rt: HostRuntime) -> io::Result<()> {
+    sizes(&rt)?;
+    edges(&rt)
 }

@@ -8,6 +8,7 @@
 
 ghost use Rattle.std.specs.Prelude.{◌≡◌, ◌+◌, ◌*◌, ◌<◌, ◌≤◌, length};
 
+use std::io;
 use wire::{Layout, Round};
 
 // A vote: which controllers are faulty is one of four choices, the rest comes from the seed.
@@ -278,7 +279,7 @@ fn receive_one(s: Setup, c: usize, state: &mut [u16], boxes: &[u8], j: usize)
         return;
     }
     let layout = layout_of(s, c);
-    let mut space = io::buffer();
+    let mut space = [0u8; 4096];
     let inbox: &mut [u8] = &mut space;
     cases::fill(inbox, cases::byte(c % 128 * 2));
     gather(inbox, boxes, s, c, layout, j);
@@ -341,100 +342,124 @@ fn send_one(s: Setup, c: usize, state: &[u16], boxes: &mut [u8], i: usize)
     emit(s, c, state, &mut boxes[a..e], i);
 }
 
-fn print_digest(name: &[u8], number: usize, d: u64) {
-    cases::numbers(name, &[number]);
-    cases::end_digest(d);
+fn print_digest(rt: &impl Print, name: &[u8], number: usize, d: u64) -> io::Result<()> {
+    cases::numbers(rt, name, &[number])?;
+    cases::end_digest(rt, d)
 }
 
-fn print_last(s: Setup, state: &[u16], i: usize)
+fn print_last(rt: &impl Print, s: Setup, state: &[u16], i: usize) -> io::Result<()>
     requires { (i < 16) × (length state.now ≡ 1024) }
 {
     if !faulty(s, i) {
         let rows = matrix_at(state, i);
-        print_digest(b"controller", i + 1, cases::digest_words(0, &rows));
+        print_digest(rt, b"controller", i + 1, cases::digest_words(0, &rows))?;
     }
+    Ok(())
 }
 
-fn turn(stage: Stage, s: Setup, c: usize, state: &mut [u16], boxes: &mut [u8], i: usize)
+fn turn(
+    rt: &impl Print,
+    stage: Stage,
+    s: Setup,
+    c: usize,
+    state: &mut [u16],
+    boxes: &mut [u8],
+    i: usize,
+) -> io::Result<()>
     requires { (s.n ≤ 16) × (i < 16) × (length state.old ≡ 1024) × (length boxes.old ≡ 65536) }
 {
     match stage {
         Stage::Send => send_one(s, c, state, boxes, i),
         Stage::Receive => receive_one(s, c, state, boxes, i),
-        Stage::Print => print_last(s, state, i),
+        Stage::Print => print_last(rt, s, state, i)?,
     }
+    Ok(())
 }
 
-fn turns(stage: Stage, s: Setup, c: usize, state: &mut [u16], boxes: &mut [u8])
+fn turns(
+    rt: &impl Print,
+    stage: Stage,
+    s: Setup,
+    c: usize,
+    state: &mut [u16],
+    boxes: &mut [u8],
+) -> io::Result<()>
     requires { (s.n ≤ 16) × (length state.old ≡ 1024) × (length boxes.old ≡ 65536) }
 {
     let n = s.n;
     let mut i: usize = 0;
     while i < n {
-        turn(stage, s, c, state, boxes, i);
+        turn(rt, stage, s, c, state, boxes, i)?;
         i += 1;
     }
+    Ok(())
 }
 
-fn round(s: Setup, c: usize, state: &mut [u16], boxes: &mut [u8])
+fn round(rt: &impl Print, s: Setup, c: usize, state: &mut [u16], boxes: &mut [u8]) -> io::Result<()>
     requires { (s.n ≤ 16) × (length state.old ≡ 1024) × (length boxes.old ≡ 65536) }
 {
-    turns(Stage::Send, s, c, state, boxes);
-    turns(Stage::Receive, s, c, state, boxes);
-    print_digest(b"round", c, cases::digest_words(0, state));
+    turns(rt, Stage::Send, s, c, state, boxes)?;
+    turns(rt, Stage::Receive, s, c, state, boxes)?;
+    print_digest(rt, b"round", c, cases::digest_words(0, state))
 }
 
-fn rounds(s: Setup, state: &mut [u16], boxes: &mut [u8])
+fn rounds(rt: &impl Print, s: Setup, state: &mut [u16], boxes: &mut [u8]) -> io::Result<()>
     requires { (s.n ≤ 16) × (s.t ≤ 5) × (length state.old ≡ 1024) × (length boxes.old ≡ 65536) }
 {
     let end = 3 * s.t + 7;
     let mut c: usize = 3;
     while c < end {
-        round(s, c, state, boxes);
+        round(rt, s, c, state, boxes)?;
         c += 1;
     }
+    Ok(())
 }
 
-fn print_setup(s: Setup) {
+fn print_setup(rt: &impl Print, s: Setup) -> io::Result<()> {
     let run = run_number(s);
     cases::numbers(
+        rt,
         b"vote",
         &[s.n, s.t, s.faults, s.seed as usize, run as usize],
-    );
-    cases::newline();
+    )?;
+    cases::newline(rt)
 }
 
-fn play(s: Setup)
+fn play(rt: &impl Print, s: Setup) -> io::Result<()>
     requires { (s.n ≤ 16) × (s.t ≤ 5) }
 {
-    print_setup(s);
+    print_setup(rt, s)?;
     let mut words = empty_state();
     let state: &mut [u16] = &mut words;
-    let mut space = io::large_buffer();
+    let mut space = [0u8; 65536];
     let boxes: &mut [u8] = &mut space;
-    rounds(s, state, boxes);
-    turns(Stage::Print, s, 0, state, boxes);
+    rounds(rt, s, state, boxes)?;
+    turns(rt, Stage::Print, s, 0, state, boxes)
 }
 
 // Each choice of faulty controllers with four seeds.
-fn plays(n: usize, t: usize)
+fn plays(rt: &impl Print, n: usize, t: usize) -> io::Result<()>
     requires { (n ≤ 16) × (t ≤ 5) }
 {
     let mut k: u64 = 0;
     while k < 16 {
-        play(Setup {
-            n,
-            t,
-            faults: (k / 4) as usize,
-            seed: k,
-        });
+        play(
+            rt,
+            Setup {
+                n,
+                t,
+                faults: (k / 4) as usize,
+                seed: k,
+            },
+        )?;
         k += 1;
     }
+    Ok(())
 }
 
-fn main() {
-    plays(4, 1);
-    plays(7, 2);
-    plays(10, 3);
-    plays(16, 5);
+fn main(rt: HostRuntime) -> io::Result<()> {
+    plays(&rt, 4, 1)?;
+    plays(&rt, 7, 2)?;
+    plays(&rt, 10, 3)?;
+    plays(&rt, 16, 5)
 }
