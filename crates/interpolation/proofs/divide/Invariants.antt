@@ -1,7 +1,7 @@
 -- `divide` meets its contract. The invariant: the coefficients written, with the series of what is left, are the series.
 use Rattle.interpolation.specs.Interpolation.{series}
 use lib.ListN.{length, take}
-use Prim.Native.Nat.{◌+◌, ◌-◌, ◌≤◌}
+use Prim.Native.Nat.{◌-◌, ◌≤◌}
 use mathlib.Core.List.{◌++◌}
 use mathlib.Core.Path.{◌≡◌}
 use Rattle.interpolation.proofs.divide.Given as goal

@@ -4,7 +4,7 @@ use Rattle.interpolation.proofs.Laws.{start_state, run_none, run_more}
 use Rattle.interpolation.specs.Interpolation.{Ratio, ratio, ratios, constant, run, next}
 use lib.ListN.{length, get_or, set, length-replicate, length-set}
 use native.Mathlib.Omega.{arith}
-use Prim.Native.Nat.{ℕ, ◌+◌, ◌-◌}
+use Prim.Native.Nat.{ℕ, ◌+◌}
 use mathlib.Core.Path.{◌≡◌, refl, sym, ap, ap₂, ◌∙◌}
 use Rattle.interpolation.proofs.interpolate.Goals as goal
 
@@ -58,10 +58,10 @@ loop-i-preserved c =
       omega arith,
       omega (arith, r.ensures.total),
       record {
-        size_qa = r.auto.0 ∙ l.invariant.2.size_qa;
-        size_ea = r.auto.1.0 ∙ l.invariant.2.size_ea;
-        size_qb = r.auto.1.1.1.0 ∙ l.invariant.2.size_qb;
-        size_eb = r.auto.1.1.1.1.0 ∙ l.invariant.2.size_eb;
+        size_qa = r.auto.qa ∙ l.invariant.2.size_qa;
+        size_ea = r.auto.ea ∙ l.invariant.2.size_ea;
+        size_qb = r.auto.qb ∙ l.invariant.2.size_qb;
+        size_eb = r.auto.eb ∙ l.invariant.2.size_eb;
       },
       r.ensures.result
           ∙ ap (next (get_or a.xs.now l.i 0) (get_or a.ys.now l.i 0)) l.invariant.3

@@ -8,7 +8,7 @@ use Rattle.gf256.specs.Field.{gadd, gmul}
 use lib.ListN.{get_or, length-set}
 use native.Mathlib.Omega.{arith}
 use native.Mathlib.Numerals.{add-one}
-use Prim.Native.Nat.{ℕ, suc, ◌+◌, ◌-◌}
+use Prim.Native.Nat.{ℕ, suc, ◌+◌}
 use mathlib.Core.Path.{◌≡◌, refl, sym, ap, ap₂, ◌∙◌}
 use Rattle.interpolation.proofs.reduce.Goals as goal
 

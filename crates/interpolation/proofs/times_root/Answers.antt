@@ -6,7 +6,7 @@ use Rattle.gf256.specs.Field.{gadd, gmul}
 use lib.ListN.{get_or, length-set}
 use native.Mathlib.Omega.{arith}
 use native.Mathlib.Numerals.{add-one}
-use Prim.Native.Nat.{ℕ, ◌-◌}
+use Prim.Native.Nat.{ℕ}
 use mathlib.Core.List.{◌∷◌}
 use mathlib.Core.Path.{◌≡◌, refl, sym, ap, ap₂, ◌∙◌}
 use Rattle.interpolation.proofs.times_root.Goals as goal

@@ -6,10 +6,9 @@ use Prim.Native.Nat.{◌+◌, ◌-◌, ◌≤◌}
 use mathlib.Core.Path.{◌≡◌}
 use Rattle.phase_king.proofs.rule_matrix.Given as goal
 
--- BOUND ['r']
 abbrev pub invariant-loop-r : goal.invariant-loop-r
 invariant-loop-r l =
-    (r ≤ l.n) × (l.rows ≡ filled (λ r. rule_row l.rule l.n l.t (said_rows l.inbox l.layout l.n r) (said_rows l.inbox l.layout l.n (l.n + r))) r (replicate 16 0))
+    (l.r ≤ l.n) × (l.rows ≡ filled (λ r. rule_row l.rule l.n l.t (said_rows l.inbox l.layout l.n r) (said_rows l.inbox l.layout l.n (l.n + r))) l.r (replicate 16 0))
 
 abbrev pub decreases-loop-r : goal.decreases-loop-r
 decreases-loop-r l = l.n - l.r

@@ -3,7 +3,6 @@ use Rattle.phase_king.proofs.Steps.{marked}
 use Rattle.phase_king.specs.Steps.{rule_row}
 use Rattle.bitset.proofs.Laws.{set_none}
 use native.Mathlib.Omega.{arith}
-use Prim.Native.Nat.{◌-◌}
 use mathlib.Core.Path.{◌≡◌, sym}
 use Rattle.phase_king.proofs.rule_row.Goals as goal
 

@@ -2,7 +2,6 @@
 use Rattle.phase_king.specs.Steps.{said_rows}
 use Rattle.lists.proofs.Fills.{filled_none, fill_more}
 use native.Mathlib.Omega.{arith}
-use Prim.Native.Nat.{◌-◌}
 use mathlib.Core.Path.{◌≡◌, sym}
 use Rattle.phase_king.proofs.said_rows.Goals as goal
 

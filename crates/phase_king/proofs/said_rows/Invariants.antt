@@ -7,9 +7,8 @@ use Prim.Native.Nat.{◌+◌, ◌-◌, ◌≤◌}
 use mathlib.Core.Path.{◌≡◌}
 use Rattle.phase_king.proofs.said_rows.Given as goal
 
--- BOUND ['i']
 abbrev pub invariant-loop-i : goal.invariant-loop-i
-invariant-loop-i l = (i ≤ l.n) × (l.rows ≡ filled (λ i. row_of l.n (message_of l.inbox l.layout (i + 1)) l.r) i (replicate 16 0))
+invariant-loop-i l = (l.i ≤ l.n) × (l.rows ≡ filled (λ i. row_of l.n (message_of l.inbox l.layout (i + 1)) l.r) l.i (replicate 16 0))
 
 abbrev pub decreases-loop-i : goal.decreases-loop-i
 decreases-loop-i l = l.n - l.i

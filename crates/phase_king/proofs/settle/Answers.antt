@@ -4,7 +4,7 @@ use Rattle.phase_king.specs.Steps.{settled_row, settled_rows}
 use Rattle.lists.proofs.Fills.{filled_none, fill_more}
 use lib.ListN.{get_or}
 use native.Mathlib.Omega.{arith}
-use Prim.Native.Nat.{ℕ, ◌-◌}
+use Prim.Native.Nat.{ℕ}
 use mathlib.Core.Path.{◌≡◌, sym, ap, ◌∙◌}
 use Rattle.phase_king.proofs.settle.Goals as goal
 

@@ -5,9 +5,8 @@ use Prim.Native.Nat.{◌-◌, ◌≤◌}
 use mathlib.Core.Path.{◌≡◌}
 use Rattle.phase_king.proofs.settled_row.Given as goal
 
--- BOUND ['j']
 abbrev pub invariant-loop-j : goal.invariant-loop-j
-invariant-loop-j l = (j ≤ l.n) × (l.row ≡ set_of j (λ j. settled (member l.held j) (member l.weak j) (member l.king j)))
+invariant-loop-j l = (l.j ≤ l.n) × (l.row ≡ set_of l.j (λ j. settled (member l.held j) (member l.weak j) (member l.king j)))
 
 abbrev pub decreases-loop-j : goal.decreases-loop-j
 decreases-loop-j l = l.n - l.j

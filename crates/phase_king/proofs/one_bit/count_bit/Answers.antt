@@ -2,7 +2,6 @@
 use Rattle.phase_king.proofs.Steps.{is_count_le}
 use Rattle.lists.proofs.Sums.{count_none_below, counted}
 use native.Mathlib.Omega.{arith}
-use Prim.Native.Nat.{◌-◌}
 use mathlib.Core.Path.{◌≡◌, sym}
 use Rattle.phase_king.proofs.one_bit.count_bit.Goals as goal
 

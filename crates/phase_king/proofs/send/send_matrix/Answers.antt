@@ -23,6 +23,6 @@ returns c =
     let a = W.args in
     let o : List ℕ = replicate 32 0 in
     let end = R.rows_length-end.result in
-    is_to_all a.layout a.n L.limit.result (rows_of a.n a.rows.now) (take end W.write_rows.new.out) a.outbox.now A.send_all.new.name
+    is_to_all a.layout a.n L.limit.result (rows_of a.n a.rows.now) (take end W.write_rows.new.out) a.outbox.now A.send_all.new.outbox
     L.limit.ensures (rows_front a.n end a.rows.now W.write_rows.new.out o R.rows_length-end.ensures (omega arith) W.write_rows.ensures)
     A.send_all.ensures

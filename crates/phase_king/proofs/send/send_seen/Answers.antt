@@ -25,7 +25,7 @@ returns c =
     let o : List ℕ = replicate 64 0 in
     let m : List ℕ = seen_message a.n a.zeros.now a.ones.now in
     let end = 2 * R.rows_length-end.result in
-    is_to_all a.layout a.n L.limit.result m (take end W.write_seen.new.m) a.outbox.now A.send_all.new.name
+    is_to_all a.layout a.n L.limit.result m (take end W.write_seen.new.m) a.outbox.now A.send_all.new.outbox
     L.limit.ensures
     (front_of m W.write_seen.new.m (drop (2 * rows_length a.n) o) end W.write_seen.ensures
     (length_seen a.n a.zeros.now a.ones.now ∙ omega arith))
