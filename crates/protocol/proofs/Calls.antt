@@ -112,9 +112,9 @@ module _ (s : State) (b i o : ℕ) where
             (eqb-true (state_refusal s.settings s.own) 0 (not-false (eqb (state_refusal s.settings s.own) 0) parts.0));
         next_least = range.0;
         next_most = omega arith;
-        block_length_lem = eqb-true b (block_length s.settings.k s.settings.t) (and_left B (I && O) fit);
-        inbox_length_lem = eqb-true i (inbox_length s.settings.n s.settings.t s.settings.k s.next) (and_left I O (and_right B (I && O) fit));
-        outbox_length_lem = eqb-true o (outbox_length s.settings.n s.settings.t s.settings.k s.next) (and_right I O (and_right B (I && O) fit));
+        block_length = eqb-true b (block_length s.settings.k s.settings.t) (and_left B (I && O) fit);
+        inbox_length = eqb-true i (inbox_length s.settings.n s.settings.t s.settings.k s.next) (and_left I O (and_right B (I && O) fit));
+        outbox_length = eqb-true o (outbox_length s.settings.n s.settings.t s.settings.k s.next) (and_right I O (and_right B (I && O) fit));
       }
 
   fine : Valid s.settings s.own → 1 ≤ s.next → s.next ≤ 3 * s.settings.t + 10 → bad ≡ false

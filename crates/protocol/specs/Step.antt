@@ -64,6 +64,6 @@ pub record Ready (s : State) (b i o : ℕ) : Type 0 where
   pub valid : Valid s.settings s.own
   pub next_least : 1 ≤ s.next
   pub next_most : s.next ≤ 3 * s.settings.t + 9
-  pub block_length_lem : b ≡ block_length s.settings.k s.settings.t
-  pub inbox_length_lem : i ≡ inbox_length s.settings.n s.settings.t s.settings.k s.next
-  pub outbox_length_lem : o ≡ outbox_length s.settings.n s.settings.t s.settings.k s.next
+  pub block_length : b ≡ block_length s.settings.k s.settings.t
+  pub inbox_length : i ≡ inbox_length s.settings.n s.settings.t s.settings.k s.next
+  pub outbox_length : o ≡ outbox_length s.settings.n s.settings.t s.settings.k s.next

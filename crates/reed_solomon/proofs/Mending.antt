@@ -72,7 +72,7 @@ all_right n t layout slots block named s c all size bytes = (
 pub room-kept : (t k : ℕ) (b c p b' c' p' : List ℕ) → Room t k b c p → length b' ≡ length b → length c' ≡ length c → length p' ≡ length p → Room t k b' c' p'
 room-kept t k b c p b' c' p' r x y z = record {
   few = r.few;
-  block_size_lem = x ∙ r.block_size;
+  block_size = x ∙ r.block_size;
   cols_size = y ∙ r.cols_size;
   tmp_size = z ∙ r.tmp_size;
 }

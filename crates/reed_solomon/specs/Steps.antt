@@ -105,7 +105,7 @@ pub record Checked (n t : ℕ) (layout : Layout) (slots : List ℕ) (present : �
 
 pub record Room (t k : ℕ) (block cols tmp : List ℕ) : Type 0 where
   pub few : k ≤ 128
-  pub block_size_lem : length block ≡ k * (t + 1)
+  pub block_size : length block ≡ k * (t + 1)
   pub cols_size : length cols ≡ k * (t + 1)
   pub tmp_size : length tmp ≡ k
 

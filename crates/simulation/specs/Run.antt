@@ -42,7 +42,7 @@ layout_at F c = round_layout run_number F.settings.n F.settings.t F.settings.k c
 pub record Proper (F : Scenario) : Type 0 where
   pub coded : Coded F.settings.n F.settings.t F.settings.k
   pub sender-most : F.settings.sender ≤ F.settings.n
-  pub block_length_lem : length F.block ≡ block_length F.settings.k F.settings.t
+  pub block_length : length F.block ≡ block_length F.settings.k F.settings.t
   pub block-bytes : Bytes F.block
   pub said_length : (r f j : ℕ) → (F.said r f j ≡ []) ⊎ (length (F.said r f j) ≡ (layout_at F r).length)
   pub said_bytes : (r f j : ℕ) → Bytes (F.said r f j)

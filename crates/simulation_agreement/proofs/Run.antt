@@ -81,10 +81,10 @@ module _ (F : Scenario) (p : Proper F) (i : ℕ) (v : Numbered F.settings.n i) (
         valid = valid_at (held_by F i c) a valid;
         next_least = omega arith;
         next_most = omega (arith, ap (λ (x : Settings). x.t) a.settings_is);
-        block_length_lem = (holds-bytes F p c i).block_is.size ∙ sym (λ x. block_length (a.settings_is x).k (a.settings_is x).t);
-        inbox_length_lem = inbox_size F p c i (omega arith) v ∙ sym
+        block_length = (holds-bytes F p c i).block_is.size ∙ sym (λ x. block_length (a.settings_is x).k (a.settings_is x).t);
+        inbox_length = inbox_size F p c i (omega arith) v ∙ sym
             (λ x. inbox_length (a.settings_is x).n (a.settings_is x).t (a.settings_is x).k (a.next_is x));
-        outbox_length_lem = (lent-bytes F p (c + 1)).size ∙ sym (λ x. outbox_length (a.settings_is x).n (a.settings_is x).t (a.settings_is x).k (a.next_is x));
+        outbox_length = (lent-bytes F p (c + 1)).size ∙ sym (λ x. outbox_length (a.settings_is x).n (a.settings_is x).t (a.settings_is x).k (a.next_is x));
       })
 
   -- after c calls the next one is c + 1

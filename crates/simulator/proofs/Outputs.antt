@@ -50,7 +50,7 @@ scenario_proper input c e =
     record {
       coded = q.coded;
       sender-most = q.sender;
-      block_length_lem = q.block_length;
+      block_length = q.block_length;
       block-bytes = q.block-bytes;
       said_length = said_cases input c e;
       said_bytes = said_bytes input c;

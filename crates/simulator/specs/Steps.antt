@@ -109,8 +109,8 @@ pub record Parted (b o i : ℕ) (s : State) (inbox blocks sending : List ℕ) (r
   pub result : Playing
   pub is : result ≡ taken (step_of s (part b blocks i) inbox (replicate o 0))
   pub state : r ≡ result.state
-  pub block_length_lem : length result.block ≡ b
-  pub outbox_length_lem : length result.outbox ≡ o
+  pub block_length : length result.block ≡ b
+  pub outbox_length : length result.outbox ≡ o
   pub blocks_is : blocks' ≡ put_part b blocks i result.block
   pub sending_is : sending' ≡ put_part o sending i result.outbox
 

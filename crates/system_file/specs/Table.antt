@@ -74,7 +74,7 @@ pub record Properly (input : List ℕ) (c : Contents) : Type 0 where
   pub coded : Coded c.settings.n c.settings.t c.settings.k
   pub stripes : c.settings.k ≤ 32
   pub sender : c.settings.sender ≤ c.settings.n
-  pub block_length_lem : length c.block ≡ block_length c.settings.k c.settings.t
+  pub block_length : length c.block ≡ block_length c.settings.k c.settings.t
   pub block-bytes : (i : ℕ) → get_or c.block i 0 < 256
   pub size : length input ≤ file_limit
   pub room : (r f j : ℕ) → (place_of c.messages r f j ≡ 0 → ⊥)

@@ -1,5 +1,6 @@
 -- `component` meets its contract.
 use Rattle.matching.proofs.Steps.{lowest_in, grow_start, grow_more, grow_less, grow_done}
+use Prim.Native.Nat.{◌<◌}
 use native.Mathlib.Omega.{arith}
 use Rattle.matching.proofs.component.Goals as goal
 
@@ -16,10 +17,10 @@ pub remove-unseen-requires : goal.remove-unseen-requires
 remove-unseen-requires c = tt
 
 pub offset_bounds-graph-x : goal.offset_bounds-graph-x
-offset_bounds-graph-x c = omega (arith, (let L = c in omega (arith, c.lowest-x.ensures, (lowest_in L.loop-next.next L.loop-next.invariant.next_small c.loop-next-test.true).0)))
+offset_bounds-graph-x c = omega (arith, (let low : c.lowest-x.result < 16 = let L = c in omega (arith, c.lowest-x.ensures, (lowest_in L.loop-next.next L.loop-next.invariant.next_small c.loop-next-test.true).0) in low))
 
 pub bounds-graph-x : goal.bounds-graph-x
-bounds-graph-x c = omega (arith, (let L = c in omega (arith, c.lowest-x.ensures, (lowest_in L.loop-next.next L.loop-next.invariant.next_small c.loop-next-test.true).0)))
+bounds-graph-x c = omega (arith, (let low : c.lowest-x.result < 16 = let L = c in omega (arith, c.lowest-x.ensures, (lowest_in L.loop-next.next L.loop-next.invariant.next_small c.loop-next-test.true).0) in low))
 
 pub intersection-requires : goal.intersection-requires
 intersection-requires c = tt

@@ -62,8 +62,8 @@ returns c =
           r.ensures
           ∙ (λ x. taken (step_of a.s (part_lent a.b a.blocks.now a.i x) a.inbox.now (replicate (v x) 0)));
       state = refl;
-      block_length_lem = omega (arith, u);
-      outbox_length_lem = omega (arith, v);
+      block_length = omega (arith, u);
+      outbox_length = omega (arith, v);
       blocks_is = refl;
       sending_is = refl;
     }
