@@ -82,8 +82,8 @@ module _ (l : List ℕ) where
       let r = numbers_range ranges l p.numbers in
       let q = p.valid.coded.quorum in
       let n = value_of (field 0 l) in
-      let t = number_in 1 n (field 1 l) (number_is _ _ _ (r 1 (omega arith))) q.t_least (omega (arith, q.t_most)) in
-      let s = number_in 0 n (field 3 l) (number_is _ _ _ (r 3 (omega arith))) (omega arith) p.valid.sender in
+      let t = number_in_lem 1 n (field 1 l) (number_is _ _ _ (r 1 (omega arith))) q.t_least (omega (arith, q.t_most)) in
+      let s = number_in_lem 0 n (field 3 l) (number_is _ _ _ (r 3 (omega arith))) (omega arith) p.valid.sender in
       rw (r 0 (omega arith), t, le-leb (3 * value_of (field 1 l) + 1) n q.t_most, r 2 (omega arith), s, p.block)
 
 -- ---- the cases of the code

@@ -1,6 +1,8 @@
 -- `message_line` meets its contract.
 use native.Mathlib.Omega.{arith}
+use borrow.Author.Tests.{not-false}
 use Rattle.text.proofs.Laws.{numbers-found}
+use Rattle.std.proofs.lemmas.Bool.{not_from_false, not_from_true}
 use Rattle.system_file.proofs.MessageLine.{no_numbers_lem, no_message, line_yes}
 use Rattle.system_file.proofs.messages.message_line.Goals as goal
 
@@ -20,7 +22,7 @@ returns-then-not-is_bytes c =
     let G = R in
     let a = G.args in
     no_message a.s a.l.now a.at G.ranges-2.ensures R.read_numbers-numbers.ensures I.if-not-numbers.false
-    X.tail-message.ensures B.message_length-len.ensures B.is_bytes.ensures c.if-not-is_bytes.true
+    X.tail-message.ensures B.message_length-len.ensures B.is_bytes.ensures (not_from_false _ c.if-not-is_bytes.true)
 
 pub overflow_add-place : goal.overflow_add-place
 overflow_add-place c =
@@ -28,7 +30,7 @@ overflow_add-place c =
     let R = I in
     let G = R in
     let l = G.args.l.now in
-    omega (arith, (numbers-found G.ranges-2.result l R.read_numbers-numbers.ensures I.if-not-numbers.false).end)
+    omega (arith, (numbers-found G.ranges-2.result l R.read_numbers-numbers.ensures (not-false _ I.if-not-numbers.false)).end)
 
 pub returns : goal.returns
 returns c =
@@ -40,4 +42,4 @@ returns c =
     let G = R in
     let a = G.args in
     line_yes a.s a.l.now a.at G.ranges-2.ensures R.read_numbers-numbers.ensures I.if-not-numbers.false
-    X.tail-message.ensures B.message_length-len.ensures B.is_bytes.ensures J.if-not-is_bytes.false
+    X.tail-message.ensures B.message_length-len.ensures B.is_bytes.ensures (not_from_true _ J.if-not-is_bytes.false)

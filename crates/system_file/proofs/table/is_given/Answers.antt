@@ -1,6 +1,5 @@
 -- `is_given` meets its contract.
 use mathlib.Core.Path.{sym, ◌∙◌}
-use Prim.Native.Nat.{◌-◌}
 use native.Mathlib.Omega.{arith}
 use borrow.Author.Count.{below_more}
 use Rattle.system_file.proofs.Rows.{given_at, given_none}

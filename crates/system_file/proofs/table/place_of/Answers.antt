@@ -1,7 +1,6 @@
 -- `place_of` meets its contract.
 use Rattle.system_file.proofs.Places.{round-zero, round_past, sender-zero, sender_past, receiver_zero, receiver_past, place_inside}
 use Rattle.system_file.specs.Table.{table_index}
-use Prim.Native.Nat.{◌+◌, ◌-◌, ◌*◌}
 use native.Mathlib.Omega.{arith}
 use mathlib.Core.Path.{sym, ◌∙◌}
 use lib.ListN.{get_or-eq_default}
@@ -43,11 +42,6 @@ returns-then-places-at c =
     let a = c.args in
     sym (place_inside a.places.now a.r a.f a.j (omega arith) (omega arith) (omega arith) (omega arith) (omega arith) (omega arith)
     ∙ get_or-eq_default a.places.now 0 c.if-places-at.true)
-
-pub overflow_cast-result : goal.overflow_cast-result
-overflow_cast-result c =
-    let a = c.args in
-    omega (arith, c.shared_slice_known-1.given ((a.r - 1) * 256 + (a.f - 1) * 16 + (a.j - 1)))
 
 pub returns : goal.returns
 unfolding table_index
