@@ -7,7 +7,7 @@ use Rattle.lists.proofs.Fills.{filled_none, fill_more, fill_end}
 use lib.ListN.{replicate}
 use native.Mathlib.Omega.{arith}
 use mathlib.Core.Path.{sym, ◌∙◌}
-use Prim.Native.Nat.{◌-◌, min}
+use Prim.Native.Nat.{min}
 use Rattle.matching.proofs.complement.Goals as goal
 
 pub loop-i-init : goal.loop-i-init

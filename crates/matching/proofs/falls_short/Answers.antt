@@ -3,7 +3,6 @@ use Rattle.matching.proofs.Steps.{shrink_start, shrink_more, shrink_short}
 use Rattle.lists.proofs.Tests.{true≢false}
 use mathlib.Core.Path.{sym}
 use native.Mathlib.Omega.{arith}
-use Prim.Native.Nat.{◌-◌}
 use Rattle.matching.proofs.falls_short.Goals as goal
 
 pub loop-x-init : goal.loop-x-init

@@ -37,7 +37,7 @@ loop-left-smaller c =
     let L = T in
     omega (
       arith,
-      halve_less _ L.requires _ _ _ _ L.loop-left.invariant T.loop-left-test.true (has C) C.component-c.ensures.1 (omega arith),
+      halve_less _ L.requires _ _ _ _ L.loop-left.invariant T.loop-left-test.true (subst (In c.component-c.result) c.lowest.ensures c.component-c.ensures.0) C.component-c.ensures.1 (omega arith),
       ap size_of
           c.difference-left.ensures,
     )
@@ -47,7 +47,7 @@ loop-left-preserved c =
     let C = c in
     let T = C in
     let L = T in
-    halve_more _ L.requires _ _ _ _ L.loop-left.invariant T.loop-left-test.true (has C) C.component-c.ensures.1 (omega arith) _ _
+    halve_more _ L.requires _ _ _ _ L.loop-left.invariant T.loop-left-test.true (subst (In c.component-c.result) c.lowest.ensures c.component-c.ensures.0) C.component-c.ensures.1 (omega arith) _ _
     c.difference-left.ensures
     (ap (λ (x : ℕ). L.loop-left.sum + x / 2) c.size.ensures)
 

@@ -1,6 +1,5 @@
 -- `partner_of_fewest` meets its contract.
 use native.Mathlib.Omega.{arith}
-use Prim.Native.Nat.{◌-◌}
 use Rattle.matching.proofs.partner_of_fewest.Goals as goal
 
 pub loop-i-init : goal.loop-i-init

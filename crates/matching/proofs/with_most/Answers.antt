@@ -1,6 +1,5 @@
 -- `with_most` meets its contract.
 use native.Mathlib.Omega.{arith}
-use Prim.Native.Nat.{◌-◌}
 use Rattle.matching.proofs.with_most.Goals as goal
 
 pub loop-i-init : goal.loop-i-init
