@@ -1,6 +1,6 @@
 -- Laws that the proofs of the code share. The main one: `paired`, the message of the own piece and piece j.
 use mathlib.Core.Path.{◌≡◌, sym, ap, ap₂, ◌∙◌}
-use mathlib.Core.Bool.{Bool, true, false, not, ◌&&◌}
+use mathlib.Core.Bool.{true, false, not, ◌&&◌}
 use mathlib.Core.List.{List, ◌++◌, append-nil}
 use Prim.Native.Nat.{ℕ, ◌+◌, ◌-◌, ◌*◌, ◌≤◌, ◌<◌}
 use native.Mathlib.Omega.{arith}
@@ -9,17 +9,16 @@ use lib.Dec.{eqb}
 use lib.ListN.{length, take, drop, replicate, length-append, length-take, length-drop, drop_of_length-le}
 use lib.Seq.{take_at, drop_at, drop-drop, length-take-le}
 use Rattle.lists.specs.Same.{same}
-use Rattle.lists.proofs.Tests.{fails, and_no_left, and_tail, or_left, or_tail}
+use Rattle.lists.proofs.Tests.{and_no_left, and_tail, or_left, or_tail}
 use Rattle.lists.proofs.Sames.{no_same}
-use Rattle.settings.specs.declared.Entry.TheVariants.{Encode}
 use Rattle.wire.specs.declared.slot.Layout.{Layout}
 use Rattle.wire.specs.Slot.{message_of}
 use Rattle.wire.specs.declared.Round.TheVariants.{Pieces}
 use Rattle.wire.specs.Length.{kind_length}
 use Rattle.wire.proofs.Laws.{kind_length_is, row_pieces, Sized, sized_bytes}
 use Rattle.settings.specs.Valid.{Coded}
-use Rattle.reed_solomon.specs.Encode.{piece_of, Encoded, encoded, encode_of, is_ready, Coding}
-use Rattle.reed_solomon.proofs.Laws.{encode_valid, length_piece, ready_yes}
+use Rattle.reed_solomon.specs.Encode.{piece_of, Encoded, encoded, encode_of, Coding}
+use Rattle.reed_solomon.proofs.Laws.{encode_valid, length_piece}
 use Rattle.dispersal.specs.Dispersal.{two_pieces, is_marked}
 use Rattle.dispersal.proofs.Calls.{two_pieces_is}
 

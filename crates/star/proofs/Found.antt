@@ -310,6 +310,6 @@ module _ (rows : List ℕ) (n t : ℕ) where
 
 -- ---- not found
 -- the four sets are empty
-pub no_sets : (r : ℕ) → ((no_sets r).c ≡ 0) × ((no_sets r).d ≡ 0) × ((no_sets r).f ≡ 0) × ((no_sets r).e ≡ 0)
+pub no_sets_lem : (r : ℕ) → ((no_sets r).c ≡ 0) × ((no_sets r).d ≡ 0) × ((no_sets r).f ≡ 0) × ((no_sets r).e ≡ 0)
 unfolding no_sets
-no_sets r = (refl, refl, refl, refl)
+no_sets_lem r = (refl, refl, refl, refl)

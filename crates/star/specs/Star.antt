@@ -22,7 +22,7 @@
 --   star_of_bits bits n t  of the graph of any 120 bits (document 02, U9)
 --   StarIsOne            the relation holds of what the function answers and of nothing else (proofs/Same: `star_is_one`)
 --   StarOfBits           the star of the bits of the rows is the star of the rows (proofs/Same: `star_of_bits_lem`)
-use Rattle.std.specs.Prelude.{◌≡◌, List, Bool, true, cond, not, ◌&&◌, ℕ, ◌+◌, ◌-◌, ◌*◌, eqb, ltb, leb}
+use Rattle.std.specs.Prelude.{◌≡◌, List, Bool, cond, not, ◌&&◌, ℕ, ◌+◌, ◌-◌, ◌*◌, eqb, ltb, leb}
 use Rattle.lists.specs.Sum.{count}
 use Rattle.bitset.specs.Set.{member, set_of, size_of}
 use Rattle.settings.specs.Refusal.{star_refusal}

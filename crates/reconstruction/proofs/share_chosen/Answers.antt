@@ -1,0 +1,27 @@
+-- `share_chosen` meets its contract.
+use Rattle.reconstruction.proofs.Choice.{sent_chosen, sent_none}
+use Rattle.wire.specs.Slot.{to_all}
+use Prim.Native.Nat.{ℕ}
+use mathlib.Core.List.{List}
+use mathlib.Core.Path.{ap, ◌∙◌}
+use Rattle.reconstruction.proofs.share_chosen.Goals as goal
+
+pub returns-then-n-i : goal.returns-then-n-i
+returns-then-n-i c =
+    let I = c in
+    let F = I in
+    let a = F.args in
+    c.silence.ensures
+    ∙ sent_none a.n a.t a.core a.inbox.now a.layout a.out F.first_chosen-i.result F.first_chosen-i.ensures a.outbox.now
+    I.if-n-i.true
+
+pub returns : goal.returns
+returns c =
+    let M = c in
+    let I = M in
+    let F = I in
+    let a = F.args in
+    c.send_all.ensures
+    ∙ ap (λ (m : List ℕ). to_all a.out a.n m a.outbox.now) M.message.ensures
+    ∙ sent_chosen a.n a.t a.core a.inbox.now a.layout a.out F.first_chosen-i.result F.first_chosen-i.ensures a.outbox.now
+    I.if-n-i.false

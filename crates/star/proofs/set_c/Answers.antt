@@ -1,0 +1,66 @@
+-- `set_c` meets its contract.
+use Rattle.star.proofs.Parts.{c_start, c_more}
+use Rattle.graph.specs.Bits.{adjacent}
+use Rattle.star.specs.Star.{set_C}
+use Rattle.matching.specs.Answer.{pairs}
+use Rattle.bitset.specs.Set.{set_of}
+use native.Mathlib.Omega.{arith}
+use mathlib.Core.Bool.{true}
+use mathlib.Core.Path.{◌≡◌, ap, subst, ◌∙◌}
+use Prim.Native.Nat.{ℕ, min}
+use Rattle.star.proofs.set_c.Goals as goal
+
+pub below-c-requires : goal.below-c-requires
+below-c-requires c = tt
+
+pub loop-p-init : goal.loop-p-init
+loop-p-init c =
+    let S = c in
+    let m = S.args.m in
+    let e : min S.args.n 16 ≡ S.args.n = omega arith in
+    (omega arith, c.below-c.ensures ∙ ap (λ (x : ℕ). set_of x (λ _. true)) e ∙ c_start S.args.n (adjacent S.args.bits) m.small m.large)
+
+pub bounds-m-p : goal.bounds-m-p
+bounds-m-p c = omega arith
+
+pub overflow_cast-m : goal.overflow_cast-m
+overflow_cast-m c =
+    let L = c in
+    record { fits = omega (arith, L.requires.1.small L.loop-p.p c.loop-p-test.true) }
+
+pub bounds-m-p-in-loop-p : goal.bounds-m-p-in-loop-p
+bounds-m-p-in-loop-p c = omega arith
+
+pub overflow_cast-m-in-loop-p : goal.overflow_cast-m-in-loop-p
+overflow_cast-m-in-loop-p c =
+    let T = c in
+    record { fits = omega (arith, T.requires.1.large T.loop-p.p T.loop-p-test.true) }
+
+pub left_by-c-requires : goal.left_by-c-requires
+left_by-c-requires c = tt
+
+pub overflow_add-p : goal.overflow_add-p
+overflow_add-p c = omega arith
+
+pub loop-p-smaller : goal.loop-p-smaller
+loop-p-smaller c = omega arith
+
+pub loop-p-preserved : goal.loop-p-preserved
+loop-p-preserved c =
+    let T = c in
+    let L = T in
+    let S = L in
+    let m = S.args.m in
+    let E = S.requires.1 in (
+      omega arith,
+      c.left_by-c.ensures ∙ c_more S.args.n (adjacent S.args.bits) m.small m.large L.loop-p.p L.loop-p.c S.requires.0
+          (E.small L.loop-p.p T.loop-p-test.true) (E.large L.loop-p.p T.loop-p-test.true) L.loop-p.invariant.1,
+    )
+
+pub returns : goal.returns
+returns c =
+    let L = c in
+    let A = L.args in
+    let m = A.m in
+    let e : L.loop-p.p ≡ m.count = omega arith in
+    subst (λ (x : ℕ). L.loop-p.c ≡ set_C A.n (adjacent A.bits) (pairs m.small m.large x)) e L.loop-p.invariant.1
