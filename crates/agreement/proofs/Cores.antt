@@ -39,8 +39,8 @@ module _ (S : System) (H : Supposed S) where
     few_rows : S.settings.n ≤ 16
     few_rows = (coded S H i f).quorum.n_most
 
-    pub core_of : core_after S i (3 * S.settings.t + 7) ≡ core_of (last_matrix S i) S.settings.n S.settings.t
-    core_of =
+    pub core_of_lem : core_after S i (3 * S.settings.t + 7) ≡ core_of (last_matrix S i) S.settings.n S.settings.t
+    core_of_lem =
         let m = call S i (3 * S.settings.t + 7) in
         let a = (call_at S H i f (3 * S.settings.t + 7) (omega arith) (omega arith)).before_at in
         let is = state_by S H i f (3 * S.settings.t + 7) (omega arith) (omega arith) Core (call_core S.settings.t) core_call of_core in
@@ -55,7 +55,7 @@ module _ (S : System) (H : Supposed S) where
         let e : 3 * S.settings.t + 8 ≡ 3 * S.settings.t + 7 + 1 = omega arith in
         ap (λ (c : ℕ). (call S i c).before.state.core) e
         ∙ ap (λ (h : Local). h.state.core) (call_next S H i f (3 * S.settings.t + 7) (omega arith) (omega arith))
-        ∙ core_of
+        ∙ core_of_lem
 
     core_chosen : core_after S i (3 * S.settings.t + 8) ≡ core_of (last_matrix S i) S.settings.n S.settings.t
     core_chosen =
@@ -78,7 +78,7 @@ module _ (S : System) (H : Supposed S) where
     pub core_from : (c : ℕ) → 3 * S.settings.t + 7 ≤ c → c ≤ last S → core_after S i c ≡ core_of (last_matrix S i) S.settings.n S.settings.t
     core_from c least most =
         ⊎_elim
-        (λ (l : c < 3 * S.settings.t + 8). let e : c ≡ 3 * S.settings.t + 7 = omega arith in ap (core_after S i) e ∙ core_of)
+        (λ (l : c < 3 * S.settings.t + 8). let e : c ≡ 3 * S.settings.t + 7 = omega arith in ap (core_after S i) e ∙ core_of_lem)
         (λ (l : 3 * S.settings.t + 8 ≤ c).
         ⊎_elim
         (λ (l' : c < last S). let e : c ≡ 3 * S.settings.t + 8 = omega arith in ap (core_after S i) e ∙ core_chosen)

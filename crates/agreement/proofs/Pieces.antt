@@ -22,14 +22,14 @@ use Rattle.protocol.specs.Calls.{core_of, inbox_layout}
 use Rattle.reconstruction.specs.Reconstruction.{in_core, forwarded, own_piece, shared}
 use Rattle.reconstruction.proofs.Laws.{in_core_lem, forwarded-member, shared_sends, own_member, own_other, chosen}
 use Rattle.protocol.specs.declared.State.{State}
-use Rattle.protocol.specs.Calls.{Carried, core_call, choose_call}
+use Rattle.protocol.specs.Calls.{core_call, choose_call}
 use Rattle.protocol.proofs.Laws.{of_core, of_choose}
 use Rattle.agreement.specs.Agreement.{System, Correct, Supposed, last, call, layout_of, piece_layout}
-use Rattle.agreement.proofs.System.{coded, numbered, call_at, length-round, outbox_long, sends_by, state_by, block-from, delivered}
+use Rattle.agreement.proofs.System.{coded, numbered, length-round, outbox_long, sends_by, state_by, block-from, delivered}
 use Rattle.agreement.proofs.Coding.{Code}
 use Rattle.agreement.proofs.Blocks.{held_block, is_block}
 use Rattle.agreement.proofs.Votes.{correct_at, by_index}
-use Rattle.agreement.proofs.Cores.{last_matrix, core_of, core_choose}
+use Rattle.agreement.proofs.Cores.{last_matrix, core_of_lem, core_choose}
 
 module _ (S : System) (H : Supposed S) where
   module _ (i : ℕ) (f : Correct S i) where
@@ -59,7 +59,7 @@ module _ (S : System) (H : Supposed S) where
         let e : (core_call m.before.state m.before.block m.lent.inbox m.lent.outbox).state.core ≡ core_at =
         sym (ap (λ (s : State). s.core)
         (state_by S H i f (3 * S.settings.t + 7) (omega arith) (omega arith) Core (call_core S.settings.t) core_call of_core))
-        ∙ core_of S H i f in
+        ∙ core_of_lem S H i f in
         sends_by S H i f (3 * S.settings.t + 7) (omega arith) (omega arith) Core (call_core S.settings.t) core_call of_core
         (λ s own run next. forwarded run s.n s.t s.k own core_at (held_block S i) m.lent.outbox)
         (λ x. forwarded m.before.state.run m.before.state.settings.n m.before.state.settings.t m.before.state.settings.k

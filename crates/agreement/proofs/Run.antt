@@ -13,7 +13,7 @@ use Rattle.settings.specs.Valid.{Valid}
 use Rattle.wire.specs.Round.{call_kind}
 use Rattle.protocol.specs.declared.State.{State}
 use Rattle.protocol.specs.Calls.{Carried, call_of}
-use Rattle.protocol.specs.Step.{step_refusal, After, after, done, Ready}
+use Rattle.protocol.specs.Step.{step_refusal, After, done, Ready}
 use Rattle.protocol.proofs.Laws.{step_refused, step_carried, step_number_lem, step_0, 8_step, call_keeps, call_inside}
 use Rattle.agreement.specs.Run.{Lent, Local, Made, stepped, left, carried_out, left_after, made, calls}
 

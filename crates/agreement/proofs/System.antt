@@ -12,7 +12,7 @@ use Rattle.settings.specs.Valid.{Coded, Numbered, Valid}
 use Rattle.wire.specs.declared.Call.{Call}
 use Rattle.wire.specs.declared.Round.{Round}
 use Rattle.wire.specs.Round.{call_kind, round_kind}
-use Rattle.wire.specs.Length.{block_length, row_length, round_layout, inbox_length, outbox_length}
+use Rattle.wire.specs.Length.{block_length, row_length, inbox_length, outbox_length}
 use Rattle.wire.specs.Slot.{width, message_of, Sent, slots}
 use Rattle.wire.proofs.Laws.{message_length_is, length_pos, inbox_is, outbox_is, Sized, content, arrived}
 use Rattle.protocol.specs.declared.State.{State}
