@@ -3,43 +3,99 @@
 //     cargo run --release --bin system_files -- crates/simulator_cases
 #![tactic(auto)]
 
+ghost use Rattle.std.specs.Prelude.{◌≤◌, length, IfOk};
+
+use std::env::FillError;
+use std::io::{Read, Write};
+use std::rt::{Env, Files};
+use std::{fs, io};
+
 // Prints the first `length` bytes.
-fn print(bytes: &[u8], length: usize) {
+fn print(rt: &impl Print, bytes: &[u8], length: usize) -> io::Result<()> {
     let end = cases::fitting(length, bytes);
-    cases::text(&bytes[..end]);
+    cases::text(rt, &bytes[..end])
 }
 
 // The simulator's output.
-fn simulate(input: &[u8]) {
+fn simulate(rt: &impl Print, input: &[u8]) -> io::Result<()> {
     let output = simulator::simulate(input);
     let bytes = output.bytes;
-    print(&bytes, output.length);
+    print(rt, &bytes, output.length)
+}
+
+// Reads until buf is full or the input ends, and returns how many bytes it put at the start of buf.
+fn read_full(mut input: impl Read + Drop, buf: &mut [u8]) -> io::Result<usize>
+    ensures { IfOk result (λ n. n ≤ length buf.new) }
+{
+    let mut done: usize = 0;
+    while done < buf.len() {
+        let n = input.read(&mut buf[done..])?;
+        if n == 0 {
+            break;
+        }
+        done += n;
+    }
+    Ok(done)
+}
+
+// A name that is no UTF-8 is no name to std.
+fn open<R: Files>(rt: &R, name: &[u8]) -> io::Result<R::File> {
+    match std::str::from_utf8(name) {
+        Ok(path) => fs::open(rt, path),
+        Err(_) => Err(io::Error::from(io::ErrorKind::InvalidInput)),
+    }
+}
+
+// The system's text for an error, without its number.
+fn print_error(rt: &impl Print, error: io::Error) -> io::Result<()> {
+    let mut space = [0u8; 320];
+    let mut left: &mut [u8] = &mut space;
+    write!(left, "{error}")?;
+    let length = 320usize.saturating_sub(left.len());
+    let text = std::str::from_utf8(&space[..length]).unwrap_or("");
+    match text.split_once(" (os error ") {
+        Some((front, _)) => rt.print(front),
+        None => rt.print(text),
+    }
+}
+
+// A line on what could not be opened.
+fn fail(rt: &impl Print, name: &[u8], error: io::Error) -> io::Result<()> {
+    cases::text(rt, name)?;
+    cases::text(rt, b": ")?;
+    print_error(rt, error)?;
+    cases::newline(rt)
 }
 
 // One file, of which one byte more than the longest is read.
-fn play(name: &[u8]) {
-    cases::text(name);
-    cases::newline();
-    let file = os::open_read(name);
-    if file < 0 {
-        os::fail(name);
-        return;
-    }
+fn play(rt: &(impl Files + Print), err: &impl Print, name: &[u8]) -> io::Result<()> {
+    cases::text(rt, name)?;
+    cases::newline(rt)?;
+    let file = match open(rt, name) {
+        Ok(file) => file,
+        Err(error) => return fail(err, name, error),
+    };
     let mut input = [0u8; 65537];
-    let length = io::read_full(file, &mut input);
-    libc::close(file);
-    simulate(&input[..length]);
+    let length = read_full(file, &mut input)?;
+    simulate(rt, &input[..length])
 }
 
-fn play_argument(i: usize) {
-    let mut name = io::buffer();
-    let length = os::arg(i, &mut name);
-    play(&name[..length]);
-}
-
-fn main() {
-    let count = os::arg_count();
-    for i in 1..count {
-        play_argument(i);
+// Argument i, and whether there is one. One that is too long has no name.
+fn play_argument(rt: &(impl Env + Files + Print), err: &impl Print, i: usize) -> io::Result<bool> {
+    let mut name = [0u8; 4096];
+    match rt.arg(i, &mut name) {
+        Ok(length) => play(rt, err, &name[..length])?,
+        Err(FillError::TooLong) => play(rt, err, b"")?,
+        Err(FillError::NotPresent) => return Ok(false),
     }
+    Ok(true)
+}
+
+fn main(rt: HostRuntime) -> io::Result<()> {
+    for i in 1..usize::MAX {
+        if !play_argument(&rt, &rt.stderr(), i)? {
+            break;
+        }
+    }
+    Ok(())
 }
