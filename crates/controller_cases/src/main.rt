@@ -492,12 +492,11 @@ fn steps(rt: &impl Print) -> io::Result<()> {
 
 fn print_outcome(rt: &impl Print, o: Outcome) -> io::Result<()> {
     match o {
-        Outcome::Open => cases::text(rt, b" open")?,
-        Outcome::Agreed => cases::text(rt, b" agreed")?,
-        Outcome::None => cases::text(rt, b" none")?,
-        Outcome::Beyond => cases::text(rt, b" beyond")?,
+        Outcome::Open => cases::text(rt, b" open"),
+        Outcome::Agreed => cases::text(rt, b" agreed"),
+        Outcome::None => cases::text(rt, b" none"),
+        Outcome::Beyond => cases::text(rt, b" beyond"),
     }
-    Ok(())
 }
 
 // The number and the state that call c answered, and what it left in block and outbox.
