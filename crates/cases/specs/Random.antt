@@ -1,11 +1,11 @@
 -- Random numbers, and digests by the same generator; run numbers, and others that differ from one in one byte.
---   next_random x    x times 1664525 plus 1013904223, modulo 2 to the 32
+--   next_random x   x times 1664525 plus 1013904223, modulo 2 to the 32
 --   mixed x y       next of the sum, modulo 2 to the 64
 --   seeded a b c d  a mixed with b, c and d, one after the other
 --   drawn a b c d   the upper 16 bits of that
 --   digested d s    d mixed with the elements of s, one after the other
---   some_run x       the run number for the remainder of x by 4: 0, 1, 256, 65535
---   other_run x c    x with the lowest bit of one byte changed: of the low byte for an even c, else of the high one
+--   some_run x      the run number for the remainder of x by 4: 0, 1, 256, 65535
+--   other_run x c   x with the lowest bit of one byte changed: of the low byte for an even c, else of the high one
 use Rattle.std.specs.Prelude.{ℕ, ◌+◌, ◌*◌, ◌/◌, ◌%◌, ◌^◌, cond, List, [], ◌∷◌, ◌==◌, bit_xor, slice_index}
 
 unfoldable pub next_random : ℕ → ℕ
