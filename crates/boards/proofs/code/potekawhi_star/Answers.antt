@@ -1,0 +1,26 @@
+-- `boards::potekawhi_star` meets its contract.
+use Rattle.boards.proofs.Answers.{star_wrong_rows, star_wrong_sets, star_right}
+use Rattle.star.proofs.Laws.{star_of_lem}
+use mathlib.Core.Path.{◌∙◌}
+use Rattle.boards.proofs.code.potekawhi_star.Goals as goal
+
+pub returns-then-rows-ne32 : goal.returns-then-rows-ne32
+returns-then-rows-ne32 c =
+    let a = c.args in
+    star_wrong_rows a.n a.t a.rows.now a.sets.now c.if-rows-ne32.true
+
+pub returns-then-sets-ne8 : goal.returns-then-sets-ne8
+returns-then-sets-ne8 c =
+    let a = c.args in
+    star_wrong_sets a.n a.t a.rows.now a.sets.now c.if-sets-ne8.true
+
+pub returns : goal.returns
+returns c =
+    let P = c in
+    let F = P in
+    let G = F in
+    let I = G in
+    let a = I.args in
+    P.put_star.ensures
+    ∙ star_right a.n a.t a.rows.now a.sets.now I.if-rows-ne32.false I.if-sets-ne8.false G.get_rows-graph.result G.get_rows-graph.ensures
+    F.find-found.result (star_of_lem _ _ _ _ F.find-found.ensures)

@@ -1,0 +1,15 @@
+-- `boards::potekawhi_message` meets its contract.
+use Rattle.wire.specs.declared.slot.Layout.{Layout}
+use Rattle.wire.specs.Slot.{message_of, offset_of}
+use mathlib.Core.Path.{ap, ◌∙◌}
+use lib.ListN.{length}
+use Rattle.boards.proofs.potekawhi_message.Goals as goal
+
+pub returns : goal.returns
+returns c =
+    let L = c in
+    let a = L.args in
+    let e = L.layout_with-layout.ensures in (
+      ap length (c.message-m.ensures ∙ ap (λ (l : Layout). message_of a.inbox.now l a.j) e),
+      c.offset-start.ensures ∙ ap (λ (l : Layout). offset_of a.inbox.now l a.j) e,
+    )
