@@ -13,8 +13,7 @@ const BEYOND: u8 = 255;
 
 // Piece `number` of a block's coding.
 // Shut out: piece k; k and t the other way round.
-#[unsafe(no_mangle)]
-pub extern "C" fn potekawhi_encode(
+pub fn potekawhi_encode(
     n: usize,
     t: usize,
     k: usize,
@@ -51,8 +50,7 @@ fn decoded_marks(r: Decoded, named: u16) -> u16
 
 // Decoding of slots of the run `run`: the block to the lent bytes and its marks to the lent number, by the relation `Answers`.
 // Shut out: 0 for beyond; n and t the other way round; run 0, whatever is given; the marks cleared where it is refused, kept for beyond; must-fail/beyond_as_a_row.
-#[unsafe(no_mangle)]
-pub extern "C" fn potekawhi_decode(
+pub fn potekawhi_decode(
     n: usize,
     t: usize,
     k: usize,
@@ -97,8 +95,7 @@ fn put_star(s: Sets, sets: &mut [u8]) -> u8
 
 // The star of the rows in the lent bytes, its four sets to others.
 // Shut out: E for F; 9 bytes for the sets.
-#[unsafe(no_mangle)]
-pub extern "C" fn potekawhi_star(n: usize, t: usize, rows: &[u8], sets: &mut [u8]) -> u8
+pub fn potekawhi_star(n: usize, t: usize, rows: &[u8], sets: &mut [u8]) -> u8
     ensures { returned result sets.new ≡ star_bytes n t rows.now sets.old }
 {
     if rows.len() != 32 {
@@ -114,8 +111,7 @@ pub extern "C" fn potekawhi_star(n: usize, t: usize, rows: &[u8], sets: &mut [u8
 
 // The missing pairs of the rows in the lent bytes, to others.
 // Shut out: those of 16 controllers whatever n is; 0 for a wrong length.
-#[unsafe(no_mangle)]
-pub extern "C" fn potekawhi_missing_pairs(n: usize, rows: &[u8], pairs: &mut [u8]) -> u8
+pub fn potekawhi_missing_pairs(n: usize, rows: &[u8], pairs: &mut [u8]) -> u8
     ensures { returned result pairs.new ≡ pair_bytes n rows.now pairs.old }
 {
     if rows.len() != 32 {
@@ -132,8 +128,7 @@ pub extern "C" fn potekawhi_missing_pairs(n: usize, rows: &[u8], pairs: &mut [u8
 
 // The star of the missing pairs in the lent bytes, its four sets to others.
 // Shut out: n and t the other way round; 9 bytes for the sets.
-#[unsafe(no_mangle)]
-pub extern "C" fn potekawhi_star_of_pairs(n: usize, t: usize, pairs: &[u8], sets: &mut [u8]) -> u8
+pub fn potekawhi_star_of_pairs(n: usize, t: usize, pairs: &[u8], sets: &mut [u8]) -> u8
     ensures { returned result sets.new ≡ pair_star_bytes n t pairs.now sets.old }
 {
     if pairs.len() != 15 {

@@ -1,6 +1,5 @@
-// The functions that programs in C, or in Rust, link as a static library: those of the crates below over numbers and byte slices, with the
-// state as bytes in a lent buffer. include/potekawhi.h declares them for C. Here are a run and its lengths; the code and the star by themselves
-// are in code.rt.
+// What the static library's functions do: those of the crates below over numbers and byte slices, with the state as bytes in a lent buffer.
+// The crate boards_c exports them to C under the same names. Here are a run and its lengths; the code and the star by themselves are in code.rt.
 #![tactic(auto)]
 
 mod code;
@@ -13,6 +12,10 @@ ghost use Rattle.wire.specs.Slot.{layout_with, message_of, offset_of};
 ghost use Rattle.state_bytes.specs.State.{state_of};
 ghost use Rattle.boards.specs.Boards.{returned, start_bytes, returned_step, step_bytes, outcome_in, named_in, final_bytes};
 
+pub use code::{
+    potekawhi_decode, potekawhi_encode, potekawhi_missing_pairs, potekawhi_star,
+    potekawhi_star_of_pairs,
+};
 use settings::Settings;
 
 // The number of a lent length that is wrong.
@@ -20,8 +23,7 @@ pub(crate) const BAD_LENGTH: u8 = 6;
 
 // Start of the run `run`: the number, and the state to the lent bytes. Refused: no lent byte changes.
 // Shut out: own number and sender the other way round; run 0, whatever is given; 6 whatever start answers; must-fail/refused_start_written.
-#[unsafe(no_mangle)]
-pub extern "C" fn potekawhi_start(
+pub fn potekawhi_start(
     n: usize,
     t: usize,
     k: usize,
@@ -49,13 +51,7 @@ pub extern "C" fn potekawhi_start(
 
 // One step on the state in the lent bytes. Refused: no lent byte changes.
 // Shut out: block and outbox the other way round; 6 for a step carried out.
-#[unsafe(no_mangle)]
-pub extern "C" fn potekawhi_step(
-    state: &mut [u8],
-    block: &mut [u8],
-    inbox: &[u8],
-    outbox: &mut [u8],
-) -> u8
+pub fn potekawhi_step(state: &mut [u8], block: &mut [u8], inbox: &[u8], outbox: &mut [u8]) -> u8
     ensures { returned_step result state.new block.new outbox.new ≡ step_bytes state.old block.old inbox.now outbox.old }
 {
     if state.len() != state_bytes::length() {
@@ -74,8 +70,7 @@ pub extern "C" fn potekawhi_step(
 
 // The number of the next call; 0 where the state has another length.
 // Shut out: the own number; n.
-#[unsafe(no_mangle)]
-pub extern "C" fn potekawhi_next_call(state: &[u8]) -> usize
+pub fn potekawhi_next_call(state: &[u8]) -> usize
     ensures { result ≡ (state_of state.now).next }
 {
     let s = state_bytes::read(state);
@@ -84,8 +79,7 @@ pub extern "C" fn potekawhi_next_call(state: &[u8]) -> usize
 
 // The number of the outcome.
 // Shut out: 9 where the state has another length; open whatever the state says.
-#[unsafe(no_mangle)]
-pub extern "C" fn potekawhi_outcome(state: &[u8]) -> u8
+pub fn potekawhi_outcome(state: &[u8]) -> u8
     ensures { result ≡ outcome_in state.now }
 {
     if state.len() != state_bytes::length() {
@@ -98,8 +92,7 @@ pub extern "C" fn potekawhi_outcome(state: &[u8]) -> u8
 
 // The marks of those whom the controller names; none where the state has another length.
 // Shut out: the core; nobody, whatever the state says.
-#[unsafe(no_mangle)]
-pub extern "C" fn potekawhi_named(state: &[u8]) -> u16
+pub fn potekawhi_named(state: &[u8]) -> u16
     ensures { result ≡ named_in state.now }
 {
     let s = state_bytes::read(state);
@@ -108,8 +101,7 @@ pub extern "C" fn potekawhi_named(state: &[u8]) -> u16
 
 // The number of the outcome, and the final block, once there is one.
 // Shut out: the block copied while the run is open; a final block of any length.
-#[unsafe(no_mangle)]
-pub extern "C" fn potekawhi_final_block(state: &[u8], block: &[u8], out: &mut [u8]) -> u8
+pub fn potekawhi_final_block(state: &[u8], block: &[u8], out: &mut [u8]) -> u8
     ensures { returned result out.new ≡ final_bytes state.now block.now out.old }
 {
     if state.len() != state_bytes::length() {
@@ -134,14 +126,7 @@ pub extern "C" fn potekawhi_final_block(state: &[u8], block: &[u8], out: &mut [u
 // The length of the message in slot j of an inbox of the run `run` with messages of `len` bytes, and to `offset` where it starts; 0 and 0 where there
 // is none.
 // Shut out: slot number and length the other way round, in the length answered; the same in the offset; run 0, whatever is given.
-#[unsafe(no_mangle)]
-pub extern "C" fn potekawhi_message(
-    inbox: &[u8],
-    run: u16,
-    len: usize,
-    j: usize,
-    offset: &mut usize,
-) -> usize
+pub fn potekawhi_message(inbox: &[u8], run: u16, len: usize, j: usize, offset: &mut usize) -> usize
     ensures { (result ≡ length (message_of inbox.now (layout_with run len) j)) × (offset.new ≡ offset_of inbox.now (layout_with run len) j) }
 {
     let layout = wire::layout_with(run, len);
@@ -153,8 +138,7 @@ pub extern "C" fn potekawhi_message(
 
 // The length of a block; 0 outside the settings.
 // Shut out: k and t the other way round; n and t the other way round.
-#[unsafe(no_mangle)]
-pub extern "C" fn potekawhi_block_length(n: usize, t: usize, k: usize) -> usize
+pub fn potekawhi_block_length(n: usize, t: usize, k: usize) -> usize
     ensures { result ≡ block_size n t k }
 {
     wire::block_length(n, t, k)
@@ -162,8 +146,7 @@ pub extern "C" fn potekawhi_block_length(n: usize, t: usize, k: usize) -> usize
 
 // The length of a message of round c; 0 outside the settings and rounds.
 // Shut out: that of round k; k and c the other way round.
-#[unsafe(no_mangle)]
-pub extern "C" fn potekawhi_message_length(n: usize, t: usize, k: usize, c: usize) -> usize
+pub fn potekawhi_message_length(n: usize, t: usize, k: usize, c: usize) -> usize
     ensures { result ≡ message_length n t k c }
 {
     wire::message_length(n, t, k, c)
@@ -171,8 +154,7 @@ pub extern "C" fn potekawhi_message_length(n: usize, t: usize, k: usize, c: usiz
 
 // The length of the inbox of call c; 0 for the first call and outside the settings and calls.
 // Shut out: the length of the outbox; that of the inbox of call t.
-#[unsafe(no_mangle)]
-pub extern "C" fn potekawhi_inbox_length(n: usize, t: usize, k: usize, c: usize) -> usize
+pub fn potekawhi_inbox_length(n: usize, t: usize, k: usize, c: usize) -> usize
     ensures { result ≡ inbox_length n t k c }
 {
     wire::inbox_length(n, t, k, c)
@@ -180,8 +162,7 @@ pub extern "C" fn potekawhi_inbox_length(n: usize, t: usize, k: usize, c: usize)
 
 // The length of the outbox of call c; 0 for the last call and outside the settings and calls.
 // Shut out: the length of the inbox; that of the outbox of call n.
-#[unsafe(no_mangle)]
-pub extern "C" fn potekawhi_outbox_length(n: usize, t: usize, k: usize, c: usize) -> usize
+pub fn potekawhi_outbox_length(n: usize, t: usize, k: usize, c: usize) -> usize
     ensures { result ≡ outbox_length n t k c }
 {
     wire::outbox_length(n, t, k, c)
@@ -189,8 +170,7 @@ pub extern "C" fn potekawhi_outbox_length(n: usize, t: usize, k: usize, c: usize
 
 // How many calls a run has; 0 for a t outside 1 .. 5.
 // Shut out: the number of rounds; the phase of round t.
-#[unsafe(no_mangle)]
-pub extern "C" fn potekawhi_calls(t: usize) -> usize
+pub fn potekawhi_calls(t: usize) -> usize
     ensures { result ≡ cond (outside 1 5 t) 0 (call_count t) }
 {
     wire::calls(t)
