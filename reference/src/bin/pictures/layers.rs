@@ -11,8 +11,6 @@ use std::{fs, path::Path};
 const WIDTH: f64 = 960.0;
 const HEIGHT: f64 = 956.0;
 
-/// Libraries of Rattle's kit, which are no crates of the project.
-const KIT: [&str; 3] = ["io", "libc", "os"];
 /// Whose arrows are not drawn.
 const CHECKS: [&str; 2] = ["examples", CASES];
 
@@ -38,7 +36,8 @@ fn kind(name: &str) -> Kind {
         let text = fs::read_to_string(file.unwrap().path()).unwrap();
         text.lines().any(|line| {
             let line = line.trim_start();
-            line.starts_with("fn ") || line.starts_with("pub fn ")
+            let starts = ["fn ", "pub fn ", "pub extern \"C\" fn "];
+            starts.iter().any(|start| line.starts_with(start))
         })
     });
     if has_code {
@@ -57,15 +56,16 @@ impl Crates {
         };
         let mut names = BTreeSet::new();
         for line in text.lines().filter(|line| !line.starts_with('#')) {
-            let (name, used) = line.split_once(':').expect("a name and a colon");
+            let (head, used) = line.split_once(':').expect("a name and a colon");
+            // a static library has the word behind its name
+            let name = head.strip_suffix(" staticlib").unwrap_or(head);
             let is_case = name.ends_with("_cases");
             assert!(names.insert(name), "{name} stands twice");
             crates.cases += usize::from(is_case);
             let shown = if is_case { CASES } else { name };
             assert_eq!(kind(name), place(shown).1, "the kind of {name}");
-            let used = used.split_whitespace().filter(|used| !KIT.contains(used));
             let all = crates.uses.entry(shown.to_string()).or_default();
-            all.extend(used.map(str::to_string));
+            all.extend(used.split_whitespace().map(str::to_string));
         }
         crates
     }

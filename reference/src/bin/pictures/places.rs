@@ -75,6 +75,7 @@ pub const PLACES: &[Place] = &[
     ("boards", Library, 8, [1, 1], &["the functions that", "C calls"]),
     ("simulator", Library, 8, [3, 3], &["from a system file", "to the output"]),
     ("cases", Library, 8, [4, 4], &["random numbers,", "digests, printing"]),
+    ("boards_c", Library, 9, [0, 0], &["the same functions,", "exported for C"]),
     ("boards_agreement", NoCode, 9, [1, 1], &["runs through the", "static library agree"]),
     ("simulation_agreement", NoCode, 9, [2, 2], &["simulated runs agree"]),
     ("simulate", Program, 9, [3, 3], &["standard input to", "standard output"]),
@@ -95,6 +96,7 @@ pub const PARTS: &[(&str, &str, &str)] = &[
     ("definitions", "protocol", "protocol"),
     ("the theorem", "agreement", "witnesses"),
     ("static library", "state_bytes", "boards"),
+    ("its exports", "boards_c", "boards_c"),
     ("the code", "controller", "controller"),
     ("simulator", "simulation", "simulate"),
     ("theorems that reach the programs", "boards_agreement", "simulation_agreement"),
@@ -175,6 +177,7 @@ pub const BENT: &[(&str, &str, &[Turn])] = &[
         "system_file",
         &[X(3, SECOND), Below(8, 15.0), X(3, GAP), Below(4, 15.0), X(4, STRAIGHT)],
     ),
+    ("boards_c", "boards", &[X(0, SECOND), Below(9, 10.0), X(1, STRAIGHT)]),
     (
         "boards_agreement",
         "agreement",
