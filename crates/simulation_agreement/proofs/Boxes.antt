@@ -17,7 +17,7 @@ use Rattle.lists.proofs.Joins.{part_take, length-joined, part_joined, all_joined
 use Rattle.settings.specs.Valid.{Numbered}
 use Rattle.polynomial.specs.Polynomial.{Bytes}
 use Rattle.wire.specs.declared.slot.Layout.{Layout}
-use Rattle.wire.specs.Length.{block_length, message_length, inbox_length, outbox_length}
+use Rattle.wire.specs.Length.{block_length, inbox_length, outbox_length}
 use Rattle.wire.specs.Slot.{width, slot_of}
 use Rattle.wire.proofs.Laws.{length_pos, outbox_is, inbox_is, first_inbox, Sized, sized_silence, sized_bytes, content, written_each, slot_is, length_slot}
 use Rattle.protocol.specs.Step.{After, step_of}

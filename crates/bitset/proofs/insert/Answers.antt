@@ -13,19 +13,16 @@ returns-then-i-ge16 c = sym (insert_over c.args.s c.args.i (omega arith) (omega 
 new : (c : goal.After-bit) → c.args.s + c.bit.result ≡ inserted c.args.s
     c.args.i
 new c =
-    let S = c in
-    ap (λ (x : ℕ). S.args.s + x) c.bit.ensures
-    ∙ sym (insert_add S.args.s S.args.i (omega arith) (omega arith) (sym c.member.ensures ∙ c.if-member.false))
+    ap (λ (x : ℕ). c.args.s + x) c.bit.ensures
+    ∙ sym (insert_add c.args.s c.args.i (omega arith) (omega arith) (sym c.member.ensures ∙ c.if-member.false))
 
 pub returns-then-member : goal.returns-then-member
 returns-then-member c =
-    let S = c in
-    sym (insert_member S.args.s S.args.i (omega arith) (sym c.member.ensures ∙ c.if-member.true))
+    sym (insert_member c.args.s c.args.i (omega arith) (sym c.member.ensures ∙ c.if-member.true))
 
 pub overflow_add-result : goal.overflow_add-result
 overflow_add-result c =
-    let S = c in
-    omega (arith, insert_lt S.args.s S.args.i, new c)
+    omega (arith, insert_lt c.args.s c.args.i, new c)
 
 pub returns : goal.returns
 returns c = new c

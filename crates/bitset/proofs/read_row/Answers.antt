@@ -9,13 +9,11 @@ use Rattle.bitset.proofs.read_row.Goals as goal
 
 pub returns-then-m-r : goal.returns-then-m-r
 returns-then-m-r c =
-    let S = c in
-    sym (row_missing S.args.n S.args.m.now S.args.r (omega arith))
+    sym (row_missing c.args.n c.args.m.now c.args.r (omega arith))
 
 pub returns : goal.returns
 unfolding word_at
 returns c =
-    let S = c in
     c.restrict.ensures
-    ∙ ap (λ (x : ℕ). restricted x S.args.n) c.word.ensures
-    ∙ sym (row_held S.args.n S.args.m.now S.args.r (omega arith))
+    ∙ ap (λ (x : ℕ). restricted x c.args.n) c.word.ensures
+    ∙ sym (row_held c.args.n c.args.m.now c.args.r (omega arith))

@@ -8,16 +8,14 @@ use Rattle.bitset.proofs.remove.Goals as goal
 
 pub returns-then-i-ge16 : goal.returns-then-i-ge16
 returns-then-i-ge16 c =
-    let S = c in
-    sym (remove_other S.args.s S.args.i (omega arith) (member_over 16 S.args.s S.args.i (omega arith) (omega arith)))
+    sym (remove_other c.args.s c.args.i (omega arith) (member_over 16 c.args.s c.args.i (omega arith) (omega arith)))
 
 -- a member: the set is what is left and the bit's worth
 less : (c : goal.After-bit) → removed c.args.s
     c.args.i + c.bit.result ≡ c.args.s
 less c =
-    let S = c in
-    ap (λ (x : ℕ). removed S.args.s S.args.i + x) c.bit.ensures
-    ∙ remove_sub S.args.s S.args.i (omega arith) (omega arith) (sym c.member.ensures ∙ c.if-member.true)
+    ap (λ (x : ℕ). removed c.args.s c.args.i + x) c.bit.ensures
+    ∙ remove_sub c.args.s c.args.i (omega arith) (omega arith) (sym c.member.ensures ∙ c.if-member.true)
 
 pub overflow_sub-result : goal.overflow_sub-result
 overflow_sub-result c = omega (arith, less c)
@@ -27,5 +25,4 @@ returns-then-member c = omega (arith, less c)
 
 pub returns : goal.returns
 returns c =
-    let S = c in
-    sym (remove_other S.args.s S.args.i (omega arith) (sym c.member.ensures ∙ c.if-member.false))
+    sym (remove_other c.args.s c.args.i (omega arith) (sym c.member.ensures ∙ c.if-member.false))

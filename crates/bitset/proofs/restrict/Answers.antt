@@ -8,8 +8,7 @@ use Rattle.bitset.proofs.restrict.Goals as goal
 
 pub returns-then-n-ge16 : goal.returns-then-n-ge16
 returns-then-n-ge16 c =
-    let S = c in
-    sym (restrict_below S.args.s S.args.n (omega (arith, pow_mono {i = 16} {j = S.args.n} (omega arith))))
+    sym (restrict_below c.args.s c.args.n (omega (arith, pow_mono {i = 16} {j = c.args.n} (omega arith))))
 
 pub returns : goal.returns
 returns c = ap (λ (x : ℕ). c.args.s % x) c.bit.ensures ∙ sym (restrict_mod c.args.s c.args.n)

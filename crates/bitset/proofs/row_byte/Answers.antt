@@ -8,11 +8,9 @@ use Rattle.bitset.proofs.row_byte.Goals as goal
 pub returns-then-b-eq0 : goal.returns-then-b-eq0
 unfolding row_byte
 returns-then-b-eq0 c =
-    let S = c in
-    c.low.ensures ∙ ap (λ (x : ℕ). x % 256) c.restrict-x.ensures ∙ rw (eq-eqb (S.args.b % 2) 0 c.if-b-eq0.true)
+    c.low.ensures ∙ ap (λ (x : ℕ). x % 256) c.restrict-x.ensures ∙ rw (eq-eqb (c.args.b % 2) 0 c.if-b-eq0.true)
 
 pub returns : goal.returns
 unfolding row_byte
 returns c =
-    let S = c in
-    c.high.ensures ∙ ap (λ (x : ℕ). x / 256) c.restrict-x.ensures ∙ rw (ne_eqb (S.args.b % 2) 0 c.if-b-eq0.false)
+    c.high.ensures ∙ ap (λ (x : ℕ). x / 256) c.restrict-x.ensures ∙ rw (ne_eqb (c.args.b % 2) 0 c.if-b-eq0.false)

@@ -15,17 +15,14 @@ loop-b-init c = (c.rows_length-end.ensures, omega arith, sym (filled_none _ _))
 
 pub shape_of-out-then-b-out : goal.shape_of-out-then-b-out
 shape_of-out-then-b-out c =
-    let L = c in
-    ap length L.loop-b.invariant.2 ∙ length-filled _ L.loop-b.b L.args.out.now
+    ap length c.loop-b.invariant.2 ∙ length-filled _ c.loop-b.b c.args.out.now
 
 pub returns-then-b-out : goal.returns-then-b-out
 returns-then-b-out c =
-    let L = c in
-    let S = L in
-    let o = S.args.out.now in
-    let f : ℕ → ℕ = row_byte S.args.n S.args.rows.now in
-    let same : length L.loop-b.out ≡ length o = ap length L.loop-b.invariant.2 ∙ length-filled f L.loop-b.b o in
-    L.loop-b.invariant.2 ∙ filled_over f L.loop-b.b o (omega arith) ∙ sym (filled_over f (2 * min S.args.n 16) o (omega arith))
+    let o = c.args.out.now in
+    let f : ℕ → ℕ = row_byte c.args.n c.args.rows.now in
+    let same : length c.loop-b.out ≡ length o = ap length c.loop-b.invariant.2 ∙ length-filled f c.loop-b.b o in
+    c.loop-b.invariant.2 ∙ filled_over f c.loop-b.b o (omega arith) ∙ sym (filled_over f (2 * min c.args.n 16) o (omega arith))
 
 pub row_byte-requires : goal.row_byte-requires
 row_byte-requires c = omega arith
@@ -41,24 +38,19 @@ loop-b-smaller c = omega arith
 
 pub loop-b-preserved : goal.loop-b-preserved
 loop-b-preserved c =
-    let L = c in
-    let S = L in
-    let o = S.args.out.now in
-    let same : length L.loop-b.out ≡ length o = ap length L.loop-b.invariant.2 ∙ length-filled _ L.loop-b.b o in (
-      L.loop-b.invariant.0,
+    let o = c.args.out.now in
+    let same : length c.loop-b.out ≡ length o = ap length c.loop-b.invariant.2 ∙ length-filled _ c.loop-b.b o in (
+      c.loop-b.invariant.0,
       omega arith,
-      fill_more (row_byte S.args.n S.args.rows.now) L.loop-b.b o L.loop-b.out c.row_byte.result (omega arith) L.loop-b.invariant.2
+      fill_more (row_byte c.args.n c.args.rows.now) c.loop-b.b o c.loop-b.out c.row_byte.result (omega arith) c.loop-b.invariant.2
           c.row_byte.ensures,
     )
 
 pub shape_of-out : goal.shape_of-out
 shape_of-out c =
-    let L = c in
-    ap length L.loop-b.invariant.2 ∙ length-filled _ L.loop-b.b L.args.out.now
+    ap length c.loop-b.invariant.2 ∙ length-filled _ c.loop-b.b c.args.out.now
 
 pub returns : goal.returns
 returns c =
-    let L = c in
-    let S = L in
-    let e : L.loop-b.b ≡ 2 * min S.args.n 16 = omega arith in
-    rw e at L.loop-b.invariant.2
+    let e : c.loop-b.b ≡ 2 * min c.args.n 16 = omega arith in
+    rw e at c.loop-b.invariant.2

@@ -7,9 +7,8 @@ use Rattle.boards.proofs.potekawhi_message.Goals as goal
 
 pub returns : goal.returns
 returns c =
-    let L = c in
-    let a = L.args in
-    let e = L.layout_with-layout.ensures in (
+    let a = c.args in
+    let e = c.layout_with-layout.ensures in (
       ap length (c.message-m.ensures ∙ ap (λ (l : Layout). message_of a.inbox.now l a.j) e),
       c.offset-start.ensures ∙ ap (λ (l : Layout). offset_of a.inbox.now l a.j) e,
     )

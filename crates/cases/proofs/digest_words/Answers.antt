@@ -9,16 +9,14 @@ loop-i-init c = (zero-le, refl)
 
 pub loop-i-preserved : goal.loop-i-preserved
 loop-i-preserved c =
-    let L = c in
-    let s = L.args.s.now in
-    let r = L.loop-i.r in
-    let i = L.loop-i.i in
+    let s = c.args.s.now in
+    let r = c.loop-i.r in
+    let i = c.loop-i.i in
     let more : i < length s = omega arith in
     let one : c.mix-r.result ≡ mixed r (get_or s i 0) = c.mix-r.ensures ∙ ap (mixed r) c.of_word.ensures in
-    (omega arith, ap (λ (x : ℕ). digested x (drop (i + 1) s)) one ∙ sym (digested_more r s i more) ∙ L.loop-i.invariant.1)
+    (omega arith, ap (λ (x : ℕ). digested x (drop (i + 1) s)) one ∙ sym (digested_more r s i more) ∙ c.loop-i.invariant.1)
 
 pub returns : goal.returns
 returns c =
-    let L = c in
-    let s = L.args.s.now in
-    sym (digested_all L.loop-i.r s L.loop-i.i (omega arith)) ∙ L.loop-i.invariant.1
+    let s = c.args.s.now in
+    sym (digested_all c.loop-i.r s c.loop-i.i (omega arith)) ∙ c.loop-i.invariant.1

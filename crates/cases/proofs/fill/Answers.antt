@@ -18,15 +18,14 @@ loop-i-smaller c = omega arith
 
 pub loop-i-preserved : goal.loop-i-preserved
 loop-i-preserved c =
-    let L = c in
-    let s₀ = L.args.s.now in
-    let i = L.loop-i.i in
-    let v = L.args.v in
+    let s₀ = c.args.s.now in
+    let i = c.loop-i.i in
+    let v = c.args.v in
     let more : i < length s₀ = omega arith in (
-      L.loop-i.invariant.0,
+      c.loop-i.invariant.0,
       omega arith,
-      ap (λ (l : List ℕ). set l i v) L.loop-i.invariant.2 ∙ fill_more i v s₀ more,
-      simp length-set L.loop-i.invariant.3,
+      ap (λ (l : List ℕ). set l i v) c.loop-i.invariant.2 ∙ fill_more i v s₀ more,
+      simp length-set c.loop-i.invariant.3,
     )
 
 pub shape_of-s : goal.shape_of-s
@@ -34,6 +33,5 @@ shape_of-s c = omega arith
 
 pub returns : goal.returns
 returns c =
-    let L = c in
-    let s₀ = L.args.s.now in
-    L.loop-i.invariant.2 ∙ fill_all L.loop-i.i L.args.v s₀ (omega arith)
+    let s₀ = c.args.s.now in
+    c.loop-i.invariant.2 ∙ fill_all c.loop-i.i c.args.v s₀ (omega arith)

@@ -16,10 +16,9 @@ returns-then-number-ne0 c =
 
 pub perform-state-requires : goal.perform-state-requires
 perform-state-requires c =
-    let I = c in
-    let a = I.args in
+    let a = c.args in
     let r = step_0 a.s (length a.block.now) (length a.inbox.now) (length a.outbox.now)
-    (sym I.step_refusal-number.ensures ∙ I.if-number-ne0.false) in
+    (sym c.step_refusal-number.ensures ∙ c.if-number-ne0.false) in
     record {
       few =
           r.valid.coded.quorum.n_most;
@@ -29,7 +28,6 @@ perform-state-requires c =
 
 pub returns : goal.returns
 returns c =
-    let I = c in
-    let a = I.args in
+    let a = c.args in
     ap done c.perform-state.ensures
-    ∙ sym (step_carried a.s a.block.now a.inbox.now a.outbox.now (sym I.step_refusal-number.ensures ∙ I.if-number-ne0.false))
+    ∙ sym (step_carried a.s a.block.now a.inbox.now a.outbox.now (sym c.step_refusal-number.ensures ∙ c.if-number-ne0.false))

@@ -13,32 +13,27 @@ use Rattle.dispersal.proofs.is_marked.Goals as goal
 
 pub returns-then-j-own : goal.returns-then-j-own
 returns-then-j-own c =
-    let S = c in
-    let a = S.args in
-    (sym (marked_own a.k a.t a.own a.inbox.now a.layout a.block.now a.j c.if-j-own.true), S.requires.2)
+    let a = c.args in
+    (sym (marked_own a.k a.t a.own a.inbox.now a.layout a.block.now a.j c.if-j-own.true), c.requires.2)
 
 pub returns-then-message-eq0 : goal.returns-then-message-eq0
 returns-then-message-eq0 c =
-    let S = c in
-    let a = S.args in (
+    let a = c.args in (
       sym (marked_absent a.k a.t a.own a.inbox.now a.layout a.block.now a.j c.if-j-own.false
           (sym (ap length c.message-message.ensures) ∙ c.if-message-eq0.true)),
-      S.requires.2,
+      c.requires.2,
     )
 
 pub returns : goal.returns
 returns c =
-    let W = c in
-    let M = W in
-    let S = M in
-    let a = S.args in
+    let a = c.args in
     let p = piece_of a.k a.t a.block.now a.own in
     let q = piece_of a.k a.t a.block.now a.j in
-    let m' = W.write_piece.new.m in
-    let pair : m' ≡ p ++ q = paired a.k p q a.m.now m' S.requires.2 S.requires.1 W.write_piece.ensures in (
+    let m' = c.write_piece.new.m in
+    let pair : m' ≡ p ++ q = paired a.k p q a.m.now m' c.requires.2 c.requires.1 c.write_piece.ensures in (
       c.is_swapped.ensures
-          ∙ ap (λ (x : List ℕ). same (take a.k x) (drop a.k m') && same (drop a.k x) (take a.k m')) M.message-message.ensures
-          ∙ marked_present a.k a.t a.own a.inbox.now a.layout a.block.now a.j M.if-j-own.false m'
-          (λ e. W.if-message-eq0.false (ap length M.message-message.ensures ∙ e)) pair,
+          ∙ ap (λ (x : List ℕ). same (take a.k x) (drop a.k m') && same (drop a.k x) (take a.k m')) c.message-message.ensures
+          ∙ marked_present a.k a.t a.own a.inbox.now a.layout a.block.now a.j c.if-j-own.false m'
+          (λ e. c.if-message-eq0.false (ap length c.message-message.ensures ∙ e)) pair,
       ap (take a.k) pair ∙ take_at p q a.k (length_piece a.k a.t a.block.now a.own),
     )

@@ -13,10 +13,9 @@ use Rattle.dispersal.proofs.is_swapped.Goals as goal
 
 pub returns-then-message-k : goal.returns-then-message-k
 returns-then-message-k c =
-    let S = c in
-    let a = S.args in
+    let a = c.args in
     sym (and_no_left (same (take a.k a.message.now) (drop a.k a.m.now)) (same (drop a.k a.message.now) (take a.k a.m.now))
-    (short_message a.k a.message.now a.m.now c.if-message-k.true S.requires))
+    (short_message a.k a.message.now a.m.now c.if-message-k.true c.requires))
 
 pub slice_bounds-is_equal-end : goal.slice_bounds-is_equal-end
 slice_bounds-is_equal-end c =
@@ -32,9 +31,8 @@ returns-then-not-is_equal c =
 
 pub slice_bounds-is_equal-end-4 : goal.slice_bounds-is_equal-end-4
 slice_bounds-is_equal-end-4 c =
-    let S = c in
-    let a = S.args in
-    sym (length-take-le a.k a.m.now (omega (arith, S.requires)))
+    let a = c.args in
+    sym (length-take-le a.k a.m.now (omega (arith, c.requires)))
 
 pub returns : goal.returns
 returns c =

@@ -11,10 +11,8 @@ slice_bounds-m-end c = omega (arith, (let two : c.kind_layout-pair.result.length
 
 pub slice_bounds-mark_each-end : goal.slice_bounds-mark_each-end
 slice_bounds-mark_each-end c =
-    let S = c in
-    sym (pair_room S.args.k c.kind_layout-pair.result.length S.requires.coded.k_most (let two : c.kind_layout-pair.result.length ≡ 2 * c.args.k = ap (λ (l : Layout). l.length) c.kind_layout-pair.ensures ∙ kind_pieces c.requires.coded in two))
+    sym (pair_room c.args.k c.kind_layout-pair.result.length c.requires.coded.k_most (let two : c.kind_layout-pair.result.length ≡ 2 * c.args.k = ap (λ (l : Layout). l.length) c.kind_layout-pair.ensures ∙ kind_pieces c.requires.coded in two))
 
 pub mark_each-requires : goal.mark_each-requires
 mark_each-requires c =
-    let S = c in
-    (S.requires, pair_room S.args.k c.kind_layout-pair.result.length S.requires.coded.k_most (let two : c.kind_layout-pair.result.length ≡ 2 * c.args.k = ap (λ (l : Layout). l.length) c.kind_layout-pair.ensures ∙ kind_pieces c.requires.coded in two) ∙ (let two : c.kind_layout-pair.result.length ≡ 2 * c.args.k = ap (λ (l : Layout). l.length) c.kind_layout-pair.ensures ∙ kind_pieces c.requires.coded in two))
+    (c.requires, pair_room c.args.k c.kind_layout-pair.result.length c.requires.coded.k_most (let two : c.kind_layout-pair.result.length ≡ 2 * c.args.k = ap (λ (l : Layout). l.length) c.kind_layout-pair.ensures ∙ kind_pieces c.requires.coded in two) ∙ (let two : c.kind_layout-pair.result.length ≡ 2 * c.args.k = ap (λ (l : Layout). l.length) c.kind_layout-pair.ensures ∙ kind_pieces c.requires.coded in two))

@@ -14,16 +14,14 @@ returns-then-sender-eq0 c =
 
 pub returns-then-m-eq0 : goal.returns-then-m-eq0
 returns-then-m-eq0 c =
-    let M = c in
-    let a = M.args in
+    let a = c.args in
     c.silence.ensures
-    ∙ sym (received-zeros a.inbox.now a.layout a.sender a.block.now M.if-sender-eq0.false
-    (sym (ap length M.message-m.ensures) ∙ c.if-m-eq0.true))
+    ∙ sym (received-zeros a.inbox.now a.layout a.sender a.block.now c.if-sender-eq0.false
+    (sym (ap length c.message-m.ensures) ∙ c.if-m-eq0.true))
 
 pub returns : goal.returns
 returns c =
-    let M = c in
-    let a = M.args in
-    c.copy.ensures ∙ ap (λ (x : List ℕ). copied x a.block.now) M.message-m.ensures
-    ∙ sym (received_copy a.inbox.now a.layout a.sender a.block.now M.if-sender-eq0.false
-    (λ e. c.if-m-eq0.false (ap length M.message-m.ensures ∙ e)))
+    let a = c.args in
+    c.copy.ensures ∙ ap (λ (x : List ℕ). copied x a.block.now) c.message-m.ensures
+    ∙ sym (received_copy a.inbox.now a.layout a.sender a.block.now c.if-sender-eq0.false
+    (λ e. c.if-m-eq0.false (ap length c.message-m.ensures ∙ e)))

@@ -9,10 +9,8 @@ use Rattle.dispersal.proofs.send_marks.Goals as goal
 pub returns : goal.returns
 unfolding marks_message sent_marks
 returns c =
-    let H = c in
-    let R = H in
-    let a = R.args in
+    let a = c.args in
     c.send_all.ensures
     ∙ ap (λ (m : List ℕ). to_all a.layout a.n m a.outbox.now)
-    (ap₂ (λ (x y : ℕ). x ∷ y ∷ []) (H.low.ensures ∙ ap (λ (x : ℕ). x % 256) R.restrict-set.ensures)
-    (H.high.ensures ∙ ap (λ (x : ℕ). x / 256) R.restrict-set.ensures))
+    (ap₂ (λ (x y : ℕ). x ∷ y ∷ []) (c.low.ensures ∙ ap (λ (x : ℕ). x % 256) c.restrict-set.ensures)
+    (c.high.ensures ∙ ap (λ (x : ℕ). x / 256) c.restrict-set.ensures))

@@ -17,22 +17,17 @@ use Rattle.dispersal.proofs.send_pieces.Goals as goal
 
 pub send_both-requires : goal.send_both-requires
 send_both-requires c =
-    let R = c in
-    let H = R in
-    let K = H in
-    let a = K.args in
-    let r = ready_yes a.n a.t a.k a.own a.block.now H.holds_exactly-fits.result (sym R.is_ready.ensures ∙ c.if-is_ready.true) in
-    (r.0, ap (λ (l : Layout). l.length) K.kind_layout-layout.ensures ∙ kind_pieces r.0.coded, eqb-true (length a.outbox.now) (a.n * width K.kind_layout-layout.result) (sym H.holds_exactly-fits.ensures ∙ r.1))
+    let a = c.args in
+    let r = ready_yes a.n a.t a.k a.own a.block.now c.holds_exactly-fits.result (sym c.is_ready.ensures ∙ c.if-is_ready.true) in
+    (r.0, ap (λ (l : Layout). l.length) c.kind_layout-layout.ensures ∙ kind_pieces r.0.coded, eqb-true (length a.outbox.now) (a.n * width c.kind_layout-layout.result) (sym c.holds_exactly-fits.ensures ∙ r.1))
 
 pub returns-then-is_ready : goal.returns-then-is_ready
 unfolding sent_pieces
 returns-then-is_ready c =
-    let R = c in
-    let K = R in
-    let a = K.args in
+    let a = c.args in
     let layout = kind_layout a.run Pieces a.n a.t a.k in
     c.send_both.ensures
-    ∙ ap (λ (l : Layout). slots l (two_pieces a.k a.t a.own a.block.now) a.n) K.kind_layout-layout.ensures
+    ∙ ap (λ (l : Layout). slots l (two_pieces a.k a.t a.own a.block.now) a.n) c.kind_layout-layout.ensures
     ∙ sym
     (cond_yes (is_ready a.n a.t a.k a.own a.block.now (eqb (length a.outbox.now) (a.n * width layout)))
     (slots layout (two_pieces a.k a.t a.own a.block.now) a.n) a.outbox.now
@@ -41,8 +36,7 @@ returns-then-is_ready c =
 pub returns-else-is_ready : goal.returns-else-is_ready
 unfolding sent_pieces
 returns-else-is_ready c =
-    let R = c in
-    let a = R.args in
+    let a = c.args in
     let layout = kind_layout a.run Pieces a.n a.t a.k in
     sym
     (cond_no (is_ready a.n a.t a.k a.own a.block.now (eqb (length a.outbox.now) (a.n * width layout)))

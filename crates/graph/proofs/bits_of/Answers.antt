@@ -44,22 +44,18 @@ loop-j-smaller c = omega arith
 
 pub loop-j-preserved : goal.loop-j-preserved
 loop-j-preserved c =
-    let P = c in
-    let T = P in
-    let J = T in
-    let I = J in
-    let A = I.args in
+    let A = c.args in
     let adj = neighbour A.rows.now in
-    let p = P.place-p.result in
-    let at : p ≡ place I.loop-i.i J.loop-j.j = P.place-p.ensures.0 in
-    let told : c.is_missing.result ≡ (ltb J.loop-j.j A.n && not (adj I.loop-i.i J.loop-j.j)) = c.is_missing.ensures in (
-      omega (arith, J.loop-j.invariant.0),
+    let p = c.place-p.result in
+    let at : p ≡ place c.loop-i.i c.loop-j.j = c.place-p.ensures.0 in
+    let told : c.is_missing.result ≡ (ltb c.loop-j.j A.n && not (adj c.loop-i.i c.loop-j.j)) = c.is_missing.ensures in (
+      omega (arith, c.loop-j.invariant.0),
       omega arith,
-      bits_more A.n adj J.loop-j.bits p c.with_bit.result c.is_missing.result P.place-p.ensures.1
-          (J.loop-j.invariant.2 ∙ ap (bits_to A.n adj) (sym at))
-          (told ∙ sym (ap (missing_at A.n adj) at ∙ missing-place A.n adj I.loop-i.i J.loop-j.j J.loop-j.invariant.0 T.loop-j-test.true))
+      bits_more A.n adj c.loop-j.bits p c.with_bit.result c.is_missing.result c.place-p.ensures.1
+          (c.loop-j.invariant.2 ∙ ap (bits_to A.n adj) (sym at))
+          (told ∙ sym (ap (missing_at A.n adj) at ∙ missing-place A.n adj c.loop-i.i c.loop-j.j c.loop-j.invariant.0 c.loop-j-test.true))
           c.with_bit.ensures
-          ∙ ap (bits_to A.n adj) (ap (λ (x : ℕ). x + 1) at ∙ sym (place_next I.loop-i.i J.loop-j.j J.loop-j.invariant.0)),
+          ∙ ap (bits_to A.n adj) (ap (λ (x : ℕ). x + 1) at ∙ sym (place_next c.loop-i.i c.loop-j.j c.loop-j.invariant.0)),
     )
 
 pub overflow_add-i : goal.overflow_add-i
@@ -70,20 +66,16 @@ loop-i-smaller c = omega arith
 
 pub loop-i-preserved : goal.loop-i-preserved
 loop-i-preserved c =
-    let J = c in
-    let T = J in
-    let I = T in
-    let A = I.args in
-    let all : J.loop-j.j ≡ 16 = omega arith in (
+    let A = c.args in
+    let all : c.loop-j.j ≡ 16 = omega arith in (
       omega arith,
-      J.loop-j.invariant.2 ∙ ap (bits_to A.n (neighbour A.rows.now))
-          (ap (place I.loop-i.i) all ∙ place_turn I.loop-i.i T.loop-i-test.true),
+      c.loop-j.invariant.2 ∙ ap (bits_to A.n (neighbour A.rows.now))
+          (ap (place c.loop-i.i) all ∙ place_turn c.loop-i.i c.loop-i-test.true),
     )
 
 pub returns : goal.returns
 returns c =
-    let I = c in
-    let A = I.args in
+    let A = c.args in
     let adj = neighbour A.rows.now in
-    let all : I.loop-i.i ≡ 16 = omega arith in
-    I.loop-i.invariant.1 ∙ ap (λ (x : ℕ). bits_to A.n adj (place x (x + 1))) all ∙ ap (bits_to A.n adj) place_end ∙ bits_all A.n adj
+    let all : c.loop-i.i ≡ 16 = omega arith in
+    c.loop-i.invariant.1 ∙ ap (λ (x : ℕ). bits_to A.n adj (place x (x + 1))) all ∙ ap (bits_to A.n adj) place_end ∙ bits_all A.n adj

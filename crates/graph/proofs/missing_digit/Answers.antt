@@ -9,15 +9,13 @@ use Rattle.graph.proofs.missing_digit.Goals as goal
 
 pub returns-then-i-j : goal.returns-then-i-j
 returns-then-i-j c =
-    let S = c in
-    let B = S.args.bits in
-    digit_less B _ _ _ c.if-i-j.true S.requires.1 (c.digit_at.ensures ∙ ap (λ (x : ℕ). ind (bit B x)) c.place.ensures.0)
+    let B = c.args.bits in
+    digit_less B _ _ _ c.if-i-j.true c.requires.1 (c.digit_at.ensures ∙ ap (λ (x : ℕ). ind (bit B x)) c.place.ensures.0)
 
 pub returns-then-j-i : goal.returns-then-j-i
 returns-then-j-i c =
-    let S = c in
-    let B = S.args.bits in
-    digit_more B _ _ _ c.if-j-i.true S.requires.0 (c.digit_at-then-j-i.ensures ∙ ap (λ (x : ℕ). ind (bit B x)) c.place-then-j-i.ensures.0)
+    let B = c.args.bits in
+    digit_more B _ _ _ c.if-j-i.true c.requires.0 (c.digit_at-then-j-i.ensures ∙ ap (λ (x : ℕ). ind (bit B x)) c.place-then-j-i.ensures.0)
 
 pub returns : goal.returns
 returns c =

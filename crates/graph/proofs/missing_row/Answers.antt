@@ -30,10 +30,8 @@ missing_digit-requires c =
 
 pub shifted-s-requires : goal.shifted-s-requires
 shifted-s-requires c =
-    let L = c in
-    let M = L in
-    let A = M.args in
-    (omega (arith, c.missing_digit.ensures, ind_le (not (adjacent A.bits A.i L.loop-j.j))), omega (arith, M.at_most_16-m.ensures))
+    let A = c.args in
+    (omega (arith, c.missing_digit.ensures, ind_le (not (adjacent A.bits A.i c.loop-j.j))), omega (arith, c.at_most_16-m.ensures))
 
 -- the set with one digit more
 next : (c : goal.After-shifted-s)
@@ -41,17 +39,14 @@ next : (c : goal.After-shifted-s)
     let A = L.args in
     L.loop-j.s + c.shifted-s.result ≡ set_of (L.loop-j.j + 1) (λ x. not (adjacent A.bits A.i x))
 next c =
-    let L = c in
-    let A = L.args in
-    ap₂ (λ (x y : ℕ). x + y) L.loop-j.invariant.1 (c.shifted-s.ensures ∙ ap (λ (x : ℕ). x * 2 ^ L.loop-j.j) c.missing_digit.ensures)
-    ∙ sym (set_more L.loop-j.j (λ x. not (adjacent A.bits A.i x)))
+    let A = c.args in
+    ap₂ (λ (x y : ℕ). x + y) c.loop-j.invariant.1 (c.shifted-s.ensures ∙ ap (λ (x : ℕ). x * 2 ^ c.loop-j.j) c.missing_digit.ensures)
+    ∙ sym (set_more c.loop-j.j (λ x. not (adjacent A.bits A.i x)))
 
 pub overflow_add-s : goal.overflow_add-s
 overflow_add-s c =
-    let L = c in
-    let M = L in
-    let A = M.args in
-    omega (arith, next c, set_lt_16 (L.loop-j.j + 1) (λ x. not (adjacent A.bits A.i x)) (omega (arith, M.at_most_16-m.ensures)))
+    let A = c.args in
+    omega (arith, next c, set_lt_16 (c.loop-j.j + 1) (λ x. not (adjacent A.bits A.i x)) (omega (arith, c.at_most_16-m.ensures)))
 
 pub overflow_add-j : goal.overflow_add-j
 overflow_add-j c = omega (arith, c.at_most_16-m.ensures)
@@ -64,11 +59,9 @@ loop-j-preserved c = (omega arith, next c)
 
 pub returns : goal.returns
 returns c =
-    let L = c in
-    let I = L in
-    let m = I.at_most_16-m in
-    let A = I.args in
-    let all : L.loop-j.j ≡ m.result = omega arith in
-    let under : A.i < min A.n 16 = omega (arith, m.ensures, I.if-m-i.false) in
-    L.loop-j.invariant.1 ∙ ap (λ (x : ℕ). set_of x (λ y. not (adjacent A.bits A.i y))) (all ∙ m.ensures)
+    let m = c.at_most_16-m in
+    let A = c.args in
+    let all : c.loop-j.j ≡ m.result = omega arith in
+    let under : A.i < min A.n 16 = omega (arith, m.ensures, c.if-m-i.false) in
+    c.loop-j.invariant.1 ∙ ap (λ (x : ℕ). set_of x (λ y. not (adjacent A.bits A.i y))) (all ∙ m.ensures)
     ∙ missing_is (min A.n 16) (adjacent A.bits) A.i under ∙ sym (missing_16 A.bits A.n A.i)

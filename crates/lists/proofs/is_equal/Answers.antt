@@ -19,9 +19,8 @@ bounds-b-i c = omega arith
 
 pub returns-then-a-i : goal.returns-then-a-i
 returns-then-a-i c =
-    let l = c in
-    let a = l.args in
-    sym (same_differ a.a.now a.b.now l.loop-i.i c.if-a-i.true)
+    let a = c.args in
+    sym (same_differ a.a.now a.b.now c.loop-i.i c.if-a-i.true)
 
 pub overflow_add-i : goal.overflow_add-i
 overflow_add-i c = omega arith
@@ -31,11 +30,9 @@ loop-i-smaller c = omega arith
 
 pub loop-i-preserved : goal.loop-i-preserved
 loop-i-preserved c =
-    let l = c in
-    (omega arith, l.loop-i.invariant.1, below_more _ _ l.loop-i.invariant.2 c.if-a-i.false)
+    (omega arith, c.loop-i.invariant.1, below_more _ _ c.loop-i.invariant.2 c.if-a-i.false)
 
 pub returns : goal.returns
 returns c =
-    let l = c in
-    let a = l.args in
-    sym (same_all a.a.now a.b.now l.loop-i.invariant.1 (λ j h. l.loop-i.invariant.2 j (omega arith)))
+    let a = c.args in
+    sym (same_all a.a.now a.b.now c.loop-i.invariant.1 (λ j h. c.loop-i.invariant.2 j (omega arith)))

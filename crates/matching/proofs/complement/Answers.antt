@@ -30,12 +30,11 @@ loop-i-smaller c = omega arith
 
 pub loop-i-preserved : goal.loop-i-preserved
 loop-i-preserved c =
-    let L = c in
-    let A = L.args in (
+    let A = c.args in (
       omega arith,
-      fill_more (missing (min A.n 16) (adjacent A.bits)) L.loop-i.i (replicate 16 0) L.loop-i.graph c.missing_row.result (omega arith)
-          L.loop-i.invariant.1
-          (c.missing_row.ensures ∙ missing_16 A.bits A.n L.loop-i.i),
+      fill_more (missing (min A.n 16) (adjacent A.bits)) c.loop-i.i (replicate 16 0) c.loop-i.graph c.missing_row.result (omega arith)
+          c.loop-i.invariant.1
+          (c.missing_row.ensures ∙ missing_16 A.bits A.n c.loop-i.i),
     )
 
 pub returns : goal.returns

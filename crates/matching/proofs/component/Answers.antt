@@ -17,10 +17,10 @@ pub remove-unseen-requires : goal.remove-unseen-requires
 remove-unseen-requires c = tt
 
 pub offset_bounds-graph-x : goal.offset_bounds-graph-x
-offset_bounds-graph-x c = omega (arith, (let low : c.lowest-x.result < 16 = let L = c in omega (arith, c.lowest-x.ensures, (lowest_in L.loop-next.next L.loop-next.invariant.next_small c.loop-next-test.true).0) in low))
+offset_bounds-graph-x c = omega (arith, (let low : c.lowest-x.result < 16 = omega (arith, c.lowest-x.ensures, (lowest_in c.loop-next.next c.loop-next.invariant.next_small c.loop-next-test.true).0) in low))
 
 pub bounds-graph-x : goal.bounds-graph-x
-bounds-graph-x c = omega (arith, (let low : c.lowest-x.result < 16 = let L = c in omega (arith, c.lowest-x.ensures, (lowest_in L.loop-next.next L.loop-next.invariant.next_small c.loop-next-test.true).0) in low))
+bounds-graph-x c = omega (arith, (let low : c.lowest-x.result < 16 = omega (arith, c.lowest-x.ensures, (lowest_in c.loop-next.next c.loop-next.invariant.next_small c.loop-next-test.true).0) in low))
 
 pub intersection-requires : goal.intersection-requires
 intersection-requires c = tt
@@ -33,21 +33,13 @@ intersection-next-requires c = tt
 
 pub loop-next-smaller : goal.loop-next-smaller
 loop-next-smaller c =
-    let R = c in
-    let T = R in
-    let S = T in
-    grow_less _ _ _ S.ranges.s.fits _ _ _ _ _ T.loop-next.invariant T.loop-next-test.true R.lowest-x.ensures R.remove-unseen.ensures
+    grow_less _ _ _ c.ranges.s.fits _ _ _ _ _ c.loop-next.invariant c.loop-next-test.true c.lowest-x.ensures c.remove-unseen.ensures
 
 pub loop-next-preserved : goal.loop-next-preserved
 loop-next-preserved c =
-    let U = c in
-    let R = U in
-    let T = R in
-    let S = T in
-    grow_more _ _ _ S.ranges.s.fits _ _ _ _ _ _ _ _ T.loop-next.invariant T.loop-next-test.true R.lowest-x.ensures R.remove-unseen.ensures
-    U.intersection.ensures U.union-c.ensures c.intersection-next.ensures
+    grow_more _ _ _ c.ranges.s.fits _ _ _ _ _ _ _ _ c.loop-next.invariant c.loop-next-test.true c.lowest-x.ensures c.remove-unseen.ensures
+    c.intersection.ensures c.union-c.ensures c.intersection-next.ensures
 
 pub returns : goal.returns
 returns c =
-    let S = c in
-    (c.loop-next.invariant.has, grow_done _ _ _ S.ranges.s.fits _ _ _ c.loop-next.invariant (omega arith))
+    (c.loop-next.invariant.has, grow_done _ _ _ c.ranges.s.fits _ _ _ c.loop-next.invariant (omega arith))

@@ -14,8 +14,7 @@ first_of_size-f-requires c = (c.requires, c.loop-k.invariant.0)
 
 pub returns-then-f : goal.returns-then-f
 returns-then-f c =
-    let F = c in
-    largest-found _ _ _ _ _ _ F.loop-k.invariant.1 F.first_of_size-f.ensures c.if-f.true
+    largest-found _ _ _ _ _ _ c.loop-k.invariant.1 c.first_of_size-f.ensures c.if-f.true
 
 pub overflow_sub-k : goal.overflow_sub-k
 overflow_sub-k c = omega arith
@@ -25,11 +24,9 @@ loop-k-smaller c = omega arith
 
 pub loop-k-preserved : goal.loop-k-preserved
 loop-k-preserved c =
-    let L = c in
-    (omega arith, at_most_less _ _ _ _ _ _ c.loop-k-test.true L.loop-k.invariant.1 c.first_of_size-f.ensures c.if-f.false)
+    (omega arith, at_most_less _ _ _ _ _ _ c.loop-k-test.true c.loop-k.invariant.1 c.first_of_size-f.ensures c.if-f.false)
 
 pub returns : goal.returns
 returns c =
-    let S = c in
     let e : c.loop-k.k ≡ 0 = omega arith in
-    largest_none S.args.graph.now S.args.s (subst (λ (x : ℕ). AtMost (Within S.args.graph.now S.args.s) x) e c.loop-k.invariant.1)
+    largest_none c.args.graph.now c.args.s (subst (λ (x : ℕ). AtMost (Within c.args.graph.now c.args.s) x) e c.loop-k.invariant.1)

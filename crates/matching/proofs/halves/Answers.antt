@@ -16,8 +16,7 @@ lowest-requires c = tt
 
 pub component-c-requires : goal.component-c-requires
 component-c-requires c =
-    let L = c in
-    subst (In L.loop-left.left) (sym c.lowest.ensures) (lowest_in L.loop-left.left L.loop-left.invariant.small c.loop-left-test.true).1
+    subst (In c.loop-left.left) (sym c.lowest.ensures) (lowest_in c.loop-left.left c.loop-left.invariant.small c.loop-left-test.true).1
 
 pub difference-left-requires : goal.difference-left-requires
 difference-left-requires c = tt
@@ -27,29 +26,22 @@ size-requires c = tt
 
 pub overflow_add-sum : goal.overflow_add-sum
 overflow_add-sum c =
-    let L = c in
-    omega (arith, L.loop-left.invariant.fits, c.size.ensures, size_le c.component-c.result)
+    omega (arith, c.loop-left.invariant.fits, c.size.ensures, size_le c.component-c.result)
 
 pub loop-left-smaller : goal.loop-left-smaller
 loop-left-smaller c =
-    let C = c in
-    let T = C in
-    let L = T in
     omega (
       arith,
-      halve_less _ L.requires _ _ _ _ L.loop-left.invariant T.loop-left-test.true (subst (In c.component-c.result) c.lowest.ensures c.component-c.ensures.0) C.component-c.ensures.1 (omega arith),
+      halve_less _ c.requires _ _ _ _ c.loop-left.invariant c.loop-left-test.true (subst (In c.component-c.result) c.lowest.ensures c.component-c.ensures.0) c.component-c.ensures.1 (omega arith),
       ap size_of
           c.difference-left.ensures,
     )
 
 pub loop-left-preserved : goal.loop-left-preserved
 loop-left-preserved c =
-    let C = c in
-    let T = C in
-    let L = T in
-    halve_more _ L.requires _ _ _ _ L.loop-left.invariant T.loop-left-test.true (subst (In c.component-c.result) c.lowest.ensures c.component-c.ensures.0) C.component-c.ensures.1 (omega arith) _ _
+    halve_more _ c.requires _ _ _ _ c.loop-left.invariant c.loop-left-test.true (subst (In c.component-c.result) c.lowest.ensures c.component-c.ensures.0) c.component-c.ensures.1 (omega arith) _ _
     c.difference-left.ensures
-    (ap (λ (x : ℕ). L.loop-left.sum + x / 2) c.size.ensures)
+    (ap (λ (x : ℕ). c.loop-left.sum + x / 2) c.size.ensures)
 
 pub returns : goal.returns
 returns c = halve_done _ c.requires _ _ _ c.loop-left.invariant (omega arith)

@@ -10,12 +10,10 @@ use Rattle.matching.proofs.largest.Goals as goal
 
 pub first_largest-requires : goal.first_largest-requires
 first_largest-requires c =
-    let C = c in
-    let A = C.args in
-    subst Symmetric (sym C.complement-graph.ensures) (complement_sym (min A.n 16) (adjacent A.bits) (omega arith) (adjacent_sym A.bits))
+    let A = c.args in
+    subst Symmetric (sym c.complement-graph.ensures) (complement_sym (min A.n 16) (adjacent A.bits) (omega arith) (adjacent_sym A.bits))
 
 pub returns : goal.returns
 returns c =
-    let C = c in
-    let A = C.args in
-    answer_is (min A.n 16) (adjacent A.bits) (omega arith) _ _ _ C.complement-graph.ensures c.below.ensures c.first_largest.ensures
+    let A = c.args in
+    answer_is (min A.n 16) (adjacent A.bits) (omega arith) _ _ _ c.complement-graph.ensures c.below.ensures c.first_largest.ensures

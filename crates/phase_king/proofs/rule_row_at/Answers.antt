@@ -7,6 +7,5 @@ use Rattle.phase_king.proofs.rule_row_at.Goals as goal
 
 pub returns : goal.returns
 returns c =
-    let B = c in
-    let a = B.args in
-    c.rule_row.ensures ∙ ap₂ (λ (x y : List ℕ). rule_row a.rule a.n a.t x y) B.said_rows-first.ensures B.said_rows-second.ensures
+    let a = c.args in
+    c.rule_row.ensures ∙ ap₂ (λ (x y : List ℕ). rule_row a.rule a.n a.t x y) c.said_rows-first.ensures c.said_rows-second.ensures

@@ -46,21 +46,19 @@ loop-r-smaller c = omega arith
 
 pub loop-r-preserved : goal.loop-r-preserved
 loop-r-preserved c =
-    let L = c in
-    let m = L.limit-m.result in
-    let a = L.args in
-    let r = L.loop-r.r in (
-      L.loop-r.invariant.0,
+    let m = c.limit-m.result in
+    let a = c.args in
+    let r = c.loop-r.r in (
+      c.loop-r.invariant.0,
       omega arith,
-      fill_more _ _ _ _ _ (omega arith) L.loop-r.invariant.2
+      fill_more _ _ _ _ _ (omega arith) c.loop-r.invariant.2
           (c.settled_row.ensures ∙ ap (λ (k : ℕ). settled_row m (get_or a.rows.now r 0) (get_or a.weak.now r 0) k) c.king_row.ensures),
     )
 
 pub returns : goal.returns
 unfolding settled_rows
 returns c =
-    let L = c in
-    let a = L.args in
-    let m = L.limit-m.result in
-    let e : L.loop-r.r ≡ m = omega arith in
-    is_resolved a.rows.now a.weak.now a.inbox.now L.loop-r.settled a.layout a.n m a.king L.loop-r.invariant.0 (rw e at L.loop-r.invariant.2)
+    let a = c.args in
+    let m = c.limit-m.result in
+    let e : c.loop-r.r ≡ m = omega arith in
+    is_resolved a.rows.now a.weak.now a.inbox.now c.loop-r.settled a.layout a.n m a.king c.loop-r.invariant.0 (rw e at c.loop-r.invariant.2)

@@ -7,18 +7,15 @@ use Rattle.reconstruction.proofs.finish.Goals as goal
 
 pub returns-then-restrict-eq0 : goal.returns-then-restrict-eq0
 returns-then-restrict-eq0 c =
-    let I = c in
-    let a = I.args in
+    let a = c.args in
     ap (finish (ending None 0)) c.silence.ensures
-    ∙ sym (finished_none a.n a.t a.layout a.core a.inbox.now a.block.now (sym I.restrict.ensures ∙ I.if-restrict-eq0.true))
+    ∙ sym (finished_none a.n a.t a.layout a.core a.inbox.now a.block.now (sym c.restrict.ensures ∙ c.if-restrict-eq0.true))
 
 pub returns : goal.returns
 returns c =
-    let D = c in
-    let I = D in
-    let a = I.args in
-    let after = D.decode-decoded.new.block in
+    let a = c.args in
+    let after = c.decode-decoded.new.block in
     ap (λ w. finish w after) c.decoded_ending.ensures
-    ∙ finished_answers a.n a.t a.layout a.core a.inbox.now a.block.now (λ z. I.if-restrict-eq0.false (I.restrict.ensures ∙ z))
-    D.decode-decoded.result after
-    D.decode-decoded.ensures
+    ∙ finished_answers a.n a.t a.layout a.core a.inbox.now a.block.now (λ z. c.if-restrict-eq0.false (c.restrict.ensures ∙ z))
+    c.decode-decoded.result after
+    c.decode-decoded.ensures

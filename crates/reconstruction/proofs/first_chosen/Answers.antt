@@ -14,10 +14,9 @@ is_chosen-requires c = (c.requires, c.loop-i-test.true)
 
 pub returns-then-is_chosen : goal.returns-then-is_chosen
 returns-then-is_chosen c =
-    let L = c in
-    let a = L.args in
-    first_found_lem a.n (is_chosen a.n a.t a.core a.inbox.now a.layout) L.loop-i.i (omega arith)
-    (sym c.is_chosen.ensures ∙ c.if-is_chosen.true) L.loop-i.invariant.1
+    let a = c.args in
+    first_found_lem a.n (is_chosen a.n a.t a.core a.inbox.now a.layout) c.loop-i.i (omega arith)
+    (sym c.is_chosen.ensures ∙ c.if-is_chosen.true) c.loop-i.invariant.1
 
 pub overflow_add-i : goal.overflow_add-i
 overflow_add-i c = omega arith
@@ -27,12 +26,10 @@ loop-i-smaller c = omega arith
 
 pub loop-i-preserved : goal.loop-i-preserved
 loop-i-preserved c =
-    let L = c in
-    let a = L.args in
-    (omega arith, below_more _ _ L.loop-i.invariant.1 (sym c.is_chosen.ensures ∙ c.if-is_chosen.false))
+    let a = c.args in
+    (omega arith, below_more _ _ c.loop-i.invariant.1 (sym c.is_chosen.ensures ∙ c.if-is_chosen.false))
 
 pub returns : goal.returns
 returns c =
-    let L = c in
-    let a = L.args in
-    first_none a.n (is_chosen a.n a.t a.core a.inbox.now a.layout) (λ j l. L.loop-i.invariant.1 j (omega arith))
+    let a = c.args in
+    first_none a.n (is_chosen a.n a.t a.core a.inbox.now a.layout) (λ j l. c.loop-i.invariant.1 j (omega arith))

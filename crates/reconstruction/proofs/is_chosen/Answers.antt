@@ -14,15 +14,13 @@ returns-then-not-member c =
 
 pub returns-then-m-eq0 : goal.returns-then-m-eq0
 returns-then-m-eq0 c =
-    let M = c in
-    let a = M.args in
-    sym (chosen_absent a.n a.t a.core a.inbox.now a.layout a.i (sym (ap length M.message-m.ensures) ∙ c.if-m-eq0.true)
-    (sym M.member.ensures ∙ M.if-not-member.false))
+    let a = c.args in
+    sym (chosen_absent a.n a.t a.core a.inbox.now a.layout a.i (sym (ap length c.message-m.ensures) ∙ c.if-m-eq0.true)
+    (sym c.member.ensures ∙ c.if-not-member.false))
 
 pub returns : goal.returns
 returns c =
-    let M = c in
-    let a = M.args in
-    ap (leb (a.t + 1)) (c.votes.ensures ∙ ap (votes a.n a.core a.inbox.now a.layout) M.message-m.ensures)
-    ∙ sym (chosen_votes a.n a.t a.core a.inbox.now a.layout a.i (λ z. c.if-m-eq0.false (ap length M.message-m.ensures ∙ z))
-    (sym M.member.ensures ∙ M.if-not-member.false))
+    let a = c.args in
+    ap (leb (a.t + 1)) (c.votes.ensures ∙ ap (votes a.n a.core a.inbox.now a.layout) c.message-m.ensures)
+    ∙ sym (chosen_votes a.n a.t a.core a.inbox.now a.layout a.i (λ z. c.if-m-eq0.false (ap length c.message-m.ensures ∙ z))
+    (sym c.member.ensures ∙ c.if-not-member.false))

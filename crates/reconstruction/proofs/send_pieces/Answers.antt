@@ -15,18 +15,15 @@ use Rattle.reconstruction.proofs.send_pieces.Goals as goal
 
 pub loop-j-init : goal.loop-j-init
 loop-j-init c =
-    let S = c in
-    let a = S.args in
-    (omega arith, S.requires.3, slots_start a.layout (pieces a.k a.t a.block.now) a.outbox.now 0 refl)
+    let a = c.args in
+    (omega arith, c.requires.3, slots_start a.layout (pieces a.k a.t a.block.now) a.outbox.now 0 refl)
 
 pub overflow_add-j : goal.overflow_add-j
 overflow_add-j c = omega arith
 
 pub send_piece-requires : goal.send_piece-requires
 send_piece-requires c =
-    let L = c in
-    let S = L in
-    (S.requires.0, record { least = omega arith; most = omega arith }, S.requires.1, L.loop-j.invariant.1)
+    (c.requires.0, record { least = omega arith; most = omega arith }, c.requires.1, c.loop-j.invariant.1)
 
 pub overflow_add-j-in-loop-j : goal.overflow_add-j-in-loop-j
 overflow_add-j-in-loop-j c = omega arith
@@ -36,42 +33,34 @@ loop-j-smaller c = omega arith
 
 pub loop-j-preserved : goal.loop-j-preserved
 loop-j-preserved c =
-    let L = c in
-    let S = L in
-    let a = S.args in
+    let a = c.args in
     let f = pieces a.k a.t a.block.now in
-    let j = L.loop-j.j in (
+    let j = c.loop-j.j in (
       omega arith,
-      omega (arith, L.loop-j.invariant.1, c.send_piece.auto),
+      omega (arith, c.loop-j.invariant.1, c.send_piece.auto),
       c.send_piece.ensures
-          ∙ put_next_slot a.layout f (sized_pieces a.layout a.k a.t a.block.now S.requires.2) a.outbox.now L.loop-j.outbox
+          ∙ put_next_slot a.layout f (sized_pieces a.layout a.k a.t a.block.now c.requires.2) a.outbox.now c.loop-j.outbox
           (piece_of a.k a.t a.block.now (j + 1)) j
-          (omega (arith, slot_within a.n (width a.layout) j (omega arith), next_offset j (width a.layout), S.requires.4)) L.loop-j.invariant.2 refl
-          (length_piece a.k a.t a.block.now (j + 1) ∙ sym S.requires.2),
+          (omega (arith, slot_within a.n (width a.layout) j (omega arith), next_offset j (width a.layout), c.requires.4)) c.loop-j.invariant.2 refl
+          (length_piece a.k a.t a.block.now (j + 1) ∙ sym c.requires.2),
     )
 
 pub shape_of-piece : goal.shape_of-piece
 shape_of-piece c =
-    let L = c in
-    let S = L in
-    L.loop-j.invariant.1 ∙ sym S.requires.3
+    c.loop-j.invariant.1 ∙ sym c.requires.3
 
 pub shape_of-outbox : goal.shape_of-outbox
 shape_of-outbox c =
-    let L = c in
-    let S = L in
-    let a = S.args in
-    let all : L.loop-j.j ≡ a.n = omega arith in
-    length_rest a.layout (pieces a.k a.t a.block.now) (sized_pieces a.layout a.k a.t a.block.now S.requires.2) a.outbox.now
-    L.loop-j.outbox L.loop-j.j
-    (le_of_eq (ap (λ (x : ℕ). x * width a.layout) all ∙ sym S.requires.4)) L.loop-j.invariant.2
+    let a = c.args in
+    let all : c.loop-j.j ≡ a.n = omega arith in
+    length_rest a.layout (pieces a.k a.t a.block.now) (sized_pieces a.layout a.k a.t a.block.now c.requires.2) a.outbox.now
+    c.loop-j.outbox c.loop-j.j
+    (le_of_eq (ap (λ (x : ℕ). x * width a.layout) all ∙ sym c.requires.4)) c.loop-j.invariant.2
 
 pub returns : goal.returns
 returns c =
-    let L = c in
-    let S = L in
-    let a = S.args in
+    let a = c.args in
     let f = pieces a.k a.t a.block.now in
-    let all : L.loop-j.j ≡ a.n = omega arith in
-    slots_all a.layout f a.outbox.now L.loop-j.outbox a.n
-    (subst (λ (x : ℕ). L.loop-j.outbox ≡ slots a.layout f x ++ drop (x * width a.layout) a.outbox.now) all L.loop-j.invariant.2) S.requires.4
+    let all : c.loop-j.j ≡ a.n = omega arith in
+    slots_all a.layout f a.outbox.now c.loop-j.outbox a.n
+    (subst (λ (x : ℕ). c.loop-j.outbox ≡ slots a.layout f x ++ drop (x * width a.layout) a.outbox.now) all c.loop-j.invariant.2) c.requires.4

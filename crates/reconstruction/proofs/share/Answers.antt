@@ -16,52 +16,41 @@ use Rattle.reconstruction.proofs.share.Goals as goal
 
 pub returns-then-not-is_ready : goal.returns-then-not-is_ready
 returns-then-not-is_ready c =
-    let H = c in
-    let a = H.args in
-    shared_kept a.n a.t a.k a.own a.core a.block.now a.outbox.now a.inbox.now a.layout H.holds_exactly-fits.result (let fits : let a = c.args in c.holds_exactly-fits.result ≡ eqb (length a.outbox.now) (a.n * width (kind_layout a.layout.run Rebuild a.n a.t a.k)) = let K = c in let a = K.args in c.holds_exactly-fits.ensures ∙ ap (λ (l : Layout). eqb (length a.outbox.now) (a.n * width l)) K.kind_layout-out.ensures in fits)
+    let a = c.args in
+    shared_kept a.n a.t a.k a.own a.core a.block.now a.outbox.now a.inbox.now a.layout c.holds_exactly-fits.result (let fits : let a = c.args in c.holds_exactly-fits.result ≡ eqb (length a.outbox.now) (a.n * width (kind_layout a.layout.run Rebuild a.n a.t a.k)) = let a = c.args in c.holds_exactly-fits.ensures ∙ ap (λ (l : Layout). eqb (length a.outbox.now) (a.n * width l)) c.kind_layout-out.ensures in fits)
     (sym c.is_ready.ensures ∙ c.if-not-is_ready.true)
 
 pub share_own-requires : goal.share_own-requires
 share_own-requires c =
-    let I = c in
-    let H = I in
-    let a = H.args in
-    let r = ready_yes a.n a.t a.k a.own a.block.now H.holds_exactly-fits.result
-    (sym I.is_ready.ensures ∙ I.if-not-is_ready.false) in (
+    let a = c.args in
+    let r = ready_yes a.n a.t a.k a.own a.block.now c.holds_exactly-fits.result
+    (sym c.is_ready.ensures ∙ c.if-not-is_ready.false) in (
       r.0.coded,
       r.0.number,
       r.0.size,
-      ap (λ (l : Layout). l.length) H.kind_layout-out.ensures ∙ kind_rebuild r.0.coded,
+      ap (λ (l : Layout). l.length) c.kind_layout-out.ensures ∙ kind_rebuild r.0.coded,
     )
 
 pub returns-then-in_core : goal.returns-then-in_core
 returns-then-in_core c =
-    let T = c in
-    let I = T in
-    let H = I in
-    let a = H.args in
+    let a = c.args in
     c.share_own.ensures
-    ∙ ap (λ (l : Layout). sent_piece l a.n (piece_of a.k a.t a.block.now a.own) a.outbox.now) H.kind_layout-out.ensures
-    ∙ shared_own a.n a.t a.k a.own a.core a.block.now a.outbox.now a.inbox.now a.layout H.holds_exactly-fits.result (let fits : let a = c.args in c.holds_exactly-fits.result ≡ eqb (length a.outbox.now) (a.n * width (kind_layout a.layout.run Rebuild a.n a.t a.k)) = let K = c in let a = K.args in c.holds_exactly-fits.ensures ∙ ap (λ (l : Layout). eqb (length a.outbox.now) (a.n * width l)) K.kind_layout-out.ensures in fits)
-    (sym I.is_ready.ensures ∙ I.if-not-is_ready.false) (sym T.in_core.ensures ∙ T.if-in_core.true)
+    ∙ ap (λ (l : Layout). sent_piece l a.n (piece_of a.k a.t a.block.now a.own) a.outbox.now) c.kind_layout-out.ensures
+    ∙ shared_own a.n a.t a.k a.own a.core a.block.now a.outbox.now a.inbox.now a.layout c.holds_exactly-fits.result (let fits : let a = c.args in c.holds_exactly-fits.result ≡ eqb (length a.outbox.now) (a.n * width (kind_layout a.layout.run Rebuild a.n a.t a.k)) = let a = c.args in c.holds_exactly-fits.ensures ∙ ap (λ (l : Layout). eqb (length a.outbox.now) (a.n * width l)) c.kind_layout-out.ensures in fits)
+    (sym c.is_ready.ensures ∙ c.if-not-is_ready.false) (sym c.in_core.ensures ∙ c.if-in_core.true)
 
 pub share_chosen-requires : goal.share_chosen-requires
 share_chosen-requires c =
-    let I = c in
-    let H = I in
-    let a = H.args in
-    let r = ready_yes a.n a.t a.k a.own a.block.now H.holds_exactly-fits.result
-    (sym I.is_ready.ensures ∙ I.if-not-is_ready.false) in
+    let a = c.args in
+    let r = ready_yes a.n a.t a.k a.own a.block.now c.holds_exactly-fits.result
+    (sym c.is_ready.ensures ∙ c.if-not-is_ready.false) in
     r.0.coded.quorum
 
 pub returns : goal.returns
 returns c =
-    let T = c in
-    let I = T in
-    let H = I in
-    let a = H.args in
+    let a = c.args in
     c.share_chosen.ensures
     ∙ ap (λ (l : Layout). sent_piece l a.n (chosen_piece a.n a.t a.core a.inbox.now a.layout) a.outbox.now)
-    H.kind_layout-out.ensures
-    ∙ shared_chosen a.n a.t a.k a.own a.core a.block.now a.outbox.now a.inbox.now a.layout H.holds_exactly-fits.result (let fits : let a = c.args in c.holds_exactly-fits.result ≡ eqb (length a.outbox.now) (a.n * width (kind_layout a.layout.run Rebuild a.n a.t a.k)) = let K = c in let a = K.args in c.holds_exactly-fits.ensures ∙ ap (λ (l : Layout). eqb (length a.outbox.now) (a.n * width l)) K.kind_layout-out.ensures in fits)
-    (sym I.is_ready.ensures ∙ I.if-not-is_ready.false) (sym T.in_core.ensures ∙ T.if-in_core.false)
+    c.kind_layout-out.ensures
+    ∙ shared_chosen a.n a.t a.k a.own a.core a.block.now a.outbox.now a.inbox.now a.layout c.holds_exactly-fits.result (let fits : let a = c.args in c.holds_exactly-fits.result ≡ eqb (length a.outbox.now) (a.n * width (kind_layout a.layout.run Rebuild a.n a.t a.k)) = let a = c.args in c.holds_exactly-fits.ensures ∙ ap (λ (l : Layout). eqb (length a.outbox.now) (a.n * width l)) c.kind_layout-out.ensures in fits)
+    (sym c.is_ready.ensures ∙ c.if-not-is_ready.false) (sym c.in_core.ensures ∙ c.if-in_core.false)

@@ -8,20 +8,15 @@ use Rattle.reconstruction.proofs.share_chosen.Goals as goal
 
 pub returns-then-n-i : goal.returns-then-n-i
 returns-then-n-i c =
-    let I = c in
-    let F = I in
-    let a = F.args in
+    let a = c.args in
     c.silence.ensures
-    ∙ sent_none a.n a.t a.core a.inbox.now a.layout a.out F.first_chosen-i.result F.first_chosen-i.ensures a.outbox.now
-    I.if-n-i.true
+    ∙ sent_none a.n a.t a.core a.inbox.now a.layout a.out c.first_chosen-i.result c.first_chosen-i.ensures a.outbox.now
+    c.if-n-i.true
 
 pub returns : goal.returns
 returns c =
-    let M = c in
-    let I = M in
-    let F = I in
-    let a = F.args in
+    let a = c.args in
     c.send_all.ensures
-    ∙ ap (λ (m : List ℕ). to_all a.out a.n m a.outbox.now) M.message.ensures
-    ∙ sent_chosen a.n a.t a.core a.inbox.now a.layout a.out F.first_chosen-i.result F.first_chosen-i.ensures a.outbox.now
-    I.if-n-i.false
+    ∙ ap (λ (m : List ℕ). to_all a.out a.n m a.outbox.now) c.message.ensures
+    ∙ sent_chosen a.n a.t a.core a.inbox.now a.layout a.out c.first_chosen-i.result c.first_chosen-i.ensures a.outbox.now
+    c.if-n-i.false

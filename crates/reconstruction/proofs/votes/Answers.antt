@@ -25,12 +25,11 @@ loop-i-smaller-then-is_vote c = omega arith
 
 pub loop-i-preserved-then-is_vote : goal.loop-i-preserved-then-is_vote
 loop-i-preserved-then-is_vote c =
-    let L = c in
-    let a = L.args in (
+    let a = c.args in (
       omega arith,
       omega arith,
-      counted_yes L.loop-i.i (vote a.core a.inbox.now a.layout a.m.now) L.loop-i.count (sym c.is_vote.ensures ∙ c.if-is_vote.true)
-          L.loop-i.invariant.2,
+      counted_yes c.loop-i.i (vote a.core a.inbox.now a.layout a.m.now) c.loop-i.count (sym c.is_vote.ensures ∙ c.if-is_vote.true)
+          c.loop-i.invariant.2,
     )
 
 pub loop-i-smaller : goal.loop-i-smaller
@@ -38,18 +37,16 @@ loop-i-smaller c = omega arith
 
 pub loop-i-preserved : goal.loop-i-preserved
 loop-i-preserved c =
-    let L = c in
-    let a = L.args in (
+    let a = c.args in (
       omega arith,
       omega arith,
-      counted_no L.loop-i.i (vote a.core a.inbox.now a.layout a.m.now) L.loop-i.count (sym c.is_vote.ensures ∙ c.if-is_vote.false)
-          L.loop-i.invariant.2,
+      counted_no c.loop-i.i (vote a.core a.inbox.now a.layout a.m.now) c.loop-i.count (sym c.is_vote.ensures ∙ c.if-is_vote.false)
+          c.loop-i.invariant.2,
     )
 
 pub returns : goal.returns
 unfolding votes
 returns c =
-    let L = c in
-    let a = L.args in
-    let all : L.loop-i.i ≡ a.n = omega arith in
-    L.loop-i.invariant.2 ∙ ap (λ (x : ℕ). count x (vote a.core a.inbox.now a.layout a.m.now)) all
+    let a = c.args in
+    let all : c.loop-i.i ≡ a.n = omega arith in
+    c.loop-i.invariant.2 ∙ ap (λ (x : ℕ). count x (vote a.core a.inbox.now a.layout a.m.now)) all

@@ -5,9 +5,8 @@ use Rattle.reed_solomon.proofs.decode.Goals as goal
 
 pub returns-then-refused-ne0 : goal.returns-then-refused-ne0
 returns-then-refused-ne0 c =
-    let F = c in
-    let a = F.args in (
-      decode_number_lem a.n a.t a.layout a.slots.now a.block.now _ _ F.decode_fits.ensures
+    let a = c.args in (
+      decode_number_lem a.n a.t a.layout a.slots.now a.block.now _ _ c.decode_fits.ensures
           c.decoding_refusal-refused.ensures,
       c.if-refused-ne0.true,
       refl,
@@ -15,9 +14,8 @@ returns-then-refused-ne0 c =
 
 pub rebuild-requires : goal.rebuild-requires
 rebuild-requires c =
-    let F = c in
-    let a = F.args in
-    sym (decode_number_lem a.n a.t a.layout a.slots.now a.block.now _ _ F.decode_fits.ensures c.decoding_refusal-refused.ensures)
+    let a = c.args in
+    sym (decode_number_lem a.n a.t a.layout a.slots.now a.block.now _ _ c.decode_fits.ensures c.decoding_refusal-refused.ensures)
     ∙ c.if-refused-ne0.false
 
 pub returns : goal.returns

@@ -8,31 +8,28 @@ use Rattle.reed_solomon.proofs.decode_points.Goals as goal
 
 pub slice_bounds-cols-end : goal.slice_bounds-cols-end
 slice_bounds-cols-end c =
-    let S = c in
-    omega (arith, S.requires.1, block-most S.args.layout.length S.args.t S.requires.0.coded.k_most S.requires.0.pointed.few-faulty)
+    omega (arith, c.requires.1, block-most c.args.layout.length c.args.t c.requires.0.coded.k_most c.requires.0.pointed.few-faulty)
 
 pub slice_bounds-decode_present-end : goal.slice_bounds-decode_present-end
 slice_bounds-decode_present-end c =
-    let S = c in
     sym
-    (length_front 768 (length S.args.block.now)
-    (omega (arith, S.requires.1, block-most S.args.layout.length S.args.t S.requires.0.coded.k_most S.requires.0.pointed.few-faulty)))
+    (length_front 768 (length c.args.block.now)
+    (omega (arith, c.requires.1, block-most c.args.layout.length c.args.t c.requires.0.coded.k_most c.requires.0.pointed.few-faulty)))
 
 pub slice_bounds-decode_present-end-2 : goal.slice_bounds-decode_present-end-2
 slice_bounds-decode_present-end-2 c = sym (length_front 128 c.args.layout.length c.requires.0.coded.k_most)
 
 pub decode_present-requires : goal.decode_present-requires
 decode_present-requires c =
-    let S = c in
-    let a = S.args in (
-      S.requires.0,
+    let a = c.args in (
+      c.requires.0,
       record {
-        few = S.requires.0.coded.k_most;
-        block_size = S.requires.1;
+        few = c.requires.0.coded.k_most;
+        block_size = c.requires.1;
         cols_size =
             length_front 768 (length a.block.now)
-            (omega (arith, S.requires.1, block-most a.layout.length a.t S.requires.0.coded.k_most S.requires.0.pointed.few-faulty))
-            ∙ S.requires.1;
-        tmp_size = length_front 128 a.layout.length S.requires.0.coded.k_most;
+            (omega (arith, c.requires.1, block-most a.layout.length a.t c.requires.0.coded.k_most c.requires.0.pointed.few-faulty))
+            ∙ c.requires.1;
+        tmp_size = length_front 128 a.layout.length c.requires.0.coded.k_most;
       },
     )

@@ -15,15 +15,13 @@ settle-search-requires c = (c.requires.0.pointed, length_front 6 (c.args.t + 1) 
 
 pub returns-then-not-search : goal.returns-then-not-search
 returns-then-not-search c =
-    let S = c in
-    let a = S.args in
+    let a = c.args in
     let d = c.settle-search in
-    none_at a.n a.t a.layout a.slots.now a.xs.now S.requires.0 (a.layout.length - 1) (omega (arith, S.requires.0.coded.k_least))
+    none_at a.n a.t a.layout a.slots.now a.xs.now c.requires.0 (a.layout.length - 1) (omega (arith, c.requires.0.coded.k_least))
     (d.ensures.0.none_right (not-true d.result.found c.if-not-search.true))
 
 pub mend_all-requires : goal.mend_all-requires
 mend_all-requires c =
-    let S = c in
-    let a = S.args in
+    let a = c.args in
     let g = c.guess_rest in
-    (S.requires.0, room-kept a.t a.layout.length a.block.now a.cols.now a.tmp.now _ _ _ S.requires.1 g.auto.block g.auto.cols g.auto.tmp)
+    (c.requires.0, room-kept a.t a.layout.length a.block.now a.cols.now a.tmp.now _ _ _ c.requires.1 g.auto.block g.auto.cols g.auto.tmp)

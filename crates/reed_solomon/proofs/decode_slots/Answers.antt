@@ -9,37 +9,33 @@ use Rattle.reed_solomon.proofs.decode_slots.Goals as goal
 
 pub returns-then-count-t : goal.returns-then-count-t
 returns-then-count-t c =
-    let S = c in
-    let a = S.args in
-    few-beyond a.n a.t a.layout a.slots.now S.requires.0.k_least
+    let a = c.args in
+    few-beyond a.n a.t a.layout a.slots.now c.requires.0.k_least
     (omega (arith, c.list_points-count.ensures.size, length-points a.n a.layout a.slots.now, c.if-count-t.true))
 
 pub slice_bounds-decode_points-end : goal.slice_bounds-decode_points-end
 slice_bounds-decode_points-end c =
-    let S = c in
     let l = c.list_points-count in
-    omega (arith, l.ensures.size, points_le S.args.n S.args.layout S.args.slots.now, S.requires.1, l.auto.xs)
+    omega (arith, l.ensures.size, points_le c.args.n c.args.layout c.args.slots.now, c.requires.1, l.auto.xs)
 
 pub slice_bounds-decode_points-end-2 : goal.slice_bounds-decode_points-end-2
 slice_bounds-decode_points-end-2 c =
-    let S = c in
     let l = c.list_points-count in
     sym
     (length-take-le l.result l.new.xs
-    (omega (arith, l.ensures.size, points_le S.args.n S.args.layout S.args.slots.now, S.requires.1, l.auto.xs)))
+    (omega (arith, l.ensures.size, points_le c.args.n c.args.layout c.args.slots.now, c.requires.1, l.auto.xs)))
 
 pub decode_points-requires : goal.decode_points-requires
 decode_points-requires c =
-    let S = c in
-    let a = S.args in
+    let a = c.args in
     let l = c.list_points-count in (
       record {
-        coded = S.requires.0;
+        coded = c.requires.0;
         are = l.ensures.are;
         pointed =
             subst (Pointed a.t) (sym l.ensures.are)
-            (pointed_points a.n a.layout a.slots.now a.t S.requires.0.quorum.n_most (omega (arith, S.requires.0.quorum.n_most, S.requires.0.quorum.t_most))
+            (pointed_points a.n a.layout a.slots.now a.t c.requires.0.quorum.n_most (omega (arith, c.requires.0.quorum.n_most, c.requires.0.quorum.t_most))
             (omega (arith, l.ensures.size, c.if-count-t.false)));
       },
-      S.requires.2,
+      c.requires.2,
     )

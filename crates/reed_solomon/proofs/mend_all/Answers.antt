@@ -8,15 +8,14 @@ use Rattle.reed_solomon.proofs.Mending.{checked, none_at, mended, all_right, roo
 use Rattle.reed_solomon.proofs.mend_all.Goals as goal
 
 pub check-first-requires : goal.check-first-requires
-check-first-requires c = let S = c in (S.requires.0.coded, omega arith, S.requires.1.block_size, S.requires.1.cols_size, S.requires.1.tmp_size)
+check-first-requires c = (c.requires.0.coded, omega arith, c.requires.1.block_size, c.requires.1.cols_size, c.requires.1.tmp_size)
 
 pub loop-s-init : goal.loop-s-init
 loop-s-init c =
-    let S = c in
-    let a = S.args in
+    let a = c.args in
     let h = c.check-first in (
-      checked a.n a.t a.layout a.slots.now a.xs.now S.requires.0 a.block.now 0 h.result.named h.result.wrong h.ensures,
-      room-kept a.t a.layout.length a.block.now a.cols.now a.tmp.now a.block.now h.new.cols h.new.piece S.requires.1 refl
+      checked a.n a.t a.layout a.slots.now a.xs.now c.requires.0 a.block.now 0 h.result.named h.result.wrong h.ensures,
+      room-kept a.t a.layout.length a.block.now a.cols.now a.tmp.now a.block.now h.new.cols h.new.piece c.requires.1 refl
           h.auto.cols h.auto.piece,
       λ i. omega (arith, c.slice_known-1.given i),
     )
@@ -35,32 +34,29 @@ shape_of-tmp-then-not-search c = c.mend-search.auto.tmp ∙ c.loop-s.invariant.1
 
 pub returns-then-not-search : goal.returns-then-not-search
 returns-then-not-search c =
-    let S = c in
-    let a = S.args in
+    let a = c.args in
     let m = c.mend-search in
-    none_at a.n a.t a.layout a.slots.now a.xs.now S.requires.0 c.loop-s.s (omega (arith, c.loop-s-test.true))
+    none_at a.n a.t a.layout a.slots.now a.xs.now c.requires.0 c.loop-s.s (omega (arith, c.loop-s-test.true))
     (m.ensures.none_right (not-true m.result.found c.if-not-search.true))
 
 pub check-next-requires : goal.check-next-requires
 check-next-requires c =
-    let S = c in
     let r = c.loop-s.invariant.1 in
     let m = c.mend-search in
-    (S.requires.0.coded, omega (arith, c.loop-s-test.true), m.auto.block ∙ r.block_size, m.auto.cols ∙ r.cols_size, m.auto.tmp ∙ r.tmp_size)
+    (c.requires.0.coded, omega (arith, c.loop-s-test.true), m.auto.block ∙ r.block_size, m.auto.cols ∙ r.cols_size, m.auto.tmp ∙ r.tmp_size)
 
 pub loop-s-smaller : goal.loop-s-smaller
 loop-s-smaller c = let h = c.check-next.ensures in omega (arith, h.past, h.within)
 
 pub loop-s-preserved : goal.loop-s-preserved
 loop-s-preserved c =
-    let S = c in
-    let a = S.args in
+    let a = c.args in
     let l = c.loop-s in
     let m = c.mend-search in
     let h = c.check-next in
     let after = m.new.block in
     let found : m.result.found ≡ true = not-false m.result.found c.if-not-search.false in (
-      mended a.n a.t a.layout a.slots.now a.xs.now S.requires.0 l.block after l.s l.named h.result.wrong h.result.named l.invariant.0
+      mended a.n a.t a.layout a.slots.now a.xs.now c.requires.0 l.block after l.s l.named h.result.wrong h.result.named l.invariant.0
           (subst (λ (f : Bool). Mended a.t a.layout a.slots.now a.xs.now l.s f l.block after) found m.ensures) h.ensures,
       room-kept a.t a.layout.length l.block l.cols l.tmp after h.new.cols h.new.piece l.invariant.1 m.auto.block
           (h.auto.cols ∙ m.auto.cols) (h.auto.piece ∙ m.auto.tmp),

@@ -21,21 +21,19 @@ found n t layout slots before after (Refused x) h z r = absurd r
 
 pub decode_slots-decoded-requires : goal.decode_slots-decoded-requires
 decode_slots-decoded-requires c =
-    let S = c in
-    let a = S.args in
-    let w = decode_0 a.n a.t a.layout a.slots.now a.block.now S.requires in
+    let a = c.args in
+    let w = decode_0 a.n a.t a.layout a.slots.now a.block.now c.requires in
     (w.0, w.0.quorum.n_most, w.2 ∙ block_length_is a.layout.length a.t)
 
 pub returns-in-Beyond : goal.returns-in-Beyond
 returns-in-Beyond c =
-    let S = c in
-    let a = S.args in
-    let w = decode_0 a.n a.t a.layout a.slots.now a.block.now S.requires in
+    let a = c.args in
+    let w = decode_0 a.n a.t a.layout a.slots.now a.block.now c.requires in
     let d = c.decode_slots-decoded in
     let beyond : d.result ≡ Beyond = c.in-Beyond.is in
     let after = c.silence.new.outbox in
     subst (λ (r : Decoded). Answers a.n a.t a.layout a.slots.now a.block.now r after) (sym beyond) (
-      S.requires,
+      c.requires,
       subst (λ (r : Decoded). Rebuilds a.n a.t a.layout a.slots.now r d.new.block) beyond d.ensures,
       c.silence.ensures ∙ ap (λ m. replicate m 0) (d.auto.block ∙ w.2),
     )

@@ -30,11 +30,10 @@ breaks-requires c = tt
 
 pub returns-then-breaks : goal.returns-then-breaks
 returns-then-breaks c =
-    let L = c in
-    let R = L.rows-order in
-    let a = L.args in
-    sym (found_row (broken a.s a.number a.fits) R.result L.loop-i.i (omega arith) (sym c.breaks.ensures ∙ c.if-breaks.true))
-    ∙ L.loop-i.invariant.2 ∙ whole a.entry a.s a.number a.fits R.result R.ensures
+    let R = c.rows-order in
+    let a = c.args in
+    sym (found_row (broken a.s a.number a.fits) R.result c.loop-i.i (omega arith) (sym c.breaks.ensures ∙ c.if-breaks.true))
+    ∙ c.loop-i.invariant.2 ∙ whole a.entry a.s a.number a.fits R.result R.ensures
 
 pub overflow_add-i : goal.overflow_add-i
 overflow_add-i c = omega arith
@@ -44,19 +43,17 @@ loop-i-smaller c = omega arith
 
 pub loop-i-preserved : goal.loop-i-preserved
 loop-i-preserved c =
-    let L = c in
-    let R = L.rows-order in
-    let a = L.args in (
+    let R = c.rows-order in
+    let a = c.args in (
       omega arith,
-      L.loop-i.invariant.1,
-      sym (next_row (broken a.s a.number a.fits) R.result L.loop-i.i (omega arith) (sym c.breaks.ensures ∙ c.if-breaks.false))
-          ∙ L.loop-i.invariant.2,
+      c.loop-i.invariant.1,
+      sym (next_row (broken a.s a.number a.fits) R.result c.loop-i.i (omega arith) (sym c.breaks.ensures ∙ c.if-breaks.false))
+          ∙ c.loop-i.invariant.2,
     )
 
 pub returns : goal.returns
 returns c =
-    let L = c in
-    let R = L.rows-order in
-    let a = L.args in
-    sym (no_row (broken a.s a.number a.fits) R.result L.loop-i.i (omega arith)) ∙ L.loop-i.invariant.2
+    let R = c.rows-order in
+    let a = c.args in
+    sym (no_row (broken a.s a.number a.fits) R.result c.loop-i.i (omega arith)) ∙ c.loop-i.invariant.2
     ∙ whole a.entry a.s a.number a.fits R.result R.ensures

@@ -14,15 +14,13 @@ returns-then-t-eq0 c = rw (eq-eqb c.args.t 0 c.if-t-eq0.true)
 pub returns-then-n-eq0 : goal.returns-then-n-eq0
 unfolding too_many
 returns-then-n-eq0 c =
-    let S = c in
-    rw (ne_eqb S.args.t 0 c.if-t-eq0.false, lt-ltb S.args.n (3 * S.args.t + 1) (omega arith))
+    rw (ne_eqb c.args.t 0 c.if-t-eq0.false, lt-ltb c.args.n (3 * c.args.t + 1) (omega arith))
 
 pub returns : goal.returns
 unfolding too_many
 returns c =
-    let S = c in
-    let n = S.args.n in
-    let t = S.args.t in
+    let n = c.args.n in
+    let t = c.args.t in
     rw (ne_eqb t 0 c.if-t-eq0.false)
     (bool_ext (ltb ((n - 1) / 3) t) (ltb n (3 * t + 1))
     (λ e. lt-ltb n (3 * t + 1) (omega (arith, ltb-true ((n - 1) / 3) t e)))

@@ -7,27 +7,23 @@ use Rattle.simulator.proofs.play_file.Goals as goal
 
 pub slice_bounds-block-end : goal.slice_bounds-block-end
 slice_bounds-block-end c =
-    let S = c in
-    (file_run S.args.input.now S.args.file c.block_length-b.result S.requires.0 S.requires.1
+    (file_run c.args.input.now c.args.file c.block_length-b.result c.requires.0 c.requires.1
     c.block_length-b.ensures).block_le
 
 pub slice_bounds-write_run-end-2 : goal.slice_bounds-write_run-end-2
 slice_bounds-write_run-end-2 c =
-    let S = c in
-    sym (file_run S.args.input.now S.args.file c.block_length-b.result S.requires.0 S.requires.1
+    sym (file_run c.args.input.now c.args.file c.block_length-b.result c.requires.0 c.requires.1
     c.block_length-b.ensures).block_long
 
 pub write_run-length-requires : goal.write_run-length-requires
 write_run-length-requires c =
-    let S = c in
-    (file_run S.args.input.now S.args.file c.block_length-b.result
-    S.requires.0 S.requires.1 c.block_length-b.ensures).runnable
+    (file_run c.args.input.now c.args.file c.block_length-b.result
+    c.requires.0 c.requires.1 c.block_length-b.ensures).runnable
 
 pub returns : goal.returns
 returns c =
-    let S = c in
-    let r = file_run S.args.input.now S.args.file
-    c.block_length-b.result S.requires.0 S.requires.1
+    let r = file_run c.args.input.now c.args.file
+    c.block_length-b.result c.requires.0 c.requires.1
     c.block_length-b.ensures in (
       c.write_run-length.ensures.0 ∙ ap (padded 6400) r.output,
       c.write_run-length.ensures.1

@@ -10,8 +10,7 @@ use Rattle.simulator.proofs.simulate.Goals as goal
 
 pub returns-in-Wrong : goal.returns-in-Wrong
 returns-in-Wrong c =
-    let S = c in
-    let a = S.args in
+    let a = c.args in
     let e = simulated-wrong a.input.now _
     (file-wrong (read_of a.input.now) _
     (sym (ap (λ (f : SystemFile). f.form) c.read-file.ensures) ∙ c.in-Wrong.is)) in

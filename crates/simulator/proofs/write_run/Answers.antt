@@ -20,9 +20,8 @@ fill_blocks-requires c =
 
 pub play-states-requires : goal.play-states-requires
 play-states-requires c =
-    let S = c in
-    let a = S.args in
-    let h = S.requires in
+    let a = c.args in
+    let h = c.requires in
     let f = c.fill_blocks in (
       runnable_playable h f.new.blocks f.auto.blocks,
       held_start a.settings a.block.now a.faulty a.places.now a.input.now c.start_all-begun.result
@@ -32,23 +31,21 @@ play-states-requires c =
 
 pub append_results-requires : goal.append_results-requires
 append_results-requires c =
-    let S = c in
-    let h = S.requires in
-    let room : S.args.settings.n * length S.args.block.now ≤ length c.play-states.new.blocks = omega (arith, fill_room h, c.fill_blocks.auto.blocks, c.play-states.auto.blocks) in
+    let h = c.requires in
+    let room : c.args.settings.n * length c.args.block.now ≤ length c.play-states.new.blocks = omega (arith, fill_room h, c.fill_blocks.auto.blocks, c.play-states.auto.blocks) in
     let out = subst (λ (o : List ℕ). Room o 0 6400) (sym h.out_is) (zeros-room 6400 6400 (omega arith)) in
     let names = added out names_line (omega arith) (c.append-names.ensures.written, c.append-names.ensures.end) in (
       h.small.coded.quorum.n_most,
       omega (arith, h.block_is, block_le h.small),
       room,
-      after names (S.args.settings.n * 395)
+      after names (c.args.settings.n * 395)
           (omega (arith, h.small.coded.quorum.n_most)),
     )
 
 pub returns : goal.returns
 returns c =
-    let S = c in
-    let a = S.args in
-    let h = S.requires in
+    let a = c.args in
+    let h = c.requires in
     let out = subst (λ (o : List ℕ). Room o 0 6400) (sym h.out_is) (zeros-room 6400 6400 (omega arith)) in
     let names = added out names_line (omega arith) (c.append-names.ensures.written, c.append-names.ensures.end) in
     let w = chain names c.append_results.ensures in

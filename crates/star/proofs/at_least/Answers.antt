@@ -31,29 +31,26 @@ loop-i-smaller c = omega arith
 
 pub loop-i-preserved : goal.loop-i-preserved
 loop-i-preserved c =
-    let L = c in
-    let S = L in
-    let A = S.args in
+    let A = c.args in
     let test : ℕ → Bool = λ y. leb A.k (count A.n (λ x. member A.s x && adjacent A.bits y x)) in
-    let h = c.neighbours_in.ensures ∙ count_is A.n (adjacent A.bits) A.s L.loop-i.i S.requires.0 S.requires.1
+    let h = c.neighbours_in.ensures ∙ count_is A.n (adjacent A.bits) A.s c.loop-i.i c.requires.0 c.requires.1
     c.loop-i-test.true in
     elim c.if-k-neighbours_in.branch [
       | then-k-neighbours_in w ↦ (
         omega arith,
-        w.f-is ∙ w.insert-f.ensures ∙ ap (λ (s : ℕ). inserted s L.loop-i.i) L.loop-i.invariant.1
-            ∙ insert_next L.loop-i.i test (omega arith) (subst (λ (x : ℕ). leb A.k x ≡ true) h (le-leb _ _ w.if-k-neighbours_in.true)),
+        w.f-is ∙ w.insert-f.ensures ∙ ap (λ (s : ℕ). inserted s c.loop-i.i) c.loop-i.invariant.1
+            ∙ insert_next c.loop-i.i test (omega arith) (subst (λ (x : ℕ). leb A.k x ≡ true) h (le-leb _ _ w.if-k-neighbours_in.true)),
       )
       | else-k-neighbours_in w ↦ (
         omega arith,
-        w.f-is ∙ L.loop-i.invariant.1
-            ∙ insert_skip L.loop-i.i test (subst (λ (x : ℕ). leb A.k x ≡ false) h (lt-leb _ _ w.if-k-neighbours_in.false)),
+        w.f-is ∙ c.loop-i.invariant.1
+            ∙ insert_skip c.loop-i.i test (subst (λ (x : ℕ). leb A.k x ≡ false) h (lt-leb _ _ w.if-k-neighbours_in.false)),
       )
     ]
 
 pub returns : goal.returns
 unfolding at_least
 returns c =
-    let L = c in
-    let A = L.args in
-    let e : L.loop-i.i ≡ A.n = omega arith in
-    subst (λ (m : ℕ). L.loop-i.f ≡ set_of m (λ y. leb A.k (count A.n (λ x. member A.s x && adjacent A.bits y x)))) e L.loop-i.invariant.1
+    let A = c.args in
+    let e : c.loop-i.i ≡ A.n = omega arith in
+    subst (λ (m : ℕ). c.loop-i.f ≡ set_of m (λ y. leb A.k (count A.n (λ x. member A.s x && adjacent A.bits y x)))) e c.loop-i.invariant.1

@@ -10,11 +10,9 @@ use Rattle.star.proofs.in_b.Goals as goal
 
 pub returns-then-member : goal.returns-then-member
 returns-then-member c =
-    let M = c in
-    let S = M in
-    ap (ltb 0) (c.intersection.ensures ∙ ap (λ (x : ℕ). intersection x S.args.c) c.missing_row.ensures)
-    ∙ lacks_is S.args.n (adjacent S.args.bits) S.args.c S.args.i S.requires.0 S.requires.1 S.requires.2
-    ∙ sym (and_tail _ _ (sym M.member.ensures ∙ c.if-member.true))
+    ap (ltb 0) (c.intersection.ensures ∙ ap (λ (x : ℕ). intersection x c.args.c) c.missing_row.ensures)
+    ∙ lacks_is c.args.n (adjacent c.args.bits) c.args.c c.args.i c.requires.0 c.requires.1 c.requires.2
+    ∙ sym (and_tail _ _ (sym c.member.ensures ∙ c.if-member.true))
 
 pub returns : goal.returns
 returns c = sym (and_no_left _ _ (sym c.member.ensures ∙ c.if-member.false))

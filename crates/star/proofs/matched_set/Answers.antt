@@ -17,8 +17,7 @@ bounds-m-p c = omega arith
 
 pub overflow_cast-m : goal.overflow_cast-m
 overflow_cast-m c =
-    let L = c in
-    record { fits = omega (arith, L.requires.small L.loop-p.p c.loop-p-test.true) }
+    record { fits = omega (arith, c.requires.small c.loop-p.p c.loop-p-test.true) }
 
 pub insert-requires : goal.insert-requires
 insert-requires c = tt
@@ -28,8 +27,7 @@ bounds-m-p-in-loop-p c = omega arith
 
 pub overflow_cast-m-in-loop-p : goal.overflow_cast-m-in-loop-p
 overflow_cast-m-in-loop-p c =
-    let T = c in
-    record { fits = omega (arith, T.requires.large T.loop-p.p T.loop-p-test.true) }
+    record { fits = omega (arith, c.requires.large c.loop-p.p c.loop-p-test.true) }
 
 pub insert-s-requires : goal.insert-s-requires
 insert-s-requires c = tt
@@ -42,17 +40,15 @@ loop-p-smaller c = omega arith
 
 pub loop-p-preserved : goal.loop-p-preserved
 loop-p-preserved c =
-    let L = c in
-    let m = L.args.m in
-    let b : ℕ = get_or m.large L.loop-p.p 0 in (
+    let m = c.args.m in
+    let b : ℕ = get_or m.large c.loop-p.p 0 in (
       omega arith,
       c.insert-s.ensures ∙ ap (λ (x : ℕ). inserted x b) c.insert.ensures
-          ∙ matched_more m.small m.large L.loop-p.p L.loop-p.s L.loop-p.invariant.1,
+          ∙ matched_more m.small m.large c.loop-p.p c.loop-p.s c.loop-p.invariant.1,
     )
 
 pub returns : goal.returns
 returns c =
-    let L = c in
-    let m = L.args.m in
-    let e : L.loop-p.p ≡ m.count = omega arith in
-    subst (λ (x : ℕ). L.loop-p.s ≡ set_of 16 (matched (pairs m.small m.large x))) e L.loop-p.invariant.1
+    let m = c.args.m in
+    let e : c.loop-p.p ≡ m.count = omega arith in
+    subst (λ (x : ℕ). c.loop-p.s ≡ set_of 16 (matched (pairs m.small m.large x))) e c.loop-p.invariant.1

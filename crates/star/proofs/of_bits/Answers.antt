@@ -19,8 +19,7 @@ taken n t number e z = sym e ∙ z
 
 pub sets_of-s-requires : goal.sets_of-s-requires
 sets_of-s-requires c =
-    let E = c in
-    let A = E.args in
+    let A = c.args in
     let q = (let valid : Quorum c.args.n c.args.t = refusal_0 _ _ (taken c.args.n c.args.t _ c.star_refusal-number.ensures c.if-number-ne0.false) in valid) in
     (q.n_most, omega (arith, q.t_most), ends A.bits A.n A.t (taken c.args.n c.args.t _ c.star_refusal-number.ensures c.if-number-ne0.false) q.n_most _ c.largest.ensures)
 
@@ -31,18 +30,14 @@ is_large-requires c =
 
 pub returns-then-is_large : goal.returns-then-is_large
 returns-then-is_large c =
-    let F = c in
-    let E = F in
-    let A = E.args in
+    let A = c.args in
     let q = (let valid : Quorum c.args.n c.args.t = refusal_0 _ _ (taken c.args.n c.args.t _ c.star_refusal-number.ensures c.if-number-ne0.false) in valid) in
-    answered A.bits A.n A.t (taken c.args.n c.args.t _ c.star_refusal-number.ensures c.if-number-ne0.false) q.n_most _ F.largest.ensures _ F.sets_of-s.ensures
+    answered A.bits A.n A.t (taken c.args.n c.args.t _ c.star_refusal-number.ensures c.if-number-ne0.false) q.n_most _ c.largest.ensures _ c.sets_of-s.ensures
     (sym c.is_large.ensures ∙ c.if-is_large.true)
 
 pub returns : goal.returns
 returns c =
-    let F = c in
-    let E = F in
-    let A = E.args in
+    let A = c.args in
     let q = (let valid : Quorum c.args.n c.args.t = refusal_0 _ _ (taken c.args.n c.args.t _ c.star_refusal-number.ensures c.if-number-ne0.false) in valid) in
-    not-large A.bits A.n A.t (taken c.args.n c.args.t _ c.star_refusal-number.ensures c.if-number-ne0.false) q.n_most _ F.largest.ensures _ _ F.sets_of-s.ensures
+    not-large A.bits A.n A.t (taken c.args.n c.args.t _ c.star_refusal-number.ensures c.if-number-ne0.false) q.n_most _ c.largest.ensures _ _ c.sets_of-s.ensures
     (sym c.is_large.ensures ∙ c.if-is_large.false) c.no_sets-2.ensures

@@ -15,26 +15,23 @@ below-c-requires c = tt
 
 pub loop-p-init : goal.loop-p-init
 loop-p-init c =
-    let S = c in
-    let m = S.args.m in
-    let e : min S.args.n 16 ≡ S.args.n = omega arith in
-    (omega arith, c.below-c.ensures ∙ ap (λ (x : ℕ). set_of x (λ _. true)) e ∙ c_start S.args.n (adjacent S.args.bits) m.small m.large)
+    let m = c.args.m in
+    let e : min c.args.n 16 ≡ c.args.n = omega arith in
+    (omega arith, c.below-c.ensures ∙ ap (λ (x : ℕ). set_of x (λ _. true)) e ∙ c_start c.args.n (adjacent c.args.bits) m.small m.large)
 
 pub bounds-m-p : goal.bounds-m-p
 bounds-m-p c = omega arith
 
 pub overflow_cast-m : goal.overflow_cast-m
 overflow_cast-m c =
-    let L = c in
-    record { fits = omega (arith, L.requires.1.small L.loop-p.p c.loop-p-test.true) }
+    record { fits = omega (arith, c.requires.1.small c.loop-p.p c.loop-p-test.true) }
 
 pub bounds-m-p-in-loop-p : goal.bounds-m-p-in-loop-p
 bounds-m-p-in-loop-p c = omega arith
 
 pub overflow_cast-m-in-loop-p : goal.overflow_cast-m-in-loop-p
 overflow_cast-m-in-loop-p c =
-    let T = c in
-    record { fits = omega (arith, T.requires.1.large T.loop-p.p T.loop-p-test.true) }
+    record { fits = omega (arith, c.requires.1.large c.loop-p.p c.loop-p-test.true) }
 
 pub left_by-c-requires : goal.left_by-c-requires
 left_by-c-requires c = tt
@@ -47,20 +44,16 @@ loop-p-smaller c = omega arith
 
 pub loop-p-preserved : goal.loop-p-preserved
 loop-p-preserved c =
-    let T = c in
-    let L = T in
-    let S = L in
-    let m = S.args.m in
-    let E = S.requires.1 in (
+    let m = c.args.m in
+    let E = c.requires.1 in (
       omega arith,
-      c.left_by-c.ensures ∙ c_more S.args.n (adjacent S.args.bits) m.small m.large L.loop-p.p L.loop-p.c S.requires.0
-          (E.small L.loop-p.p T.loop-p-test.true) (E.large L.loop-p.p T.loop-p-test.true) L.loop-p.invariant.1,
+      c.left_by-c.ensures ∙ c_more c.args.n (adjacent c.args.bits) m.small m.large c.loop-p.p c.loop-p.c c.requires.0
+          (E.small c.loop-p.p c.loop-p-test.true) (E.large c.loop-p.p c.loop-p-test.true) c.loop-p.invariant.1,
     )
 
 pub returns : goal.returns
 returns c =
-    let L = c in
-    let A = L.args in
+    let A = c.args in
     let m = A.m in
-    let e : L.loop-p.p ≡ m.count = omega arith in
-    subst (λ (x : ℕ). L.loop-p.c ≡ set_C A.n (adjacent A.bits) (pairs m.small m.large x)) e L.loop-p.invariant.1
+    let e : c.loop-p.p ≡ m.count = omega arith in
+    subst (λ (x : ℕ). c.loop-p.c ≡ set_C A.n (adjacent A.bits) (pairs m.small m.large x)) e c.loop-p.invariant.1

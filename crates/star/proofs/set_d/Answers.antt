@@ -27,22 +27,20 @@ loop-i-smaller c = omega arith
 
 pub loop-i-preserved : goal.loop-i-preserved
 loop-i-preserved c =
-    let L = c in
-    let A = L.args in
+    let A = c.args in
     let test : ℕ → Bool = λ x. not (member A.u x && lacks A.n (adjacent A.bits) A.c x) in
     let h = ap not (sym c.in_b.ensures) in
     elim c.if-not-in_b.branch [
       | then-not-in_b w ↦ (
         omega arith,
-        w.d-is ∙ w.insert-d.ensures ∙ ap (λ (s : ℕ). inserted s L.loop-i.i) L.loop-i.invariant.1
-            ∙ insert_next L.loop-i.i test (omega arith) (h ∙ ap not w.if-not-in_b.true),
+        w.d-is ∙ w.insert-d.ensures ∙ ap (λ (s : ℕ). inserted s c.loop-i.i) c.loop-i.invariant.1
+            ∙ insert_next c.loop-i.i test (omega arith) (h ∙ ap not w.if-not-in_b.true),
       )
-      | else-not-in_b w ↦ (omega arith, w.d-is ∙ L.loop-i.invariant.1 ∙ insert_skip L.loop-i.i test (h ∙ ap not w.if-not-in_b.false))
+      | else-not-in_b w ↦ (omega arith, w.d-is ∙ c.loop-i.invariant.1 ∙ insert_skip c.loop-i.i test (h ∙ ap not w.if-not-in_b.false))
     ]
 
 pub returns : goal.returns
 returns c =
-    let L = c in
-    let A = L.args in
-    let e : L.loop-i.i ≡ A.n = omega arith in
-    subst (λ (m : ℕ). L.loop-i.d ≡ set_of m (λ x. not (member A.u x && lacks A.n (adjacent A.bits) A.c x))) e L.loop-i.invariant.1
+    let A = c.args in
+    let e : c.loop-i.i ≡ A.n = omega arith in
+    subst (λ (m : ℕ). c.loop-i.d ≡ set_of m (λ x. not (member A.u x && lacks A.n (adjacent A.bits) A.c x))) e c.loop-i.invariant.1

@@ -6,25 +6,21 @@ use Prim.Native.Nat.{ℕ, ◌^◌, ◌<◌}
 use Rattle.star.proofs.sets_of.Goals as goal
 
 pub matched_set-requires : goal.matched_set-requires
-matched_set-requires c = let S = c in ends_16 _ _ S.requires.0 S.requires.2
+matched_set-requires c = ends_16 _ _ c.requires.0 c.requires.2
 
 pub set_d-d-requires : goal.set_d-d-requires
 set_d-d-requires c =
-    let S = c in
-    (S.requires.0, subst (λ (x : ℕ). x < 2 ^ S.args.n) (sym c.set_c-c.ensures) (c_lt _ _ _))
+    (c.requires.0, subst (λ (x : ℕ). x < 2 ^ c.args.n) (sym c.set_c-c.ensures) (c_lt _ _ _))
 
 pub at_least-f-requires : goal.at_least-f-requires
 at_least-f-requires c =
-    let S = c in
-    (S.requires.0, subst (λ (x : ℕ). x < 2 ^ S.args.n) (sym c.set_c-c.ensures) (c_lt _ _ _))
+    (c.requires.0, subst (λ (x : ℕ). x < 2 ^ c.args.n) (sym c.set_c-c.ensures) (c_lt _ _ _))
 
 pub at_least-e-requires : goal.at_least-e-requires
 at_least-e-requires c =
-    let S = c in
-    (S.requires.0, subst (λ (x : ℕ). x < 2 ^ S.args.n) (sym c.at_least-f.ensures) (at_least_lt _ _ _ _))
+    (c.requires.0, subst (λ (x : ℕ). x < 2 ^ c.args.n) (sym c.at_least-f.ensures) (at_least_lt _ _ _ _))
 
 pub returns : goal.returns
 returns c =
-    let D = c in
-    sets_are _ _ _ _ _ _ _ _ _ D.requires.0 D.set_c-c.ensures D.matched_set.ensures D.set_d-d.ensures
+    sets_are _ _ _ _ _ _ _ _ _ c.requires.0 c.set_c-c.ensures c.matched_set.ensures c.set_d-d.ensures
     c.at_least-f.ensures c.at_least-e.ensures

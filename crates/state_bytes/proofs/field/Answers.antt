@@ -12,8 +12,7 @@ overflow_add-e c =
 
 pub slice_bounds-result-end : goal.slice_bounds-result-end
 slice_bounds-result-end c =
-    let S = c in
-    omega (arith, c.offset-a.ensures, c.width.ensures, S.requires.0, field-within (length widths) S.args.i S.requires.1)
+    omega (arith, c.offset-a.ensures, c.width.ensures, c.requires.0, field-within (length widths) c.args.i c.requires.1)
 
 pub returns : goal.returns
 returns c =

@@ -8,13 +8,12 @@ use Rattle.state_bytes.proofs.field_number.Goals as goal
 
 pub get-requires : goal.get-requires
 get-requires c =
-    let S = c in
-    let a = S.args in
+    let a = c.args in
     omega (
       arith,
-      ap length c.field.ensures ∙ length-field a.bytes.now a.i S.requires.0 (omega (arith, S.requires.1)),
+      ap length c.field.ensures ∙ length-field a.bytes.now a.i c.requires.0 (omega (arith, c.requires.1)),
       number-width_le a.i
-          S.requires.1,
+          c.requires.1,
     )
 
 pub returns : goal.returns

@@ -32,16 +32,15 @@ loop-i-smaller c = omega arith
 
 pub loop-i-preserved : goal.loop-i-preserved
 loop-i-preserved c =
-    let L = c in
-    let a = L.args in
-    let i = L.loop-i.i in
+    let a = c.args in
+    let i = c.loop-i.i in
     let s = little_endian (length a.bytes.now) a.x in
-    let d = digit_next (length a.bytes.now) L.loop-i.rest s i (omega arith) L.loop-i.invariant.2 in (
+    let d = digit_next (length a.bytes.now) c.loop-i.rest s i (omega arith) c.loop-i.invariant.2 in (
       omega arith,
-      ap₂ (λ (l : List ℕ) (v : ℕ). set l i v) L.loop-i.invariant.1 (sym d.0)
+      ap₂ (λ (l : List ℕ) (v : ℕ). set l i v) c.loop-i.invariant.1 (sym d.0)
           ∙ copy_more i s a.bytes.now (omega (arith, length_digits (length a.bytes.now) a.x)) (omega arith),
       d.1,
-      simp length-set L.loop-i.invariant.3,
+      simp length-set c.loop-i.invariant.3,
     )
 
 pub shape_of-bytes : goal.shape_of-bytes
@@ -49,8 +48,7 @@ shape_of-bytes c = c.loop-i.invariant.3
 
 pub returns : goal.returns
 returns c =
-    let L = c in
-    let a = L.args in
-    L.loop-i.invariant.1
-    ∙ copy_all L.loop-i.i (little_endian (length a.bytes.now) a.x) a.bytes.now
+    let a = c.args in
+    c.loop-i.invariant.1
+    ∙ copy_all c.loop-i.i (little_endian (length a.bytes.now) a.x) a.bytes.now
     (omega (arith, length_digits (length a.bytes.now) a.x)) (omega arith)

@@ -22,5 +22,4 @@ bounds-f-1 c = omega (arith, two _ _ c.requires c.field-f.ensures)
 
 pub returns : goal.returns
 returns c =
-    let F = c in
-    c.word.ensures ∙ word_number F.field-f.result.now (two _ _ c.requires c.field-f.ensures) ∙ ap number_of F.field-f.ensures
+    c.word.ensures ∙ word_number c.field-f.result.now (two _ _ c.requires c.field-f.ensures) ∙ ap number_of c.field-f.ensures

@@ -13,10 +13,9 @@ bounds-f-i c = omega arith
 
 pub returns-then-not-is_hex : goal.returns-then-not-is_hex
 returns-then-not-is_hex c =
-    let L = c in
-    let a = L.args in
-    sym (every_stop is_hex a.f.now L.loop-i.i (omega arith) (sym c.is_hex.ensures ∙ c.if-not-is_hex.true))
-    ∙ L.loop-i.invariant.1
+    let a = c.args in
+    sym (every_stop is_hex a.f.now c.loop-i.i (omega arith) (sym c.is_hex.ensures ∙ c.if-not-is_hex.true))
+    ∙ c.loop-i.invariant.1
 
 pub overflow_add-i : goal.overflow_add-i
 overflow_add-i c = omega arith
@@ -26,15 +25,13 @@ loop-i-smaller c = omega arith
 
 pub loop-i-preserved : goal.loop-i-preserved
 loop-i-preserved c =
-    let L = c in
-    let a = L.args in (
+    let a = c.args in (
       omega arith,
-      sym (every_more is_hex a.f.now L.loop-i.i (omega arith) (sym c.is_hex.ensures ∙ c.if-not-is_hex.false))
-          ∙ L.loop-i.invariant.1,
+      sym (every_more is_hex a.f.now c.loop-i.i (omega arith) (sym c.is_hex.ensures ∙ c.if-not-is_hex.false))
+          ∙ c.loop-i.invariant.1,
     )
 
 pub returns : goal.returns
 returns c =
-    let L = c in
-    let a = L.args in
-    sym (every_end is_hex a.f.now L.loop-i.i (omega arith)) ∙ L.loop-i.invariant.1
+    let a = c.args in
+    sym (every_end is_hex a.f.now c.loop-i.i (omega arith)) ∙ c.loop-i.invariant.1

@@ -16,5 +16,4 @@ returns-then-out-at-2 c =
 
 pub returns : goal.returns
 returns c =
-    let p = c in
-    let a = p.args in record { written = c.write.ensures ∙ sym (appended-room a.at a.s.now a.out.now (omega (arith, p))); end = sym (end_room a.at a.s.now a.out.now (omega (arith, p))) }
+    let a = c.args in record { written = c.write.ensures ∙ sym (appended-room a.at a.s.now a.out.now (omega (arith, c))); end = sym (end_room a.at a.s.now a.out.now (omega (arith, c))) }

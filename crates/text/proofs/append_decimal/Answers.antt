@@ -12,6 +12,5 @@ slice_bounds-append-end c = omega (arith, c.write_digits-start.ensures.1)
 
 pub returns : goal.returns
 returns c =
-    let w = c in
-    let a = w.args in
-    let e = digits_part w.write_digits-start.new.b w.write_digits-start.result (decimal a.x) w.write_digits-start.ensures.1 w.write_digits-start.ensures.2 in record { written = c.append.ensures.written ∙ ap (λ (s : List ℕ). appended a.at s a.out.now) e; end = c.append.ensures.end ∙ ap (λ (s : List ℕ). end_of a.at s a.out.now) e }
+    let a = c.args in
+    let e = digits_part c.write_digits-start.new.b c.write_digits-start.result (decimal a.x) c.write_digits-start.ensures.1 c.write_digits-start.ensures.2 in record { written = c.append.ensures.written ∙ ap (λ (s : List ℕ). appended a.at s a.out.now) e; end = c.append.ensures.end ∙ ap (λ (s : List ℕ). end_of a.at s a.out.now) e }

@@ -18,6 +18,5 @@ returns-then-out-at-2 c =
 
 pub returns : goal.returns
 returns c =
-    let p = c in
-    let a = p.args in
-    let n = length-hexadecimal a.s.now in record { written = c.write_hex.ensures ∙ sym (appended-room a.at (hexadecimal a.s.now) a.out.now (omega (arith, p))); end = omega (arith, end_room a.at (hexadecimal a.s.now) a.out.now (omega (arith, p))) }
+    let a = c.args in
+    let n = length-hexadecimal a.s.now in record { written = c.write_hex.ensures ∙ sym (appended-room a.at (hexadecimal a.s.now) a.out.now (omega (arith, c))); end = omega (arith, end_room a.at (hexadecimal a.s.now) a.out.now (omega (arith, c))) }

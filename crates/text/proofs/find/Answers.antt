@@ -12,9 +12,8 @@ bounds-s-i c = omega arith
 
 pub returns-then-s-i : goal.returns-then-s-i
 returns-then-s-i c =
-    let L = c in
-    let a = L.args in
-    sym (find_at a.c a.s.now L.loop-i.i (omega arith) c.if-s-i.true) ∙ L.loop-i.invariant.1
+    let a = c.args in
+    sym (find_at a.c a.s.now c.loop-i.i (omega arith) c.if-s-i.true) ∙ c.loop-i.invariant.1
 
 pub overflow_add-i : goal.overflow_add-i
 overflow_add-i c = omega arith
@@ -24,12 +23,10 @@ loop-i-smaller c = omega arith
 
 pub loop-i-preserved : goal.loop-i-preserved
 loop-i-preserved c =
-    let L = c in
-    let a = L.args in
-    (omega arith, sym (find_past a.c a.s.now L.loop-i.i (omega arith) c.if-s-i.false) ∙ L.loop-i.invariant.1)
+    let a = c.args in
+    (omega arith, sym (find_past a.c a.s.now c.loop-i.i (omega arith) c.if-s-i.false) ∙ c.loop-i.invariant.1)
 
 pub returns : goal.returns
 returns c =
-    let L = c in
-    let a = L.args in
-    sym (find_end a.c a.s.now L.loop-i.i (omega arith)) ∙ L.loop-i.invariant.1
+    let a = c.args in
+    sym (find_end a.c a.s.now c.loop-i.i (omega arith)) ∙ c.loop-i.invariant.1

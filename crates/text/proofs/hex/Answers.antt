@@ -13,18 +13,15 @@ returns-then-is_digit c = sym (value_digit c.args.b (sym c.is_digit.ensures ∙ 
 
 pub overflow_sub-result-then-is_hex : goal.overflow_sub-result-then-is_hex
 overflow_sub-result-then-is_hex c =
-    let d = c in
     omega (
       arith,
-      letter_low d.args.b (sym d.is_digit.ensures ∙ c.if-is_digit.false) (sym c.is_hex.ensures ∙ c.if-is_hex.true),
+      letter_low c.args.b (sym c.is_digit.ensures ∙ c.if-is_digit.false) (sym c.is_hex.ensures ∙ c.if-is_hex.true),
     )
 
 pub returns-then-is_hex : goal.returns-then-is_hex
 returns-then-is_hex c =
-    let d = c in
-    sym (value_letter d.args.b (sym d.is_digit.ensures ∙ c.if-is_digit.false) (sym c.is_hex.ensures ∙ c.if-is_hex.true))
+    sym (value_letter c.args.b (sym c.is_digit.ensures ∙ c.if-is_digit.false) (sym c.is_hex.ensures ∙ c.if-is_hex.true))
 
 pub returns : goal.returns
 returns c =
-    let d = c in
-    sym (value_none d.args.b (sym d.is_digit.ensures ∙ c.if-is_digit.false) (sym c.is_hex.ensures ∙ c.if-is_hex.false))
+    sym (value_none c.args.b (sym c.is_digit.ensures ∙ c.if-is_digit.false) (sym c.is_hex.ensures ∙ c.if-is_hex.false))

@@ -8,10 +8,8 @@ returns-then-is_digit c = sym (hex_digit c.args.b (sym c.is_digit.ensures ∙ c.
 
 pub returns-then-b-lt97 : goal.returns-then-b-lt97
 returns-then-b-lt97 c =
-    let d = c in
-    sym (hex_below d.args.b (sym d.is_digit.ensures ∙ c.if-is_digit.false) c.if-b-lt97.true)
+    sym (hex_below c.args.b (sym c.is_digit.ensures ∙ c.if-is_digit.false) c.if-b-lt97.true)
 
 pub returns : goal.returns
 returns c =
-    let d = c in
-    sym (hex_from d.args.b (sym d.is_digit.ensures ∙ c.if-is_digit.false) c.if-b-lt97.false)
+    sym (hex_from c.args.b (sym c.is_digit.ensures ∙ c.if-is_digit.false) c.if-b-lt97.false)

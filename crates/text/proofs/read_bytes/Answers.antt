@@ -38,16 +38,15 @@ loop-i-smaller c = omega arith
 
 pub loop-i-preserved : goal.loop-i-preserved
 loop-i-preserved c =
-    let L = c in
-    let a = L.args in
-    let i = L.loop-i.i in
+    let a = c.args in
+    let i = c.loop-i.i in
     let s = bytes_of a.f.now in (
       omega arith,
       omega arith,
       omega arith,
-      ap₂ (λ (l : List ℕ) (v : ℕ). set l i v) L.loop-i.invariant.3 (c.byte.ensures ∙ sym (get_or-bytes a.f.now i (omega arith)))
+      ap₂ (λ (l : List ℕ) (v : ℕ). set l i v) c.loop-i.invariant.3 (c.byte.ensures ∙ sym (get_or-bytes a.f.now i (omega arith)))
           ∙ copy_more i s a.out.now (omega (arith, bytes_half a.f.now)) (omega arith),
-      simp length-set L.loop-i.invariant.4,
+      simp length-set c.loop-i.invariant.4,
     )
 
 pub shape_of-out : goal.shape_of-out
@@ -55,7 +54,6 @@ shape_of-out c = omega arith
 
 pub returns : goal.returns
 returns c =
-    let L = c in
-    let a = L.args in
-    L.loop-i.invariant.3
-    ∙ read_end (bytes_of a.f.now) a.out.now L.loop-i.i (omega (arith, L.smaller-n.ensures, bytes_half a.f.now))
+    let a = c.args in
+    c.loop-i.invariant.3
+    ∙ read_end (bytes_of a.f.now) a.out.now c.loop-i.i (omega (arith, c.smaller-n.ensures, bytes_half a.f.now))

@@ -22,9 +22,8 @@ returns-then-high-x c =
 
 pub returns : goal.returns
 returns c =
-    let h = c in
-    let a = h.args in
+    let a = c.args in
     let v = c.value-x in
     ap Value v.ensures
-    ∙ sym (value_read a.low a.high a.f.now (sym h.has_head.ensures ∙ c.if-not-has_head.false)
+    ∙ sym (value_read a.low a.high a.f.now (sym c.has_head.ensures ∙ c.if-not-has_head.false)
     (omega (arith, v.ensures)) (omega (arith, v.ensures)))

@@ -17,42 +17,37 @@ overflow_add-result c = omega (arith, c.ranges)
 
 pub returns-then-not-is_digit : goal.returns-then-not-is_digit
 returns-then-not-is_digit c =
-    let L = c in
-    let a = L.args in
-    sym (capped_stop a.high L.loop-i.x a.f.now L.loop-i.i (omega arith)
+    let a = c.args in
+    sym (capped_stop a.high c.loop-i.x a.f.now c.loop-i.i (omega arith)
     (sym c.is_digit.ensures ∙ c.if-not-is_digit.true))
-    ∙ L.loop-i.invariant.2
+    ∙ c.loop-i.invariant.2
 
 pub overflow_mul-x : goal.overflow_mul-x
 overflow_mul-x c = omega (arith, c.ranges)
 
 pub overflow_sub-x : goal.overflow_sub-x
 overflow_sub-x c =
-    let L = c in
-    omega (arith, digit_low (get_or L.args.f.now L.loop-i.i 0) (sym c.is_digit.ensures ∙ c.if-not-is_digit.false))
+    omega (arith, digit_low (get_or c.args.f.now c.loop-i.i 0) (sym c.is_digit.ensures ∙ c.if-not-is_digit.false))
 
 pub overflow_cast-x : goal.overflow_cast-x
 overflow_cast-x c =
-    let L = c in
-    omega (arith, digit_high (get_or L.args.f.now L.loop-i.i 0) (sym c.is_digit.ensures ∙ c.if-not-is_digit.false))
+    omega (arith, digit_high (get_or c.args.f.now c.loop-i.i 0) (sym c.is_digit.ensures ∙ c.if-not-is_digit.false))
 
 pub overflow_add-x : goal.overflow_add-x
 overflow_add-x c =
-    let L = c in
-    omega (arith, digit_high (get_or L.args.f.now L.loop-i.i 0) (sym c.is_digit.ensures ∙ c.if-not-is_digit.false), L.ranges)
+    omega (arith, digit_high (get_or c.args.f.now c.loop-i.i 0) (sym c.is_digit.ensures ∙ c.if-not-is_digit.false), c.ranges)
 
 pub overflow_add-result-then-high-x : goal.overflow_add-result-then-high-x
 overflow_add-result-then-high-x c = omega (arith, c.ranges)
 
 pub returns-then-high-x : goal.returns-then-high-x
 returns-then-high-x c =
-    let L = c in
-    let a = L.args in
+    let a = c.args in
     let f = a.f.now in
-    let i = L.loop-i.i in
-    sym (capped_more a.high L.loop-i.x f i (omega arith) (sym c.is_digit.ensures ∙ c.if-not-is_digit.false)
-    ∙ capped_over a.high (L.loop-i.x * 10 + (get_or f i 0 - 0x30)) (drop (i + 1) f) c.if-high-x.true)
-    ∙ L.loop-i.invariant.2
+    let i = c.loop-i.i in
+    sym (capped_more a.high c.loop-i.x f i (omega arith) (sym c.is_digit.ensures ∙ c.if-not-is_digit.false)
+    ∙ capped_over a.high (c.loop-i.x * 10 + (get_or f i 0 - 0x30)) (drop (i + 1) f) c.if-high-x.true)
+    ∙ c.loop-i.invariant.2
 
 pub overflow_add-i : goal.overflow_add-i
 overflow_add-i c = omega arith
@@ -62,15 +57,13 @@ loop-i-smaller c = omega arith
 
 pub loop-i-preserved : goal.loop-i-preserved
 loop-i-preserved c =
-    let L = c in
-    let a = L.args in (
+    let a = c.args in (
       omega arith,
       omega arith,
-      sym (capped_more a.high L.loop-i.x a.f.now L.loop-i.i (omega arith) (sym c.is_digit.ensures ∙ c.if-not-is_digit.false)) ∙ L.loop-i.invariant.2,
+      sym (capped_more a.high c.loop-i.x a.f.now c.loop-i.i (omega arith) (sym c.is_digit.ensures ∙ c.if-not-is_digit.false)) ∙ c.loop-i.invariant.2,
     )
 
 pub returns : goal.returns
 returns c =
-    let L = c in
-    let a = L.args in
-    sym (capped_end a.high L.loop-i.x a.f.now L.loop-i.i (omega arith) (omega arith)) ∙ L.loop-i.invariant.2
+    let a = c.args in
+    sym (capped_end a.high c.loop-i.x a.f.now c.loop-i.i (omega arith) (omega arith)) ∙ c.loop-i.invariant.2

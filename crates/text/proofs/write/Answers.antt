@@ -28,13 +28,12 @@ loop-i-smaller c = omega arith
 
 pub loop-i-preserved : goal.loop-i-preserved
 loop-i-preserved c =
-    let L = c in
-    let a = L.args in
-    let i = L.loop-i.i in (
+    let a = c.args in
+    let i = c.loop-i.i in (
       omega arith,
-      ap (λ (l : List ℕ). set l (a.at + i) (get_or a.s.now i 0)) L.loop-i.invariant.1
+      ap (λ (l : List ℕ). set l (a.at + i) (get_or a.s.now i 0)) c.loop-i.invariant.1
           ∙ write_turn a.at a.s.now a.out.now i (omega arith) (omega arith),
-      simp length-set L.loop-i.invariant.2,
+      simp length-set c.loop-i.invariant.2,
     )
 
 pub shape_of-out : goal.shape_of-out
@@ -42,6 +41,5 @@ shape_of-out c = omega arith
 
 pub returns : goal.returns
 returns c =
-    let L = c in
-    let a = L.args in
-    L.loop-i.invariant.1 ∙ write_end a.at a.s.now a.out.now L.loop-i.i (omega arith)
+    let a = c.args in
+    c.loop-i.invariant.1 ∙ write_end a.at a.s.now a.out.now c.loop-i.i (omega arith)

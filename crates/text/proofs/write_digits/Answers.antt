@@ -16,21 +16,19 @@ bounds-b-at c = omega arith
 
 pub overflow_sub-at : goal.overflow_sub-at
 overflow_sub-at c =
-    let L = c in
-    places_left L.loop-y.at L.loop-y.y (omega arith) L.loop-y.invariant.1
+    places_left c.loop-y.at c.loop-y.y (omega arith) c.loop-y.invariant.1
 
 pub loop-y-smaller : goal.loop-y-smaller
 loop-y-smaller c = omega arith
 
 pub loop-y-preserved : goal.loop-y-preserved
 loop-y-preserved c =
-    let L = c in
-    let k = places_left L.loop-y.at L.loop-y.y (omega arith) L.loop-y.invariant.1 in (
+    let k = places_left c.loop-y.at c.loop-y.y (omega arith) c.loop-y.invariant.1 in (
       omega arith,
-      places_turn L.loop-y.at L.loop-y.y k L.loop-y.invariant.1,
-      simp length-set L.loop-y.invariant.2,
-      sym (digits_turn L.loop-y.at L.loop-y.y c.digit_byte.result L.loop-y.b (omega arith) k (omega arith) c.digit_byte.ensures)
-          ∙ L.loop-y.invariant.3,
+      places_turn c.loop-y.at c.loop-y.y k c.loop-y.invariant.1,
+      simp length-set c.loop-y.invariant.2,
+      sym (digits_turn c.loop-y.at c.loop-y.y c.digit_byte.result c.loop-y.b (omega arith) k (omega arith) c.digit_byte.ensures)
+          ∙ c.loop-y.invariant.3,
     )
 
 pub digit_byte-requires-2 : goal.digit_byte-requires-2
@@ -40,9 +38,8 @@ pub bounds-b-at-2 : goal.bounds-b-at-2
 bounds-b-at-2 c = omega arith
 
 pub returns : goal.returns
-returns c =
-    let L = c in (
-      omega arith,
-      simp length-set L.loop-y.invariant.2,
-      sym (digits_end L.loop-y.at L.loop-y.y c.digit_byte-2.result L.loop-y.b (omega arith) (omega arith) c.digit_byte-2.ensures) ∙ L.loop-y.invariant.3,
-    )
+returns c = (
+  omega arith,
+  simp length-set c.loop-y.invariant.2,
+  sym (digits_end c.loop-y.at c.loop-y.y c.digit_byte-2.result c.loop-y.b (omega arith) (omega arith) c.digit_byte-2.ensures) ∙ c.loop-y.invariant.3,
+)

@@ -53,14 +53,13 @@ loop-i-smaller c = omega arith
 
 pub loop-i-preserved : goal.loop-i-preserved
 loop-i-preserved c =
-    let L = c in
-    let a = L.args in
-    let i = L.loop-i.i in (
+    let a = c.args in
+    let i = c.loop-i.i in (
       omega arith,
-      ap (λ (l : List ℕ). set (set l (a.at + 2 * i) c.hex_byte.result) (a.at + 2 * i + 1) c.hex_byte-in-loop-i.result) L.loop-i.invariant.1
+      ap (λ (l : List ℕ). set (set l (a.at + 2 * i) c.hex_byte.result) (a.at + 2 * i + 1) c.hex_byte-in-loop-i.result) c.loop-i.invariant.1
           ∙ hex_turn a.at a.s.now a.out.now i c.hex_byte.result c.hex_byte-in-loop-i.result (omega arith) (omega arith)
           c.hex_byte.ensures c.hex_byte-in-loop-i.ensures,
-      simp length-set L.loop-i.invariant.2,
+      simp length-set c.loop-i.invariant.2,
     )
 
 pub shape_of-out : goal.shape_of-out
@@ -68,7 +67,6 @@ shape_of-out c = omega arith
 
 pub returns : goal.returns
 returns c =
-    let L = c in
-    let a = L.args in
-    L.loop-i.invariant.1
-    ∙ write_end a.at (hexadecimal a.s.now) a.out.now (2 * L.loop-i.i) (omega (arith, length-hexadecimal a.s.now))
+    let a = c.args in
+    c.loop-i.invariant.1
+    ∙ write_end a.at (hexadecimal a.s.now) a.out.now (2 * c.loop-i.i) (omega (arith, length-hexadecimal a.s.now))

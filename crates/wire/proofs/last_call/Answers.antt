@@ -10,10 +10,8 @@ returns-then-m-eq8 c = rw (ne_eqb c.args.m 7 c.if-m-eq7.false, eq-eqb c.args.m 8
 
 pub returns-then-m-eq9 : goal.returns-then-m-eq9
 returns-then-m-eq9 c =
-    let S = c in
-    rw (ne_eqb S.args.m 7 c.if-m-eq7.false, ne_eqb S.args.m 8 c.if-m-eq8.false, eq-eqb S.args.m 9 c.if-m-eq9.true)
+    rw (ne_eqb c.args.m 7 c.if-m-eq7.false, ne_eqb c.args.m 8 c.if-m-eq8.false, eq-eqb c.args.m 9 c.if-m-eq9.true)
 
 pub returns : goal.returns
 returns c =
-    let S = c in
-    rw (ne_eqb S.args.m 7 c.if-m-eq7.false, ne_eqb S.args.m 8 c.if-m-eq8.false, ne_eqb S.args.m 9 c.if-m-eq9.false)
+    rw (ne_eqb c.args.m 7 c.if-m-eq7.false, ne_eqb c.args.m 8 c.if-m-eq8.false, ne_eqb c.args.m 9 c.if-m-eq9.false)

@@ -24,35 +24,32 @@ returns-then-c-eq2 c =
 pub returns-then-c-eq3 : goal.returns-then-c-eq3
 unfolding round_kind
 returns-then-c-eq3 c =
-    let B = c in
-    let a = B.args in
-    rw (ne_eqb a.c 0 B.if-c-eq0.false, ne_eqb a.c 1 c.if-c-eq1.false, ne_eqb a.c 2 c.if-c-eq2.false, eq-eqb a.c 3 c.if-c-eq3.true)
+    let a = c.args in
+    rw (ne_eqb a.c 0 c.if-c-eq0.false, ne_eqb a.c 1 c.if-c-eq1.false, ne_eqb a.c 2 c.if-c-eq2.false, eq-eqb a.c 3 c.if-c-eq3.true)
 
 pub returns-then-c-t : goal.returns-then-c-t
 unfolding round_kind
 returns-then-c-t c =
-    let W = c in
-    let a = W.args in
+    let a = c.args in
     c.phase_round.ensures
     ∙ rw (
-      ne_eqb a.c 0 W.if-c-eq0.false,
-      ne_eqb a.c 1 W.if-c-eq1.false,
-      ne_eqb a.c 2 W.if-c-eq2.false,
-      ne_eqb a.c 3 W.if-c-eq3.false,
-      yes_vote a.t a.c (from_four a.c W.if-c-eq0.false W.if-c-eq1.false
-          W.if-c-eq2.false W.if-c-eq3.false) W.if-c-t.true,
+      ne_eqb a.c 0 c.if-c-eq0.false,
+      ne_eqb a.c 1 c.if-c-eq1.false,
+      ne_eqb a.c 2 c.if-c-eq2.false,
+      ne_eqb a.c 3 c.if-c-eq3.false,
+      yes_vote a.t a.c (from_four a.c c.if-c-eq0.false c.if-c-eq1.false
+          c.if-c-eq2.false c.if-c-eq3.false) c.if-c-t.true,
     )
 
 pub returns : goal.returns
 unfolding round_kind
 returns c =
-    let W = c in
-    let a = W.args in
+    let a = c.args in
     c.last_round.ensures
     ∙ rw (
-      ne_eqb a.c 0 W.if-c-eq0.false,
-      ne_eqb a.c 1 W.if-c-eq1.false,
-      ne_eqb a.c 2 W.if-c-eq2.false,
-      ne_eqb a.c 3 W.if-c-eq3.false,
-      no_vote a.t a.c W.if-c-t.false,
+      ne_eqb a.c 0 c.if-c-eq0.false,
+      ne_eqb a.c 1 c.if-c-eq1.false,
+      ne_eqb a.c 2 c.if-c-eq2.false,
+      ne_eqb a.c 3 c.if-c-eq3.false,
+      no_vote a.t a.c c.if-c-t.false,
     )

@@ -6,12 +6,10 @@ use Rattle.boards.proofs.code.potekawhi_decode.Goals as goal
 
 pub returns : goal.returns
 returns c =
-    let D = c in
-    let L = D in
-    let a = L.args in (
-      D.decode-decoded.result,
+    let a = c.args in (
+      c.decode-decoded.result,
       c.decoded_number.ensures,
-      subst (λ (l : Layout). Answers a.n a.t l a.slots.now a.block.now D.decode-decoded.result D.decode-decoded.new.block)
-          L.layout_with-layout.ensures D.decode-decoded.ensures,
+      subst (λ (l : Layout). Answers a.n a.t l a.slots.now a.block.now c.decode-decoded.result c.decode-decoded.new.block)
+          c.layout_with-layout.ensures c.decode-decoded.ensures,
       c.decoded_marks.ensures,
     )

@@ -14,11 +14,7 @@ returns-then-pairs-ne15 c =
 
 pub returns : goal.returns
 returns c =
-    let C = c in
-    let B = C in
-    let G = B in
-    let I = G in
-    let a = I.args in
-    pairs_right a.n a.rows.now a.pairs.now I.if-rows-ne32.false I.if-pairs-ne15.false G.get_rows-graph.result G.get_rows-graph.ensures
-    B.bits_of-bits.result B.bits_of-bits.ensures
-    C.copy.new.dst C.copy.ensures
+    let a = c.args in
+    pairs_right a.n a.rows.now a.pairs.now c.if-rows-ne32.false c.if-pairs-ne15.false c.get_rows-graph.result c.get_rows-graph.ensures
+    c.bits_of-bits.result c.bits_of-bits.ensures
+    c.copy.new.dst c.copy.ensures

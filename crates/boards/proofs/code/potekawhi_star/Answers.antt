@@ -16,11 +16,7 @@ returns-then-sets-ne8 c =
 
 pub returns : goal.returns
 returns c =
-    let P = c in
-    let F = P in
-    let G = F in
-    let I = G in
-    let a = I.args in
-    P.put_star.ensures
-    ∙ star_right a.n a.t a.rows.now a.sets.now I.if-rows-ne32.false I.if-sets-ne8.false G.get_rows-graph.result G.get_rows-graph.ensures
-    F.find-found.result (star_of_lem _ _ _ _ F.find-found.ensures)
+    let a = c.args in
+    c.put_star.ensures
+    ∙ star_right a.n a.t a.rows.now a.sets.now c.if-rows-ne32.false c.if-sets-ne8.false c.get_rows-graph.result c.get_rows-graph.ensures
+    c.find-found.result (star_of_lem _ _ _ _ c.find-found.ensures)

@@ -16,11 +16,7 @@ returns-then-sets-ne8 c =
 
 pub returns : goal.returns
 returns c =
-    let P = c in
-    let F = P in
-    let C = F in
-    let I = C in
-    let a = I.args in
-    P.put_star.ensures
-    ∙ pair_star_right a.n a.t a.pairs.now a.sets.now I.if-pairs-ne15.false I.if-sets-ne8.false C.copy.new.dst C.copy.ensures
-    F.of_bits-found.result (star_of-pairs _ _ _ _ F.of_bits-found.ensures)
+    let a = c.args in
+    c.put_star.ensures
+    ∙ pair_star_right a.n a.t a.pairs.now a.sets.now c.if-pairs-ne15.false c.if-sets-ne8.false c.copy.new.dst c.copy.ensures
+    c.of_bits-found.result (star_of-pairs _ _ _ _ c.of_bits-found.ensures)

@@ -9,7 +9,5 @@ returns-then-number-ne0 c =
 
 pub returns : goal.returns
 returns c =
-    let P = c in
-    let N = P in
-    let a = N.args in
-    sets_carried a.s a.sets.now N.if-number-ne0.false P.put_sets.new.sets P.put_sets.ensures
+    let a = c.args in
+    sets_carried a.s a.sets.now c.if-number-ne0.false c.put_sets.new.sets c.put_sets.ensures

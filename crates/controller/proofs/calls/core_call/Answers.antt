@@ -12,13 +12,10 @@ use Rattle.controller.proofs.calls.core_call.Goals as goal
 
 pub returns : goal.returns
 returns c =
-    let P = c in
-    let F = P in
-    let E = F in
-    let a = E.args in
-    let m = E.settled-rows.ensures in
-    let e = ap (λ (s : Sets). s.e) (star_of_lem _ _ _ _ F.find-sets.ensures) ∙ ap (λ (r : List ℕ). (star_of r a.s.settings.n a.s.settings.t).e) m in
-    let o = P.forward.ensures ∙ ap
+    let a = c.args in
+    let m = c.settled-rows.ensures in
+    let e = ap (λ (s : Sets). s.e) (star_of_lem _ _ _ _ c.find-sets.ensures) ∙ ap (λ (r : List ℕ). (star_of r a.s.settings.n a.s.settings.t).e) m in
+    let o = c.forward.ensures ∙ ap
     (λ (x : ℕ). forwarded a.s.run a.s.settings.n a.s.settings.t a.s.settings.k a.s.own x a.block.now a.outbox.now) e in
     let s = c.with_core.ensures ∙ (λ x. with_core (c.open-next.ensures x) (m x) (e x)) in
     λ x. carried (s x) a.block.now (o x)

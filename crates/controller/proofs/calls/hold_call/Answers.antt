@@ -9,14 +9,9 @@ use Rattle.controller.proofs.calls.hold_call.Goals as goal
 
 pub returns : goal.returns
 returns c =
-    let P = c in
-    let O = P in
-    let K = O in
-    let C = K in
-    let S = C in
-    let a = S.args in
-    let m = C.hold-held.ensures ∙ ap (λ (l : Layout). hold_answer a.inbox.now l a.s.settings.n a.s.settings.t) C.inbox_layout-layout.ensures in
-    let o = P.send_as_king.ensures
-    ∙ (λ x. sent_by_king (O.outbox_layout-out.ensures x) a.s.own (K.phase-king.ensures x) a.s.settings.n (m x).rows a.outbox.now) in
+    let a = c.args in
+    let m = c.hold-held.ensures ∙ ap (λ (l : Layout). hold_answer a.inbox.now l a.s.settings.n a.s.settings.t) c.inbox_layout-layout.ensures in
+    let o = c.send_as_king.ensures
+    ∙ (λ x. sent_by_king (c.outbox_layout-out.ensures x) a.s.own (c.phase-king.ensures x) a.s.settings.n (m x).rows a.outbox.now) in
     let s = c.with_votes.ensures ∙ (λ x. with_votes (c.open-next.ensures x) (m x).rows (m x).weak) in
     λ x. carried (s x) [] (o x)

@@ -9,12 +9,9 @@ use Rattle.controller.proofs.calls.receive_call.Goals as goal
 
 pub returns : goal.returns
 returns c =
-    let P = c in
-    let R = P in
-    let L = R in
-    let a = L.args in
-    let e = R.receive_block.ensures ∙ ap (λ (l : Layout). received_block a.inbox.now l a.s.settings.sender a.block.now)
-    L.inbox_layout-layout.ensures in
-    let o = P.send_pieces.ensures ∙ ap
+    let a = c.args in
+    let e = c.receive_block.ensures ∙ ap (λ (l : Layout). received_block a.inbox.now l a.s.settings.sender a.block.now)
+    c.inbox_layout-layout.ensures in
+    let o = c.send_pieces.ensures ∙ ap
     (λ (b : List ℕ). sent_pieces a.s.run a.s.settings.n a.s.settings.t a.s.settings.k a.s.own b a.outbox.now) e in
     λ x. carried (c.open.ensures x) (e x) (o x)

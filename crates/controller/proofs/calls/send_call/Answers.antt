@@ -7,9 +7,8 @@ use Rattle.controller.proofs.calls.send_call.Goals as goal
 
 pub returns : goal.returns
 returns c =
-    let B = c in
-    let a = B.args in
-    let o = B.send_block.ensures ∙ ap
+    let a = c.args in
+    let o = c.send_block.ensures ∙ ap
     (λ (l : Layout). sent_block l a.s.settings.n a.s.own a.s.settings.sender a.block.now a.outbox.now)
-    B.outbox_layout-layout.ensures in
+    c.outbox_layout-layout.ensures in
     λ x. carried (c.open.ensures x) a.block.now (o x)

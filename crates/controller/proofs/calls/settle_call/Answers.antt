@@ -11,13 +11,9 @@ use Rattle.controller.proofs.calls.settle_call.Goals as goal
 
 pub returns : goal.returns
 returns c =
-    let P = c in
-    let O = P in
-    let C = O in
-    let S = C in
-    let a = S.args in
-    let few : min a.s.settings.n 16 ≡ a.s.settings.n = omega (arith, S.requires.few) in
-    let m = C.settled-rows.ensures in
-    let o = P.send_matrix.ensures ∙ (λ x. to_all (O.outbox_layout-out.ensures x) (few x) (rows_of a.s.settings.n (m x)) a.outbox.now) in
+    let a = c.args in
+    let few : min a.s.settings.n 16 ≡ a.s.settings.n = omega (arith, c.requires.few) in
+    let m = c.settled-rows.ensures in
+    let o = c.send_matrix.ensures ∙ (λ x. to_all (c.outbox_layout-out.ensures x) (few x) (rows_of a.s.settings.n (m x)) a.outbox.now) in
     let s = c.with_matrix.ensures ∙ ap₂ with_matrix c.open-next.ensures m in
     λ x. carried (s x) [] (o x)

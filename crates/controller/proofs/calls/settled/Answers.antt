@@ -8,8 +8,7 @@ use Rattle.controller.proofs.calls.settled.Goals as goal
 
 pub returns : goal.returns
 returns c =
-    let K = c in
-    let a = K.args in
-    ap (λ (m : Matrix). m.rows) K.settle-m.ensures
+    let a = c.args in
+    ap (λ (m : Matrix). m.rows) c.settle-m.ensures
     ∙ ap₂ (λ (l : Layout) (k : ℕ). settled_of a.s.matrix a.s.weak a.inbox.now l a.s.settings.n k)
-    K.inbox_layout-layout.ensures K.phase.ensures
+    c.inbox_layout-layout.ensures c.phase.ensures

@@ -11,14 +11,10 @@ use Rattle.controller.proofs.calls.tally_call.Goals as goal
 
 pub returns : goal.returns
 returns c =
-    let P = c in
-    let O = P in
-    let C = O in
-    let S = C in
-    let a = S.args in
-    let few : min a.s.settings.n 16 ≡ a.s.settings.n = omega (arith, S.requires.few) in
-    let m = C.tally-seen.ensures ∙ ap (λ (l : Layout). tally_answer a.inbox.now l a.s.settings.n a.s.settings.t)
-    C.inbox_layout-layout.ensures in
-    let o = P.send_seen.ensures ∙ (λ x. to_all (O.outbox_layout-out.ensures x) (few x) (seen_message a.s.settings.n (m x).zeros (m x).ones)
+    let a = c.args in
+    let few : min a.s.settings.n 16 ≡ a.s.settings.n = omega (arith, c.requires.few) in
+    let m = c.tally-seen.ensures ∙ ap (λ (l : Layout). tally_answer a.inbox.now l a.s.settings.n a.s.settings.t)
+    c.inbox_layout-layout.ensures in
+    let o = c.send_seen.ensures ∙ (λ x. to_all (c.outbox_layout-out.ensures x) (few x) (seen_message a.s.settings.n (m x).zeros (m x).ones)
     a.outbox.now) in
     λ x. carried (c.open.ensures x) [] (o x)

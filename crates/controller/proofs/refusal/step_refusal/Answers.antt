@@ -45,15 +45,13 @@ lengths_fit-requires c = (let fine3 : Valid c.args.s.settings c.args.s.own = let
 pub returns-then-lengths_fit : goal.returns-then-lengths_fit
 returns-then-lengths_fit c =
     let a = c.args in
-    let L = c in
-    sym (lengths_decide a.s a.b a.i a.o (let fine3 : Valid c.args.s.settings c.args.s.own = let a = c.args in settings-valid a.s a.b a.i a.o (sym c.bad_settings.ensures ∙ c.if-bad_settings.false) in fine3) (omega (arith, L.if-next-lt1.false))
-    (omega (arith, L.if-t-next.false)) L.if-next-t.false
+    sym (lengths_decide a.s a.b a.i a.o (let fine3 : Valid c.args.s.settings c.args.s.own = let a = c.args in settings-valid a.s a.b a.i a.o (sym c.bad_settings.ensures ∙ c.if-bad_settings.false) in fine3) (omega (arith, c.if-next-lt1.false))
+    (omega (arith, c.if-t-next.false)) c.if-next-t.false
     ∙ ap (λ (x : Bool). cond (not x) 6 0) (sym c.lengths_fit.ensures ∙ c.if-lengths_fit.true))
 
 pub returns : goal.returns
 returns c =
     let a = c.args in
-    let L = c in
-    sym (lengths_decide a.s a.b a.i a.o (let fine3 : Valid c.args.s.settings c.args.s.own = let a = c.args in settings-valid a.s a.b a.i a.o (sym c.bad_settings.ensures ∙ c.if-bad_settings.false) in fine3) (omega (arith, L.if-next-lt1.false))
-    (omega (arith, L.if-t-next.false)) L.if-next-t.false
+    sym (lengths_decide a.s a.b a.i a.o (let fine3 : Valid c.args.s.settings c.args.s.own = let a = c.args in settings-valid a.s a.b a.i a.o (sym c.bad_settings.ensures ∙ c.if-bad_settings.false) in fine3) (omega (arith, c.if-next-lt1.false))
+    (omega (arith, c.if-t-next.false)) c.if-next-t.false
     ∙ ap (λ (x : Bool). cond (not x) 6 0) (sym c.lengths_fit.ensures ∙ c.if-lengths_fit.false))

@@ -11,18 +11,13 @@ use Rattle.phase_king.proofs.send.send_matrix.Goals as goal
 
 pub slice_bounds-send_all-end : goal.slice_bounds-send_all-end
 slice_bounds-send_all-end c =
-    let R = c in
-    sym (length-take-le R.rows_length-end.result R.write_rows.new.out (omega arith))
+    sym (length-take-le c.rows_length-end.result c.write_rows.new.out (omega arith))
 
 pub returns : goal.returns
 returns c =
-    let A = c in
-    let L = A in
-    let R = L in
-    let W = R in
-    let a = W.args in
+    let a = c.args in
     let o : List ℕ = replicate 32 0 in
-    let end = R.rows_length-end.result in
-    is_to_all a.layout a.n L.limit.result (rows_of a.n a.rows.now) (take end W.write_rows.new.out) a.outbox.now A.send_all.new.outbox
-    L.limit.ensures (rows_front a.n end a.rows.now W.write_rows.new.out o R.rows_length-end.ensures (omega arith) W.write_rows.ensures)
-    A.send_all.ensures
+    let end = c.rows_length-end.result in
+    is_to_all a.layout a.n c.limit.result (rows_of a.n a.rows.now) (take end c.write_rows.new.out) a.outbox.now c.send_all.new.outbox
+    c.limit.ensures (rows_front a.n end a.rows.now c.write_rows.new.out o c.rows_length-end.ensures (omega arith) c.write_rows.ensures)
+    c.send_all.ensures

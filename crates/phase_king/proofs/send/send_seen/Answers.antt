@@ -12,21 +12,16 @@ use Rattle.phase_king.proofs.send.send_seen.Goals as goal
 
 pub slice_bounds-send_all-end : goal.slice_bounds-send_all-end
 slice_bounds-send_all-end c =
-    let R = c in
-    sym (length-take-le (2 * R.rows_length-end.result) R.write_seen.new.m (omega arith))
+    sym (length-take-le (2 * c.rows_length-end.result) c.write_seen.new.m (omega arith))
 
 pub returns : goal.returns
 returns c =
-    let A = c in
-    let L = A in
-    let R = L in
-    let W = R in
-    let a = W.args in
+    let a = c.args in
     let o : List ℕ = replicate 64 0 in
     let m : List ℕ = seen_message a.n a.zeros.now a.ones.now in
-    let end = 2 * R.rows_length-end.result in
-    is_to_all a.layout a.n L.limit.result m (take end W.write_seen.new.m) a.outbox.now A.send_all.new.outbox
-    L.limit.ensures
-    (front_of m W.write_seen.new.m (drop (2 * rows_length a.n) o) end W.write_seen.ensures
+    let end = 2 * c.rows_length-end.result in
+    is_to_all a.layout a.n c.limit.result m (take end c.write_seen.new.m) a.outbox.now c.send_all.new.outbox
+    c.limit.ensures
+    (front_of m c.write_seen.new.m (drop (2 * rows_length a.n) o) end c.write_seen.ensures
     (length_seen a.n a.zeros.now a.ones.now ∙ omega arith))
-    A.send_all.ensures
+    c.send_all.ensures

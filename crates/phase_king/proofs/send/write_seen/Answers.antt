@@ -4,9 +4,7 @@ use Rattle.phase_king.proofs.send.write_seen.Goals as goal
 
 pub returns : goal.returns
 returns c =
-    let L = c in
-    let W = L in
-    let a = W.args in
-    seen_written a.n L.rows_length-start.result a.zeros.now a.ones.now a.m.now W.write_rows.new.out
+    let a = c.args in
+    seen_written a.n c.rows_length-start.result a.zeros.now a.ones.now a.m.now c.write_rows.new.out
     c.write_rows-2.new.out
-    L.rows_length-start.ensures W.requires W.write_rows.ensures c.write_rows-2.ensures
+    c.rows_length-start.ensures c.requires c.write_rows.ensures c.write_rows-2.ensures

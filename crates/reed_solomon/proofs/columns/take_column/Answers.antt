@@ -14,13 +14,11 @@ loop-s-init c = (omega arith, refl, omega (arith, zero-mul c.args.w), sym (fille
 
 pub bounds-l-at : goal.bounds-l-at
 bounds-l-at c =
-    let S = c in
-    omega (arith, slot_within (length S.args.out.now) S.args.w c.loop-s.s (omega arith), S.requires.0)
+    omega (arith, slot_within (length c.args.out.now) c.args.w c.loop-s.s (omega arith), c.requires.0)
 
 pub overflow_add-at : goal.overflow_add-at
 overflow_add-at c =
-    let S = c in
-    omega (arith, slot_within (length S.args.out.now) S.args.w c.loop-s.s (omega arith), S.requires.0)
+    omega (arith, slot_within (length c.args.out.now) c.args.w c.loop-s.s (omega arith), c.requires.0)
 
 pub loop-s-smaller : goal.loop-s-smaller
 loop-s-smaller c = omega arith

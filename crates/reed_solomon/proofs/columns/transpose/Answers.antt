@@ -23,28 +23,24 @@ loop-j-init c =
 
 pub overflow_mul-a : goal.overflow_mul-a
 overflow_mul-a c =
-    let S = c in
-    omega (arith, column-within S.args.h S.args.w c.loop-j.j (length S.args.l.now) (omega arith) S.requires.0)
+    omega (arith, column-within c.args.h c.args.w c.loop-j.j (length c.args.l.now) (omega arith) c.requires.0)
 
 pub overflow_add-e : goal.overflow_add-e
 overflow_add-e c =
-    let S = c in
-    omega (arith, column-within S.args.h S.args.w c.loop-j.j (length S.args.l.now) (omega arith) S.requires.0)
+    omega (arith, column-within c.args.h c.args.w c.loop-j.j (length c.args.l.now) (omega arith) c.requires.0)
 
 pub slice_bounds-take_column-end : goal.slice_bounds-take_column-end
 slice_bounds-take_column-end c =
-    let S = c in
-    omega (arith, column-within S.args.h S.args.w c.loop-j.j (length S.args.out.now) (omega arith) S.requires.1)
+    omega (arith, column-within c.args.h c.args.w c.loop-j.j (length c.args.out.now) (omega arith) c.requires.1)
 
 pub take_column-requires : goal.take_column-requires
 take_column-requires c =
-    let S = c in
-    let a = S.args in
+    let a = c.args in
     let l = c.loop-j in
     let z = l.j * a.h in
     let lent : length (take (z + a.h - z) (drop z l.out)) ≡ a.h =
-    length-lent z a.h l.out (omega (arith, column-within a.h a.w l.j (length a.out.now) (omega arith) S.requires.1, l.invariant.1)) in
-    (S.requires.0 ∙ ap (λ n. n * a.w) (sym lent), omega arith, S.requires.3)
+    length-lent z a.h l.out (omega (arith, column-within a.h a.w l.j (length a.out.now) (omega arith) c.requires.1, l.invariant.1)) in
+    (c.requires.0 ∙ ap (λ n. n * a.w) (sym lent), omega arith, c.requires.3)
 
 pub loop-j-preserved : goal.loop-j-preserved
 loop-j-preserved c =
@@ -52,11 +48,10 @@ loop-j-preserved c =
     let l = c.loop-j in
     let d = c.take_column in
     let m = d.new.out in
-    let S = c in
     let z = l.j * a.h in
     let g : ℕ → List ℕ = λ i. every a.w a.l.now i a.h in
     let lent : length (take (z + a.h - z) (drop z l.out)) ≡ a.h =
-    length-lent z a.h l.out (omega (arith, column-within a.h a.w l.j (length a.out.now) (omega arith) S.requires.1, l.invariant.1)) in (
+    length-lent z a.h l.out (omega (arith, column-within a.h a.w l.j (length a.out.now) (omega arith) c.requires.1, l.invariant.1)) in (
       omega arith,
       same_len_mid z (z + a.h - z) l.out m d.auto.out ∙ l.invariant.1,
       ap (λ (x : List ℕ). put_mid z (z + a.h - z) x m) l.invariant.2
@@ -73,12 +68,11 @@ shape_of-out c = c.loop-j.invariant.1
 pub returns : goal.returns
 unfolding transposed
 returns c =
-    let S = c in
-    let a = S.args in
+    let a = c.args in
     let l = c.loop-j in
     let g : ℕ → List ℕ = λ i. every a.w a.l.now i a.h in
     let e : l.j ≡ a.w = omega arith in
     l.invariant.2
     ∙ ap (λ (x : List ℕ). joined g l.j ++ x)
-    (drop_of_length-le a.out.now {i = l.j * a.h} (omega (arith, S.requires.1, ap (λ n. n * a.h) e, mul_comm a.w a.h)))
+    (drop_of_length-le a.out.now {i = l.j * a.h} (omega (arith, c.requires.1, ap (λ n. n * a.h) e, mul_comm a.w a.h)))
     ∙ append-nil (joined g l.j) ∙ ap (joined g) e

@@ -23,55 +23,47 @@ before r t n j a e q h g =
 
 pub overflow_mul-a : goal.overflow_mul-a
 overflow_mul-a c =
-    let S = c in
-    omega (arith, last (length S.args.out.now) S.args.t (length S.args.cols.now) S.requires.0)
+    omega (arith, last (length c.args.out.now) c.args.t (length c.args.cols.now) c.requires.0)
 
 pub slice_bounds-copy-count : goal.slice_bounds-copy-count
 slice_bounds-copy-count c =
-    let S = c in
-    omega (arith, last (length S.args.out.now) S.args.t (length S.args.cols.now) S.requires.0)
+    omega (arith, last (length c.args.out.now) c.args.t (length c.args.cols.now) c.requires.0)
 
 pub slice_bounds-copy-start : goal.slice_bounds-copy-start
 slice_bounds-copy-start c =
-    let S = c in
-    omega (arith, last (length S.args.out.now) S.args.t (length S.args.cols.now) S.requires.0)
+    omega (arith, last (length c.args.out.now) c.args.t (length c.args.cols.now) c.requires.0)
 
 pub loop-a-init : goal.loop-a-init
 loop-a-init c =
-    let S = c in
-    let a = S.args in
+    let a = c.args in
     let r = length a.out.now in
     let cols = a.cols.now in
     let m = c.copy in
     let rest = part_rest (a.t * r) cols in
-    let size : length (drop (a.t * r) cols) ≡ r = omega (arith, length-drop (a.t * r) cols, last r a.t (length cols) S.requires.0) in
+    let size : length (drop (a.t * r) cols) ≡ r = omega (arith, length-drop (a.t * r) cols, last r a.t (length cols) c.requires.0) in
     let is = m.ensures ∙ ap (λ (l : List ℕ). copied l a.out.now) rest ∙ copied_all (drop (a.t * r) cols) a.out.now size in
-    (a.t, ap length is ∙ size, refl, omega arith, is ∙ row_end r a.t cols a.x S.requires.0)
+    (a.t, ap length is ∙ size, refl, omega arith, is ∙ row_end r a.t cols a.x c.requires.0)
 
 pub overflow_sub-a : goal.overflow_sub-a
 overflow_sub-a c =
-    let S = c in
     let l = c.loop-a in
-    (before (length S.args.out.now) S.args.t (length S.args.cols.now) l.invariant.0 l.a S.requires.0 l.invariant.2 l.invariant.3 (omega arith)).0
+    (before (length c.args.out.now) c.args.t (length c.args.cols.now) l.invariant.0 l.a c.requires.0 l.invariant.2 l.invariant.3 (omega arith)).0
 
 pub slice_bounds-horner_at_point-count : goal.slice_bounds-horner_at_point-count
 slice_bounds-horner_at_point-count c = omega arith
 
 pub slice_bounds-horner_at_point-end : goal.slice_bounds-horner_at_point-end
 slice_bounds-horner_at_point-end c =
-    let S = c in
     let l = c.loop-a in
-    (before (length S.args.out.now) S.args.t (length S.args.cols.now) l.invariant.0 l.a S.requires.0 l.invariant.2 l.invariant.3 (omega arith)).1
+    (before (length c.args.out.now) c.args.t (length c.args.cols.now) l.invariant.0 l.a c.requires.0 l.invariant.2 l.invariant.3 (omega arith)).1
 
 pub loop-a-smaller : goal.loop-a-smaller
 loop-a-smaller c =
-    let S = c in
-    omega (arith, S.requires.1, c.loop-a-test.true)
+    omega (arith, c.requires.1, c.loop-a-test.true)
 
 pub loop-a-preserved : goal.loop-a-preserved
 loop-a-preserved c =
-    let S = c in
-    let a = S.args in
+    let a = c.args in
     let r = length a.out.now in
     let l = c.loop-a in
     let d = c.horner_at_point in
@@ -86,10 +78,9 @@ shape_of-out c = c.loop-a.invariant.1
 
 pub returns : goal.returns
 returns c =
-    let S = c in
-    let a = S.args in
+    let a = c.args in
     let r = length a.out.now in
     let l = c.loop-a in
-    let none : l.invariant.0 ≡ 0 = multiple_zero l.invariant.0 r S.requires.1 (omega (arith, l.invariant.2, c.loop-a-test.false)) in
+    let none : l.invariant.0 ≡ 0 = multiple_zero l.invariant.0 r c.requires.1 (omega (arith, l.invariant.2, c.loop-a-test.false)) in
     l.invariant.4 ∙ ap (rows_from r (standing r a.t a.cols.now a.x) a.x) none
     ∙ row_all r a.t a.cols.now a.x (λ i. omega (arith, c.shared_slice_known-1.given i))

@@ -33,13 +33,11 @@ module _ (n t : ℕ) (layout : Layout) (slots block : List ℕ) (named : ℕ) (c
 
 pub slice_bounds-compare-end : goal.slice_bounds-compare-end
 slice_bounds-compare-end c =
-    let S = c in
-    sym (length_front 128 S.args.layout.length S.requires.0.k_most)
+    sym (length_front 128 c.args.layout.length c.requires.0.k_most)
 
 pub compare-named-requires : goal.compare-named-requires
 compare-named-requires c =
-    let S = c in
-    (S.requires.0, S.requires.2, S.requires.3, S.requires.4, take-zeros 128 S.args.layout.length S.requires.0.k_most)
+    (c.requires.0, c.requires.2, c.requires.3, c.requires.4, take-zeros 128 c.args.layout.length c.requires.0.k_most)
 
 pub slice_bounds-counts-end-2 : goal.slice_bounds-counts-end-2
 slice_bounds-counts-end-2 c =
@@ -55,12 +53,11 @@ slice_bounds-first_wrong-end c =
 
 pub first_wrong-wrong-requires : goal.first_wrong-wrong-requires
 first_wrong-wrong-requires c =
-    let S = c in
-    let a = S.args in
+    let a = c.args in
     let r = c.compare-named in
     let e = front_size a.n a.t a.layout a.slots.now a.block.now r.result r.new.counts (drop a.layout.length (replicate 128 0))
     r.ensures in
-    (subst (λ m. a.from ≤ m) (sym e) S.requires.1, omega (arith, S.requires.0.quorum.n_most, S.requires.0.quorum.t_most))
+    (subst (λ m. a.from ≤ m) (sym e) c.requires.1, omega (arith, c.requires.0.quorum.n_most, c.requires.0.quorum.t_most))
 
 pub returns : goal.returns
 returns c =

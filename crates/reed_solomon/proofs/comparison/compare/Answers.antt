@@ -40,27 +40,24 @@ overflow_add-t c = let v = c.requires.0.quorum in omega (arith, v.n_most, v.t_mo
 
 pub transpose-requires : goal.transpose-requires
 transpose-requires c =
-    let S = c in
-    let v = S.requires.0 in
-    (S.requires.1, S.requires.2, v.k_most, omega (arith, v.quorum.n_most, v.quorum.t_most))
+    let v = c.requires.0 in
+    (c.requires.1, c.requires.2, v.k_most, omega (arith, v.quorum.n_most, v.quorum.t_most))
 
 pub loop-i-init : goal.loop-i-init
 loop-i-init c =
-    let S = c in
-    let a = S.args in (
+    let a = c.args in (
       omega arith,
-      S.requires.3,
+      c.requires.3,
       sym (set_none (λ j. is_named a.t a.layout a.slots.now a.block.now (j + 1))),
-      S.requires.4 ∙ sym (counts_none a.t a.layout a.slots.now a.block.now),
+      c.requires.4 ∙ sym (counts_none a.t a.layout a.slots.now a.block.now),
     )
 
 pub compare_slot-requires : goal.compare_slot-requires
 compare_slot-requires c =
-    let S = c in
-    let a = S.args in
-    let v = S.requires.0 in
+    let a = c.args in
+    let v = c.requires.0 in
     let l = c.loop-i in (
-      c.transpose.auto.out ∙ S.requires.2,
+      c.transpose.auto.out ∙ c.requires.2,
       l.invariant.1,
       ap length l.invariant.3 ∙ length_counts a.t a.layout a.slots.now a.block.now l.i,
       omega (arith, v.quorum.n_most, v.quorum.t_most),
@@ -75,21 +72,19 @@ loop-i-smaller-then-compare_slot c = omega (arith, c.loop-i-test.true)
 
 pub loop-i-preserved-then-compare_slot : goal.loop-i-preserved-then-compare_slot
 loop-i-preserved-then-compare_slot c =
-    let L = c in
-    let S = L in
-    let a = S.args in
-    let l = L.loop-i in
+    let a = c.args in
+    let l = c.loop-i in
     let r = c.compare_slot in
-    let T = L.transpose in
+    let T = c.transpose in
     let more = c.loop-i-test.true in
     let is : ℕ → Bool = λ j. is_named a.t a.layout a.slots.now a.block.now (j + 1) in (
       omega (arith, more),
       r.auto.piece ∙ l.invariant.1,
       c.insert-named.ensures ∙ ap (λ (x : ℕ). inserted x l.i) l.invariant.2
-          ∙ insert_next l.i is (omega (arith, more, S.requires.0.quorum.n_most))
-          (named_is a.t a.layout a.slots.now a.block.now T.new.out S.requires.1 T.ensures (l.i + 1) r.result r.ensures.0
+          ∙ insert_next l.i is (omega (arith, more, c.requires.0.quorum.n_most))
+          (named_is a.t a.layout a.slots.now a.block.now T.new.out c.requires.1 T.ensures (l.i + 1) r.result r.ensures.0
           ∙ c.if-compare_slot.true),
-      counts_next a.t a.layout a.slots.now a.block.now T.new.out S.requires.1 T.ensures l.i l.counts
+      counts_next a.t a.layout a.slots.now a.block.now T.new.out c.requires.1 T.ensures l.i l.counts
           r.new.counts l.invariant.3 r.ensures.1,
     )
 
@@ -98,20 +93,18 @@ loop-i-smaller c = omega (arith, c.loop-i-test.true)
 
 pub loop-i-preserved : goal.loop-i-preserved
 loop-i-preserved c =
-    let L = c in
-    let S = L in
-    let a = S.args in
-    let l = L.loop-i in
+    let a = c.args in
+    let l = c.loop-i in
     let r = c.compare_slot in
-    let T = L.transpose in
+    let T = c.transpose in
     let is : ℕ → Bool = λ j. is_named a.t a.layout a.slots.now a.block.now (j + 1) in (
       omega (arith, c.loop-i-test.true),
       r.auto.piece ∙ l.invariant.1,
       l.invariant.2
           ∙ insert_skip l.i is
-          (named_is a.t a.layout a.slots.now a.block.now T.new.out S.requires.1 T.ensures (l.i + 1) r.result r.ensures.0
+          (named_is a.t a.layout a.slots.now a.block.now T.new.out c.requires.1 T.ensures (l.i + 1) r.result r.ensures.0
           ∙ c.if-compare_slot.false),
-      counts_next a.t a.layout a.slots.now a.block.now T.new.out S.requires.1 T.ensures l.i l.counts
+      counts_next a.t a.layout a.slots.now a.block.now T.new.out c.requires.1 T.ensures l.i l.counts
           r.new.counts l.invariant.3 r.ensures.1,
     )
 
@@ -123,16 +116,14 @@ shape_of-piece c = c.loop-i.invariant.1 ∙ sym c.requires.3
 
 pub shape_of-counts : goal.shape_of-counts
 shape_of-counts c =
-    let S = c in
-    let a = S.args in
+    let a = c.args in
     let l = c.loop-i in
-    ap length l.invariant.3 ∙ length_counts a.t a.layout a.slots.now a.block.now l.i ∙ sym (ap length S.requires.4 ∙ length-zeros a.layout.length)
+    ap length l.invariant.3 ∙ length_counts a.t a.layout a.slots.now a.block.now l.i ∙ sym (ap length c.requires.4 ∙ length-zeros a.layout.length)
 
 pub returns : goal.returns
 unfolding named_of
 returns c =
-    let S = c in
-    let a = S.args in
+    let a = c.args in
     let l = c.loop-i in
     let all : l.i ≡ a.n = omega (arith, c.loop-i-test.false) in
     record {

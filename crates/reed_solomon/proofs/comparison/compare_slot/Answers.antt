@@ -12,26 +12,20 @@ use Rattle.reed_solomon.proofs.comparison.compare_slot.Goals as goal
 
 pub values-requires : goal.values-requires
 values-requires c =
-    let S = c in
-    (S.requires.0 ∙ ap (λ n. n * (S.args.t + 1)) (sym S.requires.1), omega arith, omega arith, S.requires.3)
+    (c.requires.0 ∙ ap (λ n. n * (c.args.t + 1)) (sym c.requires.1), omega arith, omega arith, c.requires.3)
 
 pub count_different-requires : goal.count_different-requires
 count_different-requires c =
-    let S = c in
-    let a = S.args in
+    let a = c.args in
     let m = c.message-m in
     let size = ap length m.ensures in
     let kept = c.values.auto.out in
     let le = message_le a.layout a.slots.now a.j in
-    (omega (arith, size, le, kept, S.requires.1), omega (arith, size, le, S.requires.2), S.requires.7)
+    (omega (arith, size, le, kept, c.requires.1), omega (arith, size, le, c.requires.2), c.requires.7)
 
 pub returns : goal.returns
 returns c =
-    let D = c in
-    let M = D in
-    let W = M in
-    let S = W in
-    let a = S.args in
-    let m = M.message-m.ensures in
-    let p = W.values.ensures ∙ ap (λ n. row_values n a.t a.cols.now a.j) S.requires.1 in
-    (ap not (c.is_equal.ensures ∙ ap₂ same m p), D.count_different.ensures ∙ ap₂ (λ (x y : List ℕ). counted x y a.counts.now) m p)
+    let a = c.args in
+    let m = c.message-m.ensures in
+    let p = c.values.ensures ∙ ap (λ n. row_values n a.t a.cols.now a.j) c.requires.1 in
+    (ap not (c.is_equal.ensures ∙ ap₂ same m p), c.count_different.ensures ∙ ap₂ (λ (x y : List ℕ). counted x y a.counts.now) m p)

@@ -20,12 +20,11 @@ loop-i-init c = (omega arith, refl, sym (filled_none _ _))
 
 pub overflow_add-counts : goal.overflow_add-counts
 overflow_add-counts c =
-    let S = c in
-    let a = S.args in
+    let a = c.args in
     let l = c.loop-i in
     omega (
       arith,
-      S.requires.2 l.i,
+      c.requires.2 l.i,
       ap (λ (x : List ℕ). get_or x l.i 0) l.invariant.2,
       get_or-filled_past (λ s. get_or a.counts.now s 0 + ind (not (eqb (get_or a.piece.now s 0) (get_or a.m.now s 0)))) l.i a.counts.now l.i 0
           (omega arith),

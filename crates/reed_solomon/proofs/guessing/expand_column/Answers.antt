@@ -8,24 +8,21 @@ use Rattle.reed_solomon.proofs.guessing.expand_column.Goals as goal
 
 pub overflow_mul-a : goal.overflow_mul-a
 overflow_mul-a c =
-    let S = c in
-    let a = S.args in
+    let a = c.args in
     let w = length a.tmp.now in
     let e : length c.copy_column.new.tmp ≡ w = c.copy_column.auto.tmp in
-    omega (arith, next_offset a.i w, e, ap (λ (x : ℕ). a.i * x) e, S.requires.0, S.requires.1)
+    omega (arith, next_offset a.i w, e, ap (λ (x : ℕ). a.i * x) e, c.requires.0, c.requires.1)
 
 pub overflow_add-e : goal.overflow_add-e
 overflow_add-e c =
-    let S = c in
-    let a = S.args in
+    let a = c.args in
     let w = length a.tmp.now in
     let e : length c.copy_column.new.tmp ≡ w = c.copy_column.auto.tmp in
-    omega (arith, next_offset a.i w, e, ap (λ (x : ℕ). a.i * x) e, S.requires.0, S.requires.1)
+    omega (arith, next_offset a.i w, e, ap (λ (x : ℕ). a.i * x) e, c.requires.0, c.requires.1)
 
 pub slice_bounds-add_multiple-end : goal.slice_bounds-add_multiple-end
 slice_bounds-add_multiple-end c =
-    let S = c in
-    let a = S.args in
+    let a = c.args in
     let w = length a.tmp.now in
     let e : length c.copy_column.new.tmp ≡ w = c.copy_column.auto.tmp in
-    omega (arith, next_offset a.i w, e, ap (λ (x : ℕ). a.i * x) e, S.requires.0, S.requires.1)
+    omega (arith, next_offset a.i w, e, ap (λ (x : ℕ). a.i * x) e, c.requires.0, c.requires.1)

@@ -24,9 +24,8 @@ returns-then-start-xs c =
 
 pub returns-then-is_right : goal.returns-then-is_right
 returns-then-is_right c =
-    let S = c in
-    let xs = S.args.xs.now in
-    let some : 0 < length xs = omega (arith, S.requires.1.many) in (
+    let xs = c.args.xs.now in
+    let some : 0 < length xs = omega (arith, c.requires.1.many) in (
       record {
         right = λ _. sym c.is_right.ensures ∙ c.if-is_right.true;
         none_right = λ e. absurd (true≢false (sym (lt-ltb 0 (length xs) some) ∙ e));
@@ -36,19 +35,18 @@ returns-then-is_right c =
 
 pub returns : goal.returns
 returns c =
-    let S = c in
-    let a = S.args in
+    let a = c.args in
     let xs = a.xs.now in
     let ys = a.ys.now in
     let d = c.candidate in
     let is : d.new.m ≡ candidate a.t xs ys =
     d.ensures
-    ∙ into_candidate xs ys c.try_guesses-start.new.m a.t S.requires.0
-    (c.try_guesses-start.auto.m ∙ S.requires.2) (omega (arith, S.requires.1.few, S.requires.1.few-faulty)) in (
+    ∙ into_candidate xs ys c.try_guesses-start.new.m a.t c.requires.0
+    (c.try_guesses-start.auto.m ∙ c.requires.2) (omega (arith, c.requires.1.few, c.requires.1.few-faulty)) in (
       record {
         right = λ e. absurd (true≢false (sym e ∙ le-ltb (length xs) (length xs) (omega arith)));
         none_right = λ _.
-            none_right a.t xs ys S.requires.1 (sym (ap (is_right a.t xs ys) is) ∙ sym c.is_right.ensures ∙ c.if-is_right.false);
+            none_right a.t xs ys c.requires.1 (sym (ap (is_right a.t xs ys) is) ∙ sym c.is_right.ensures ∙ c.if-is_right.false);
       },
       omega arith,
     )

@@ -10,12 +10,11 @@ slice_bounds-guess-end c = sym (length_front 6 (c.args.t + 1) (omega (arith, c.r
 
 pub guess-requires : goal.guess-requires
 guess-requires c =
-    let S = c in
-    let w = S.args.t + 1 in (
-      S.requires.0.few,
-      S.requires.1,
-      S.requires.0.few-faulty,
+    let w = c.args.t + 1 in (
+      c.requires.0.few,
+      c.requires.1,
+      c.requires.0.few-faulty,
       omega arith,
-      omega (arith, length_front 6 w (omega (arith, S.requires.0.few-faulty))),
-      omega (arith, S.requires.2),
+      omega (arith, length_front 6 w (omega (arith, c.requires.0.few-faulty))),
+      omega (arith, c.requires.2),
     )

@@ -21,12 +21,9 @@ slice_bounds-read_bytes-end c = omega (arith, c.requires.2 c.if-place-eq0.false)
 
 pub returns : goal.returns
 returns c =
-    let R = c in
-    let I = R in
-    let S = I in
-    let a = S.args in
-    let some = I.if-place-eq0.false in
+    let a = c.args in
+    let some = c.if-place-eq0.false in
     c.send_one.ensures
     ∙ ap (put_slot a.inbox.now a.layout a.j)
-    (R.read_bytes.ensures ∙ read_text a.input.now a.m.now a.layout.length a.place some S.requires.0 (S.requires.2 some))
+    (c.read_bytes.ensures ∙ read_text a.input.now a.m.now a.layout.length a.place some c.requires.0 (c.requires.2 some))
     ∙ sym (cond_no (eqb a.place 0) _ _ (ne_eqb a.place 0 some))

@@ -10,24 +10,21 @@ use Rattle.simulator.proofs.inbox.make_inbox.Goals as goal
 
 pub returns-then-c-eq0 : goal.returns-then-c-eq0
 returns-then-c-eq0 c =
-    let S = c in
-    let a = S.args in
+    let a = c.args in
     first_made (table_scenario a.settings [] a.faulty a.places.now a.input.now)
     (sent_by a.sent.now (inbox_length a.settings.n a.settings.t a.settings.k (a.c + 1))) a.c a.i a.inbox.now c.if-c-eq0.true
-    S.requires.cleared
+    c.requires.cleared
 
 pub fill_inbox-requires : goal.fill_inbox-requires
 fill_inbox-requires c =
-    let S = c in
-    let a = S.args in
-    making_filling a.input.now a.places.now a.settings a.c a.i a.sent.now a.m.now a.inbox.now S.requires
+    let a = c.args in
+    making_filling a.input.now a.places.now a.settings a.c a.i a.sent.now a.m.now a.inbox.now c.requires
     c.if-c-eq0.false
 
 pub returns : goal.returns
 returns c =
-    let S = c in
-    let a = S.args in
+    let a = c.args in
     c.fill_inbox.ensures
     ∙ later_made a.input.now a.places.now a.faulty a.settings a.c a.i (length a.inbox.now) a.sent.now
     c.if-c-eq0.false
-    (ap length S.requires.cleared ∙ length-replicate (inbox_length a.settings.n a.settings.t a.settings.k (a.c + 1)) 0)
+    (ap length c.requires.cleared ∙ length-replicate (inbox_length a.settings.n a.settings.t a.settings.k (a.c + 1)) 0)

@@ -14,8 +14,7 @@ use Rattle.simulator.proofs.run.call_all.Goals as goal
 
 pub loop-i-init : goal.loop-i-init
 loop-i-init c =
-    let S = c in
-    let a = S.args in (
+    let a = c.args in (
       omega arith,
       turn_start (table_scenario a.settings [] a.faulty a.places.now a.input.now) a.faulty a.c
           (now_of a.states a.blocks.now (block_length a.settings.k a.settings.t) a.sent.now
@@ -32,11 +31,9 @@ bounds-next-x c = omega (arith, c.requires.small.coded.quorum.n_most)
 
 pub call_one-r-requires : goal.call_one-r-requires
 call_one-r-requires c =
-    let L = c in
-    let S = L in
-    let a = S.args in
-    let h = S.requires in
-    let T = L.loop-i.invariant.1 in (
+    let a = c.args in
+    let h = c.requires in
+    let T = c.loop-i.invariant.1 in (
       record {
         small = h.small;
         rooms = h.rooms;
@@ -46,7 +43,7 @@ call_one-r-requires c =
         sent_most = h.sent_most;
         sending_room = omega (arith, h.sending_room, T.sending_length);
       },
-      omega (arith, c.loop-i-test.true, L.loop-i.invariant.2),
+      omega (arith, c.loop-i-test.true, c.loop-i.invariant.2),
     )
 
 pub offset_bounds-next-x-then-not-member : goal.offset_bounds-next-x-then-not-member
@@ -60,24 +57,22 @@ loop-i-smaller-then-not-member c = omega (arith, c.loop-i-test.true)
 
 pub loop-i-preserved-then-not-member : goal.loop-i-preserved-then-not-member
 loop-i-preserved-then-not-member c =
-    let L = c in
-    let S = L in
-    let a = S.args in
-    let h = S.requires in
-    let i = L.loop-i.i in
-    let T = L.loop-i.invariant.1 in
+    let a = c.args in
+    let h = c.requires in
+    let i = c.loop-i.i in
+    let T = c.loop-i.invariant.1 in
     let less : i < a.settings.n = omega
-    (arith, c.loop-i-test.true, L.loop-i.invariant.2) in
+    (arith, c.loop-i-test.true, c.loop-i.invariant.2) in
     let one = c.call_one-r in (
       omega (arith, less),
       turn_correct a.settings a.faulty a.c a.places.now a.input.now a.states a.blocks.now a.sent.now a.sending.now
-          (omega (arith, h.small.coded.quorum.n_most)) h.blocks_room h.sending_room i less L.loop-i.next
-          L.loop-i.blocks L.loop-i.sending T _ one.result one.new.blocks one.new.sending
-          (get_or_inside L.loop-i.next i _ zero_state (omega (arith, less, T.next_length, h.small.coded.quorum.n_most)))
+          (omega (arith, h.small.coded.quorum.n_most)) h.blocks_room h.sending_room i less c.loop-i.next
+          c.loop-i.blocks c.loop-i.sending T _ one.result one.new.blocks one.new.sending
+          (get_or_inside c.loop-i.next i _ zero_state (omega (arith, less, T.next_length, h.small.coded.quorum.n_most)))
           (sym c.member.ensures
           ∙ not-true c.member.result
           (not_from_false _ c.if-not-member.true)) one.ensures,
-      L.loop-i.invariant.2,
+      c.loop-i.invariant.2,
     )
 
 pub loop-i-smaller : goal.loop-i-smaller
@@ -85,18 +80,16 @@ loop-i-smaller c = omega (arith, c.loop-i-test.true)
 
 pub loop-i-preserved : goal.loop-i-preserved
 loop-i-preserved c =
-    let L = c in
-    let S = L in
-    let a = S.args in
-    let h = S.requires in
-    let i = L.loop-i.i in
-    let less : i < a.settings.n = omega (arith, c.loop-i-test.true, L.loop-i.invariant.2) in (
+    let a = c.args in
+    let h = c.requires in
+    let i = c.loop-i.i in
+    let less : i < a.settings.n = omega (arith, c.loop-i-test.true, c.loop-i.invariant.2) in (
       omega (arith, less),
       turn_faulty a.settings a.faulty a.c a.places.now a.input.now a.states a.blocks.now a.sent.now a.sending.now
-          (omega (arith, h.small.coded.quorum.n_most)) h.blocks_room h.sending_room i less L.loop-i.next
-          L.loop-i.blocks L.loop-i.sending L.loop-i.invariant.1
+          (omega (arith, h.small.coded.quorum.n_most)) h.blocks_room h.sending_room i less c.loop-i.next
+          c.loop-i.blocks c.loop-i.sending c.loop-i.invariant.1
           (sym c.member.ensures ∙ c.if-not-member.false),
-      L.loop-i.invariant.2,
+      c.loop-i.invariant.2,
     )
 
 pub shape_of-blocks : goal.shape_of-blocks
@@ -107,10 +100,8 @@ shape_of-sending c = c.loop-i.invariant.1.sending_length
 
 pub returns : goal.returns
 returns c =
-    let L = c in
-    let S = L in
-    let a = S.args in
-    let h = S.requires in
+    let a = c.args in
+    let h = c.requires in
     turned_called a.settings a.faulty a.c a.places.now a.input.now a.states a.blocks.now a.sent.now a.sending.now
-    (omega (arith, h.small.coded.quorum.n_most)) h.blocks_room h.sending_room L.loop-i.i L.loop-i.next
-    L.loop-i.blocks L.loop-i.sending (omega arith) L.loop-i.invariant.1
+    (omega (arith, h.small.coded.quorum.n_most)) h.blocks_room h.sending_room c.loop-i.i c.loop-i.next
+    c.loop-i.blocks c.loop-i.sending (omega arith) c.loop-i.invariant.1

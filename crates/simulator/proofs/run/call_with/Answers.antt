@@ -13,25 +13,23 @@ use Rattle.simulator.proofs.run.call_with.Goals as goal
 
 pub step_part-requires : goal.step_part-requires
 step_part-requires c =
-    let S = c in
-    let a = S.args in
-    let h = S.requires.0 in
+    let a = c.args in
+    let h = c.requires.0 in
     let b = c.block_length-b.ensures ∙ block_size_is h.small.coded in
     let o = c.outbox_length-o.ensures in (
-      omega (arith, S.requires.1, h.small.coded.quorum.n_most),
+      omega (arith, c.requires.1, h.small.coded.quorum.n_most),
       omega (arith, b, block_le h.small),
       omega (arith, o, outbox_le h.small (a.c + 1) (omega arith) (omega (arith, h.calls-most))),
       part_room a.settings.n c.block_length-b.result (block_length a.settings.k a.settings.t) a.i
-          (length a.blocks.now) b h.blocks_room S.requires.1,
+          (length a.blocks.now) b h.blocks_room c.requires.1,
       part_room a.settings.n c.outbox_length-o.result
-          (outbox_length a.settings.n a.settings.t a.settings.k (a.c + 1)) a.i (length a.sending.now) o h.sending_room S.requires.1,
+          (outbox_length a.settings.n a.settings.t a.settings.k (a.c + 1)) a.i (length a.sending.now) o h.sending_room c.requires.1,
     )
 
 pub returns : goal.returns
 returns c =
-    let S = c in
-    let a = S.args in
-    let h = S.requires.0 in
+    let a = c.args in
+    let h = c.requires.0 in
     let p = c.step_part in
     parted_as c.block_length-b.result
     (block_length a.settings.k a.settings.t) c.outbox_length-o.result

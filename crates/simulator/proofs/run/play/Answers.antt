@@ -32,12 +32,10 @@ loop-c-init c =
 
 pub call_all-next-requires : goal.call_all-next-requires
 call_all-next-requires c =
-    let L = c in
-    let S = L in
-    let a = S.args in
-    let h = S.requires.0 in
-    let v = L.loop-c.invariant in
-    playable_calling a.input.now a.places.now a.settings L.loop-c.c a.blocks.now L.loop-c.blocks L.loop-c.sent L.loop-c.sending
+    let a = c.args in
+    let h = c.requires.0 in
+    let v = c.loop-c.invariant in
+    playable_calling a.input.now a.places.now a.settings c.loop-c.c a.blocks.now c.loop-c.blocks c.loop-c.sent c.loop-c.sending
     h.small h.rooms h.blocks_room v.2 v.3 v.4 (omega (arith, c.loop-c-test.true))
 
 pub overflow_add-c : goal.overflow_add-c
@@ -48,24 +46,22 @@ loop-c-smaller c = omega (arith, c.loop-c-test.true)
 
 pub loop-c-preserved : goal.loop-c-preserved
 loop-c-preserved c =
-    let L = c in
-    let S = L in
-    let a = S.args in
-    let h = S.requires.0 in
-    let v = L.loop-c.invariant in
-    let less : L.loop-c.c < 3 * a.settings.t + 9 = c.loop-c-test.true in
+    let a = c.args in
+    let h = c.requires.0 in
+    let v = c.loop-c.invariant in
+    let less : c.loop-c.c < 3 * a.settings.t + 9 = c.loop-c-test.true in
     let all = c.call_all-next in
     let b = all.new.blocks in
     let s = all.new.sending in
     let sending_is : length s ≡ 49920 = all.auto.sending ∙ v.4 in
-    let sent_is = c.copy.ensures ∙ copied_all s L.loop-c.sent (sending_is ∙ sym v.3) in (
+    let sent_is = c.copy.ensures ∙ copied_all s c.loop-c.sent (sending_is ∙ sym v.3) in (
       omega (arith, less),
       refl,
       all.auto.blocks ∙ v.2,
       ap length sent_is ∙ sending_is,
       sending_is,
-      held_next a.settings a.block.now a.faulty a.places.now a.input.now h.small L.loop-c.c L.loop-c.held all.result
-          L.loop-c.blocks b L.loop-c.sent s
+      held_next a.settings a.block.now a.faulty a.places.now a.input.now h.small c.loop-c.c c.loop-c.held all.result
+          c.loop-c.blocks b c.loop-c.sent s
           (omega (arith, less)) v.5 all.ensures c.copy.new.dst sent_is,
     )
 
@@ -80,10 +76,8 @@ shape_of-sending c = c.loop-c.invariant.4 ∙ sym c.requires.0.sending_is
 
 pub returns : goal.returns
 returns c =
-    let L = c in
-    let S = L in
-    let a = S.args in
-    let e : L.loop-c.c ≡ 3 * a.settings.t + 9 = omega (arith, L.loop-c.invariant.0, c.loop-c-test.false) in
-    subst (λ (x : ℕ). AfterCalls (table_scenario a.settings a.block.now a.faulty a.places.now a.input.now) x L.loop-c.held
-    L.loop-c.blocks (block_length a.settings.k a.settings.t) L.loop-c.sent
-    (inbox_length a.settings.n a.settings.t a.settings.k (x + 1))) e L.loop-c.invariant.5
+    let a = c.args in
+    let e : c.loop-c.c ≡ 3 * a.settings.t + 9 = omega (arith, c.loop-c.invariant.0, c.loop-c-test.false) in
+    subst (λ (x : ℕ). AfterCalls (table_scenario a.settings a.block.now a.faulty a.places.now a.input.now) x c.loop-c.held
+    c.loop-c.blocks (block_length a.settings.k a.settings.t) c.loop-c.sent
+    (inbox_length a.settings.n a.settings.t a.settings.k (x + 1))) e c.loop-c.invariant.5

@@ -9,10 +9,9 @@ use Rattle.simulator.proofs.run.start_all.Goals as goal
 
 pub loop-i-init : goal.loop-i-init
 loop-i-init c =
-    let S = c in
-    let a = S.args in (
+    let a = c.args in (
       omega arith,
-      S.requires.0,
+      c.requires.0,
       refl,
       first_state a.settings a.block.now c.start-first.result.state
           (ap (λ (x : Started). x.state) c.start-first.ensures),
@@ -36,17 +35,15 @@ loop-i-smaller c = omega (arith, c.loop-i-test.true)
 
 pub loop-i-preserved : goal.loop-i-preserved
 loop-i-preserved c =
-    let L = c in
-    let S = L in
-    let a = S.args in
-    let i = L.loop-i.i in
-    let less : i < a.settings.n = omega (arith, c.loop-i-test.true, L.loop-i.invariant.4) in (
+    let a = c.args in
+    let i = c.loop-i.i in
+    let less : i < a.settings.n = omega (arith, c.loop-i-test.true, c.loop-i.invariant.4) in (
       omega arith,
       omega (arith, less),
-      length-set L.loop-i.states i c.start-started.result.state ∙ L.loop-i.invariant.2,
-      next_state a.settings a.block.now L.loop-i.states i c.start-started.result.state (omega (arith, less, S.requires.1, L.loop-i.invariant.2))
-          (ap (λ (x : Started). x.state) c.start-started.ensures) L.loop-i.invariant.3,
-      L.loop-i.invariant.4,
+      length-set c.loop-i.states i c.start-started.result.state ∙ c.loop-i.invariant.2,
+      next_state a.settings a.block.now c.loop-i.states i c.start-started.result.state (omega (arith, less, c.requires.1, c.loop-i.invariant.2))
+          (ap (λ (x : Started). x.state) c.start-started.ensures) c.loop-i.invariant.3,
+      c.loop-i.invariant.4,
     )
 
 pub returns : goal.returns

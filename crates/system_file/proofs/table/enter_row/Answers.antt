@@ -8,5 +8,4 @@ returns-then-is_given c = record { value = ap not (sym (sym c.is_given.ensures �
 
 pub returns : goal.returns
 returns c =
-    let I = c in
-    record { value = ap not (sym (sym I.is_given.ensures ∙ I.if-is_given.false)); row_after = c.fill.ensures }
+    record { value = ap not (sym (sym c.is_given.ensures ∙ c.if-is_given.false)); row_after = c.fill.ensures }

@@ -39,22 +39,20 @@ loop-j-smaller c = omega arith
 
 pub loop-j-preserved : goal.loop-j-preserved
 loop-j-preserved c =
-    let L = c in
-    let a = L.args in
+    let a = c.args in
     let f : ℕ → ℕ = λ i. cond (is_to a.to (i + 1)) a.place (get_or a.row.now i 0) in
-    let j = L.loop-j.j in (
+    let j = c.loop-j.j in (
       omega arith,
-      length-set L.loop-j.row j c.chosen.result ∙ L.loop-j.invariant.1,
-      fill_more f j a.row.now L.loop-j.row c.chosen.result (omega (arith, L.requires)) L.loop-j.invariant.2
+      length-set c.loop-j.row j c.chosen.result ∙ c.loop-j.invariant.1,
+      fill_more f j a.row.now c.loop-j.row c.chosen.result (omega (arith, c.requires)) c.loop-j.invariant.2
           (c.chosen.ensures
-          ∙ ap (cond (is_to a.to (j + 1)) a.place) (ap (λ (x : List ℕ). get_or x j 0) L.loop-j.invariant.2
+          ∙ ap (cond (is_to a.to (j + 1)) a.place) (ap (λ (x : List ℕ). get_or x j 0) c.loop-j.invariant.2
           ∙ get_or-filled_past f j a.row.now j 0 (omega arith))),
     )
 
 pub returns : goal.returns
 returns c =
-    let L = c in
-    let a = L.args in
-    let q : L.loop-j.j ≡ 16 = omega arith in
-    L.loop-j.invariant.2 ∙ ap (λ (x : ℕ). filled (λ i. cond (is_to a.to (i + 1)) a.place (get_or a.row.now i 0)) x a.row.now) q
-    ∙ row_filled a.row.now a.to a.place L.requires
+    let a = c.args in
+    let q : c.loop-j.j ≡ 16 = omega arith in
+    c.loop-j.invariant.2 ∙ ap (λ (x : ℕ). filled (λ i. cond (is_to a.to (i + 1)) a.place (get_or a.row.now i 0)) x a.row.now) q
+    ∙ row_filled a.row.now a.to a.place c.requires

@@ -19,9 +19,8 @@ overflow_add-j c = omega arith
 
 pub returns-then-is_taken : goal.returns-then-is_taken
 returns-then-is_taken c =
-    let L = c in
-    let a = L.args in
-    sym (given_at a.row.now a.to L.loop-j.j (omega (arith, L.requires)) (sym c.is_taken.ensures ∙ c.if-is_taken.true))
+    let a = c.args in
+    sym (given_at a.row.now a.to c.loop-j.j (omega (arith, c.requires)) (sym c.is_taken.ensures ∙ c.if-is_taken.true))
 
 pub overflow_add-j-in-loop-j : goal.overflow_add-j-in-loop-j
 overflow_add-j-in-loop-j c = omega arith
@@ -31,11 +30,9 @@ loop-j-smaller c = omega arith
 
 pub loop-j-preserved : goal.loop-j-preserved
 loop-j-preserved c =
-    let L = c in
-    (omega arith, below_more _ _ L.loop-j.invariant.1 (sym c.is_taken.ensures ∙ c.if-is_taken.false))
+    (omega arith, below_more _ _ c.loop-j.invariant.1 (sym c.is_taken.ensures ∙ c.if-is_taken.false))
 
 pub returns : goal.returns
 returns c =
-    let L = c in
-    let a = L.args in
-    sym (given_none a.row.now a.to (λ j l. L.loop-j.invariant.1 j (omega (arith, L.requires))))
+    let a = c.args in
+    sym (given_none a.row.now a.to (λ j l. c.loop-j.invariant.1 j (omega (arith, c.requires))))

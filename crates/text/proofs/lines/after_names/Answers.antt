@@ -10,21 +10,16 @@ returns-then-input-at c =
 
 pub returns-then-input-end : goal.returns-then-input-end
 returns-then-input-end c =
-    let L = c in
-    let a = L.args in
-    names_short a.names.now a.input.now a.at L.line_at-l.result.now L.line_at-l.ensures c.if-input-end.true
+    let a = c.args in
+    names_short a.names.now a.input.now a.at c.line_at-l.result.now c.line_at-l.ensures c.if-input-end.true
 
 pub returns-then-is_equal : goal.returns-then-is_equal
 returns-then-is_equal c =
-    let I = c in
-    let L = I in
-    let a = L.args in
-    names_same a.names.now a.input.now a.at L.line_at-l.result.now L.line_at-l.ensures I.if-input-end.false
+    let a = c.args in
+    names_same a.names.now a.input.now a.at c.line_at-l.result.now c.line_at-l.ensures c.if-input-end.false
     (sym c.is_equal.ensures ∙ c.if-is_equal.true)
 
 pub returns : goal.returns
 returns c =
-    let I = c in
-    let L = I in
-    let a = L.args in
-    names_other a.names.now a.input.now a.at L.line_at-l.result.now L.line_at-l.ensures (sym c.is_equal.ensures ∙ c.if-is_equal.false)
+    let a = c.args in
+    names_other a.names.now a.input.now a.at c.line_at-l.result.now c.line_at-l.ensures (sym c.is_equal.ensures ∙ c.if-is_equal.false)

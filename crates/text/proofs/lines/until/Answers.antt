@@ -7,15 +7,11 @@ use Rattle.text.proofs.lines.until.Goals as goal
 
 pub slice_bounds-result-end : goal.slice_bounds-result-end
 slice_bounds-result-end c =
-    let F = c in
-    let T = F in
-    let a = T.args in
-    let l = T.tail-rest.result.now in
-    sym (length-take-le F.find-end.result l (found_within a.c l F.find-end.result F.find-end.ensures))
+    let a = c.args in
+    let l = c.tail-rest.result.now in
+    sym (length-take-le c.find-end.result l (found_within a.c l c.find-end.result c.find-end.ensures))
 
 pub returns : goal.returns
 returns c =
-    let F = c in
-    let T = F in
-    let a = T.args in
-    lent_before a.c (drop a.at a.s.now) T.tail-rest.result.now F.find-end.result T.tail-rest.ensures F.find-end.ensures
+    let a = c.args in
+    lent_before a.c (drop a.at a.s.now) c.tail-rest.result.now c.find-end.result c.tail-rest.ensures c.find-end.ensures

@@ -16,9 +16,8 @@ shape_of-dst-then-i-dst c = omega arith
 
 pub returns-then-i-dst : goal.returns-then-i-dst
 returns-then-i-dst c =
-    let L = c in
-    let a = L.args in
-    L.loop-i.invariant.2 ∙ copied_end L.loop-i.i a.src.now a.dst.now (omega arith)
+    let a = c.args in
+    c.loop-i.invariant.2 ∙ copied_end c.loop-i.i a.src.now a.dst.now (omega arith)
 
 pub bounds-src-i : goal.bounds-src-i
 bounds-src-i c = omega arith
@@ -34,13 +33,12 @@ loop-i-smaller c = omega arith
 
 pub loop-i-preserved : goal.loop-i-preserved
 loop-i-preserved c =
-    let L = c in
-    let a = L.args in
-    let i = L.loop-i.i in (
+    let a = c.args in
+    let i = c.loop-i.i in (
       omega arith,
       omega arith,
-      ap (λ (l : List ℕ). set l i (get_or a.src.now i 0)) L.loop-i.invariant.2 ∙ copy_more i a.src.now a.dst.now (omega arith) (omega arith),
-      simp length-set L.loop-i.invariant.3,
+      ap (λ (l : List ℕ). set l i (get_or a.src.now i 0)) c.loop-i.invariant.2 ∙ copy_more i a.src.now a.dst.now (omega arith) (omega arith),
+      simp length-set c.loop-i.invariant.3,
     )
 
 pub shape_of-dst : goal.shape_of-dst
@@ -48,6 +46,5 @@ shape_of-dst c = omega arith
 
 pub returns : goal.returns
 returns c =
-    let L = c in
-    let a = L.args in
-    L.loop-i.invariant.2 ∙ copied_end L.loop-i.i a.src.now a.dst.now (omega arith)
+    let a = c.args in
+    c.loop-i.invariant.2 ∙ copied_end c.loop-i.i a.src.now a.dst.now (omega arith)

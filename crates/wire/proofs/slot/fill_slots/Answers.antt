@@ -29,33 +29,27 @@ loop-j-smaller c = omega arith
 
 pub loop-j-preserved : goal.loop-j-preserved
 loop-j-preserved c =
-    let L = c in
-    let S = L in
-    let a = S.args in
-    let j = L.loop-j.j in (
+    let a = c.args in
+    let j = c.loop-j.j in (
       omega arith,
       c.send_one.ensures
-          ∙ put_next_slot a.layout (λ _. bytes a.m.now) (λ i. sized_bytes a.layout a.m.now S.requires.1) a.outbox.now L.loop-j.outbox
+          ∙ put_next_slot a.layout (λ _. bytes a.m.now) (λ i. sized_bytes a.layout a.m.now c.requires.1) a.outbox.now c.loop-j.outbox
           a.m.now j
-          (omega (arith, slot_within a.n (width a.layout) j (omega arith), next_offset j (width a.layout), S.requires.0)) L.loop-j.invariant.1 refl
-          S.requires.1,
+          (omega (arith, slot_within a.n (width a.layout) j (omega arith), next_offset j (width a.layout), c.requires.0)) c.loop-j.invariant.1 refl
+          c.requires.1,
     )
 
 pub shape_of-outbox : goal.shape_of-outbox
 shape_of-outbox c =
-    let L = c in
-    let S = L in
-    let a = S.args in
-    let all : L.loop-j.j ≡ a.n = omega arith in
-    length_rest a.layout (λ _. bytes a.m.now) (λ i. sized_bytes a.layout a.m.now S.requires.1) a.outbox.now L.loop-j.outbox L.loop-j.j
-    (le_of_eq (ap (λ (x : ℕ). x * width a.layout) all ∙ sym S.requires.0)) L.loop-j.invariant.1
+    let a = c.args in
+    let all : c.loop-j.j ≡ a.n = omega arith in
+    length_rest a.layout (λ _. bytes a.m.now) (λ i. sized_bytes a.layout a.m.now c.requires.1) a.outbox.now c.loop-j.outbox c.loop-j.j
+    (le_of_eq (ap (λ (x : ℕ). x * width a.layout) all ∙ sym c.requires.0)) c.loop-j.invariant.1
 
 pub returns : goal.returns
 returns c =
-    let L = c in
-    let S = L in
-    let a = S.args in
-    let all : L.loop-j.j ≡ a.n = omega arith in
-    slots_all a.layout (λ _. bytes a.m.now) a.outbox.now L.loop-j.outbox a.n
-    (subst (λ (x : ℕ). L.loop-j.outbox ≡ slots a.layout (λ _. bytes a.m.now) x ++ drop (x * width a.layout) a.outbox.now) all
-    L.loop-j.invariant.1) S.requires.0
+    let a = c.args in
+    let all : c.loop-j.j ≡ a.n = omega arith in
+    slots_all a.layout (λ _. bytes a.m.now) a.outbox.now c.loop-j.outbox a.n
+    (subst (λ (x : ℕ). c.loop-j.outbox ≡ slots a.layout (λ _. bytes a.m.now) x ++ drop (x * width a.layout) a.outbox.now) all
+    c.loop-j.invariant.1) c.requires.0

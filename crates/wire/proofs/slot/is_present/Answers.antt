@@ -14,6 +14,5 @@ returns-then-slot-ne-PRESENT c =
 pub returns : goal.returns
 unfolding run_in
 returns c =
-    let E = c in
-    let a = E.args in
-    ap (λ (x : ℕ). eqb x a.layout.run) c.word.ensures ∙ sym (run_present a.layout a.slot.now E.if-slot-ne-PRESENT.false)
+    let a = c.args in
+    ap (λ (x : ℕ). eqb x a.layout.run) c.word.ensures ∙ sym (run_present a.layout a.slot.now c.if-slot-ne-PRESENT.false)

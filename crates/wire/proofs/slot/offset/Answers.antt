@@ -49,22 +49,19 @@ slice_bounds-is_present-end c =
 pub returns-then-not-is_present : goal.returns-then-not-is_present
 unfolding width
 returns-then-not-is_present c =
-    let E = c in
-    let a = E.args in
-    absent_slot a.inbox.now a.layout a.j (omega arith) E.if-inbox-w.false c.is_present.result c.is_present.ensures
+    let a = c.args in
+    absent_slot a.inbox.now a.layout a.j (omega arith) c.if-inbox-w.false c.is_present.result c.is_present.ensures
     c.if-not-is_present.true
 
 pub overflow_add-result : goal.overflow_add-result
 unfolding width
 overflow_add-result c =
-    let E = c in
-    let a = E.args in
-    omega (arith, slot_fits a.inbox.now a.layout a.j (omega arith) E.if-inbox-w.false)
+    let a = c.args in
+    omega (arith, slot_fits a.inbox.now a.layout a.j (omega arith) c.if-inbox-w.false)
 
 pub returns : goal.returns
 unfolding width
 returns c =
-    let E = c in
-    let a = E.args in
-    present_slot a.inbox.now a.layout a.j (omega arith) E.if-inbox-w.false c.is_present.result c.is_present.ensures
+    let a = c.args in
+    present_slot a.inbox.now a.layout a.j (omega arith) c.if-inbox-w.false c.is_present.result c.is_present.ensures
     c.if-not-is_present.false

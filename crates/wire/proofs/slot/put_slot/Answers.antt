@@ -33,14 +33,12 @@ shape_of-slot c = c.slot-1.given.1 ∙ simp length-set
 
 pub returns : goal.returns
 returns c =
-    let H = c in
-    let S = H in
-    let a = S.args in
+    let a = c.args in
     let d = a.slot.now in
-    let head : set (set (set d 0 1) 1 H.low.result) 2 H.high.result ≡ with_header a.layout d
-    = ap₂ (λ (x y : ℕ). set (set (set d 0 1) 1 x) 2 y) H.low.ensures H.high.ensures in
+    let head : set (set (set d 0 1) 1 c.low.result) 2 c.high.result ≡ with_header a.layout d
+    = ap₂ (λ (x y : ℕ). set (set (set d 0 1) 1 x) 2 y) c.low.ensures c.high.ensures in
     let back : List ℕ → List ℕ → List ℕ
     = λ l h. take header h ++ (l ++ drop (length h - header) (drop header h)) in
-    ap (λ (l : List ℕ). back l (set (set (set d 0 1) 1 H.low.result) 2 H.high.result)) c.copy.ensures
+    ap (λ (l : List ℕ). back l (set (set (set d 0 1) 1 c.low.result) 2 c.high.result)) c.copy.ensures
     ∙ ap (λ (h : List ℕ). back (Rattle.wire.specs.Slot.copied a.m.now (take (length h - header) (drop header h))) h) head
-    ∙ put_head a.layout d a.m.now S.requires.0 S.requires.1
+    ∙ put_head a.layout d a.m.now c.requires.0 c.requires.1

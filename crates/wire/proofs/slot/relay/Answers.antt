@@ -80,8 +80,7 @@ slice_bounds-copy-end-2 c =
 pub returns : goal.returns
 unfolding width
 returns c =
-    let E = c in
-    let a = E.args in
-    relay_part a.dst.now a.src.now c.copy.new.dst a.layout a.j a.i (omega arith) E.if-dst-w.false (omega arith)
-    E.if-src-w.false
+    let a = c.args in
+    relay_part a.dst.now a.src.now c.copy.new.dst a.layout a.j a.i (omega arith) c.if-dst-w.false (omega arith)
+    c.if-src-w.false
     c.copy.ensures

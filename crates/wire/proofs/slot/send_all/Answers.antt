@@ -25,13 +25,11 @@ fill_slots-requires c = (
 
 pub returns-then-holds_exactly : goal.returns-then-holds_exactly
 returns-then-holds_exactly c =
-    let I = c in
-    let F = I in
-    let a = F.args in
+    let a = c.args in
     c.fill_slots.ensures
     ∙ sym
-    (to_all_lem a.layout a.n a.m.now a.outbox.now F.if-m-layout.false
-    (eqb-true _ _ (sym I.holds_exactly.ensures ∙ I.if-holds_exactly.true)))
+    (to_all_lem a.layout a.n a.m.now a.outbox.now c.if-m-layout.false
+    (eqb-true _ _ (sym c.holds_exactly.ensures ∙ c.if-holds_exactly.true)))
 
 pub returns-else-holds_exactly : goal.returns-else-holds_exactly
 returns-else-holds_exactly c =

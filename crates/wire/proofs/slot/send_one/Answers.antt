@@ -47,8 +47,7 @@ put_slot-requires c = (c.put_slot-arg-1.given.2 ∙ omega arith, c.if-m-layout.f
 pub returns : goal.returns
 unfolding width
 returns c =
-    let E = c in
-    let a = E.args in
-    let same : length a.m.now ≡ a.layout.length = E.if-m-layout.false in
-    put_part_lem a.outbox.now a.layout a.j (omega arith) E.if-outbox-w.false a.m.now c.put_slot.new.slot same
+    let a = c.args in
+    let same : length a.m.now ≡ a.layout.length = c.if-m-layout.false in
+    put_part_lem a.outbox.now a.layout a.j (omega arith) c.if-outbox-w.false a.m.now c.put_slot.new.slot same
     c.put_slot.ensures

@@ -22,14 +22,13 @@ loop-i-smaller c = omega arith
 
 pub loop-i-preserved : goal.loop-i-preserved
 loop-i-preserved c =
-    let L = c in
-    let s₀ = L.args.outbox.now in
-    let i = L.loop-i.i in
+    let s₀ = c.args.outbox.now in
+    let i = c.loop-i.i in
     let more : i < length s₀ = omega arith in (
-      L.loop-i.invariant.0,
+      c.loop-i.invariant.0,
       omega arith,
-      ap (λ (l : List ℕ). set l i 0) L.loop-i.invariant.2 ∙ fill_more i 0 s₀ more,
-      simp length-set L.loop-i.invariant.3,
+      ap (λ (l : List ℕ). set l i 0) c.loop-i.invariant.2 ∙ fill_more i 0 s₀ more,
+      simp length-set c.loop-i.invariant.3,
     )
 
 pub shape_of-outbox : goal.shape_of-outbox
@@ -37,6 +36,5 @@ shape_of-outbox c = omega arith
 
 pub returns : goal.returns
 returns c =
-    let L = c in
-    let s₀ = L.args.outbox.now in
-    L.loop-i.invariant.2 ∙ fill_all L.loop-i.i 0 s₀ (omega arith)
+    let s₀ = c.args.outbox.now in
+    c.loop-i.invariant.2 ∙ fill_all c.loop-i.i 0 s₀ (omega arith)
