@@ -28,6 +28,7 @@ pub fn layout_with(run: u16, len: usize) -> Layout
 
 // Whether a slot is present: its first byte is 01, and it carries the number of the run.
 // Shut out by must-fail/absent_as_present, must-fail/high_byte_not_compared, must-fail/bytes_swapped, must-fail/other_run_read.
+#[tactic(auto, using(crate::proofs::Slots::no_present))]
 fn is_present(slot: &[u8], layout: Layout) -> bool
     requires { header ≤ length slot.now }
     ensures { result ≡ is_present layout slot.now }
