@@ -1,6 +1,6 @@
 /* Potekawhi: Byzantine broadcast of a block of bytes among 4 to 16 controllers, at most t of n >= 3t + 1 of them faulty.
  *
- * The functions are those of the crate `boards`, which are proved; `rt staticlib boards` writes target/staticlib/libboards.a. It is for
+ * The functions are those of the crate `boards`, which are proved; `./library` writes target/staticlib/libboards.a. It is for
  * x86-64, and calls nothing but memcpy, memmove and memset.
  *
  * Bytes. A `const uint8_t *` is lent for reading and a `uint8_t *` for reading and writing, for the time of the call, with its length in
