@@ -163,16 +163,22 @@ pub fn fill(s: &mut [u8], v: u8)
 }
 
 // Prints a text.
-pub fn text(rt: &impl Print, s: &[u8]) -> io::Result<()> {
+pub fn text(rt: &impl Print, s: &[u8]) -> io::Result<()>
+    ensures { Unit {0} }
+{
     rt.write_all(s)
 }
 
-pub fn newline(rt: &impl Print) -> io::Result<()> {
+pub fn newline(rt: &impl Print) -> io::Result<()>
+    ensures { Unit {0} }
+{
     text(rt, b"\n")
 }
 
 // A number in decimal.
-pub fn decimal(rt: &impl Print, x: usize) -> io::Result<()> {
+pub fn decimal(rt: &impl Print, x: usize) -> io::Result<()>
+    ensures { Unit {0} }
+{
     print!(rt; "{x}")
 }
 
@@ -182,7 +188,9 @@ fn number(rt: &impl Print, x: usize) -> io::Result<()> {
 }
 
 // A text, then a space and a number for each.
-pub fn numbers(rt: &impl Print, name: &[u8], xs: &[usize]) -> io::Result<()> {
+pub fn numbers(rt: &impl Print, name: &[u8], xs: &[usize]) -> io::Result<()>
+    ensures { Unit {0} }
+{
     text(rt, name)?;
     for x in xs {
         number(rt, *x)?;
@@ -191,7 +199,9 @@ pub fn numbers(rt: &impl Print, name: &[u8], xs: &[usize]) -> io::Result<()> {
 }
 
 // A line: the same for bytes.
-pub fn byte_line(rt: &impl Print, name: &[u8], xs: &[u8]) -> io::Result<()> {
+pub fn byte_line(rt: &impl Print, name: &[u8], xs: &[u8]) -> io::Result<()>
+    ensures { Unit {0} }
+{
     text(rt, name)?;
     for x in xs {
         byte_number(rt, *x)?;
@@ -208,7 +218,9 @@ fn hex_byte(rt: &impl Print, x: u8) -> io::Result<()> {
 }
 
 // A space, and two hexadecimal digits for each byte; a dash for no byte.
-pub fn hex(rt: &impl Print, s: &[u8]) -> io::Result<()> {
+pub fn hex(rt: &impl Print, s: &[u8]) -> io::Result<()>
+    ensures { Unit {0} }
+{
     text(rt, b" ")?;
     if s.len() == 0 {
         return text(rt, b"-");
@@ -220,7 +232,9 @@ pub fn hex(rt: &impl Print, s: &[u8]) -> io::Result<()> {
 }
 
 // Ends a line: a space, and a digest in eight hexadecimal digits.
-pub fn end_digest(rt: &impl Print, d: u64) -> io::Result<()> {
+pub fn end_digest(rt: &impl Print, d: u64) -> io::Result<()>
+    ensures { Unit {0} }
+{
     print!(rt; " {d:08x}")?;
     newline(rt)
 }
