@@ -1,6 +1,6 @@
 -- What a crate above may know of runs and systems besides the definitions.
 --   One controller's run
---     step_number                the number of a step; carried_out_yes, carried_out_no: it is 0 exactly where the step is carried out
+--     step_number               the number of a step; carried_out_yes, carried_out_no: it is 0 exactly where the step is carried out
 --     chain                     a run is its calls in order; refused_away: a refused step can be left out
 --     At                        a state of the run before call c; step_at: a step that is carried out leaves one before call c + 1
 --     valid_at                  its settings and own number are valid
@@ -12,7 +12,7 @@
 --     call_first, call_next, call-last   what calls are made on and leave
 --     delivered                 what i sent to j in round c is what j's call c + 1 reads
 --   The steps of the proof
---     held_block, is_block       the block held after call 2; sender-block: the sender's, if the sender is correct; own_block: without a sender the own
+--     held_block, is_block      the block held after call 2; sender-block: the sender's, if the sender is correct; own_block: without a sender the own
 --     round_1_silent            without a sender nobody sends in round 1
 --     one_matrix, row_is_marks  the vote: one matrix, with each correct controller's row as it was sent
 --     one_core, enough_correct, one_block   one core; at least t + 1 of its members are correct; they hold one block

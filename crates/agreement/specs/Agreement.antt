@@ -1,25 +1,25 @@
 -- Demand 3, as one proposition on the lists of steps of all correct controllers of a system together (document 01, 'The house'). Runs without a
 -- sender, sender 0, are taken in (document 02, U6). All correct controllers have one run number (document 02, U11); late messages of other runs may
 -- stand in any slot of a faulty one.
---   System                   the settings and the run number; who is correct; the block that each was started with; the steps each made after its start
---   Correct S i              controller i is one of 1 .. n, and correct (document 01: it follows the steps)
+--   System                      the settings and the run number; who is correct; the block that each was started with; the steps each made after its start
+--   Correct S i                 controller i is one of 1 .. n, and correct (document 01: it follows the steps)
 --   at_start, calls_of, at_end  what a controller holds at its start, its calls, and what it holds after all its steps
---   last S                   the number of the last call
---   no_call                   a call with nothing in it
---   call S i c               call c of controller i; past its calls `no_call`
---   layout_of S c             the layout of the slots of round c
---   piece_layout S            that of the slots in the inbox of the last call, which hold pieces
---   Arrives S i j c          the message from i to j arrives unchanged in round c
---   Supposed S               what is supposed
---   last_core, last_inbox      the core before the last call, and the inbox lent to it
---   outcome_of, block_of       the outcome and the block at the end
---   SetByLast S i            outcome and block at the end are those that the last call sets
---   RefusesMore S i          every later step is refused with 8 and leaves both
---   StartedAlike S B         there is no sender, and every correct controller was started with the block B
---   Concluded S              what is concluded
---   Agreement                demand 3: supposed implies concluded
---   Holds S i A              controller i ends with the block A agreed on (document 01: it holds the plan)
---   OnePlan                  for readers: no two correct controllers hold different blocks
+--   last S                      the number of the last call
+--   no_call                     a call with nothing in it
+--   call S i c                  call c of controller i; past its calls `no_call`
+--   layout_of S c               the layout of the slots of round c
+--   piece_layout S              that of the slots in the inbox of the last call, which hold pieces
+--   Arrives S i j c             the message from i to j arrives unchanged in round c
+--   Supposed S                  what is supposed
+--   last_core, last_inbox       the core before the last call, and the inbox lent to it
+--   outcome_of, block_of        the outcome and the block at the end
+--   SetByLast S i               outcome and block at the end are those that the last call sets
+--   RefusesMore S i             every later step is refused with 8 and leaves both
+--   StartedAlike S B            there is no sender, and every correct controller was started with the block B
+--   Concluded S                 what is concluded
+--   Agreement                   demand 3: supposed implies concluded
+--   Holds S i A                 controller i ends with the block A agreed on (document 01: it holds the plan)
+--   OnePlan                     for readers: no two correct controllers hold different blocks
 use Rattle.std.specs.Prelude.{◌≡◌, Bool, true, not, List, [], ℕ, ◌+◌, ◌-◌, ◌*◌, ◌≤◌, ◌<◌, length, get_or, replicate}
 use Rattle.lists.specs.Sum.{count}
 use Rattle.settings.specs.declared.Settings.{Settings}

@@ -1,11 +1,11 @@
 -- Who held the block that is agreed on, and who is in the core (document 02, U14), under what demand 3 supposes; demand 3 itself is in Agreement. At
 -- least t + 1 correct controllers held it from the second call on: faulty ones, the sender among them, cannot bring in a block that no correct one held.
 --   block_after S i c  the block of controller i as its call c left it
---   holders S c B     how many correct controllers, of 1 .. n, held the block B after call c, byte for byte
---   HeldByMany        whatever block a correct controller ends with as agreed, at least t + 1 correct ones held that very block after call 2
---   HeldOn            and whoever held it then holds it after every later call, to the end
+--   holders S c B      how many correct controllers, of 1 .. n, held the block B after call c, byte for byte
+--   HeldByMany         whatever block a correct controller ends with as agreed, at least t + 1 correct ones held that very block after call 2
+--   HeldOn             and whoever held it then holds it after every later call, to the end
 --   core_after S i c   the core in the state of controller i as its call c left it
---   AllInCore         if the sender is correct, every correct controller is in the core of each, from call 3t + 7 on
+--   AllInCore          if the sender is correct, every correct controller is in the core of each, from call 3t + 7 on
 use Rattle.std.specs.Prelude.{◌≡◌, true, ◌&&◌, List, ℕ, ◌+◌, ◌-◌, ◌*◌, ◌≤◌}
 use Rattle.lists.specs.Same.{same}
 use Rattle.lists.specs.Sum.{count}

@@ -1,6 +1,6 @@
 -- Whom the correct controllers name at the end (document 02, U1), under what demand 3 supposes; demand 3 itself is in Agreement. The marks of two
 -- correct controllers may differ: a faulty one may send its true piece to one of them, and another or none to the other.
---   named_by S i          the marks of those whom controller i names at the end: index j - 1 for controller j
+--   named_by S i         the marks of those whom controller i names at the end: index j - 1 for controller j
 --   NamedAtEnd S i       with the outcome agreed they are of those whose piece in the last round was absent, or was not, byte for byte, their piece of the
 --                        block at the end; with any other outcome there are none
 --   NamedByLast          that holds of every correct controller

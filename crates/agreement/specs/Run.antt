@@ -4,8 +4,8 @@
 --   Local               what passes from each step to the next: the state and the block
 --   stepped h l         one step
 --   left h l            what it leaves to the next
---   carried_out h l      whether it was carried out: it returned 0
---   left_after h ls      what is held after a list of steps
+--   carried_out h l     whether it was carried out: it returned 0
+--   left_after h ls     what is held after a list of steps
 --   Made, made h l      a step that was carried out: what it was made on, what was lent, what it left, and what it sends
 --   calls h ls          the calls among a list of steps: those carried out, in order
 --   begun s own run b   what the first step gets: the state that start with the run number `run` returned, and the block lent to start

@@ -24,7 +24,7 @@
 --   Rows in message bytes
 --     row_held, row_missing, row_none, row_lt, row_pair, row_left, row_right
 --     row_read                      a row of the message that was written is read back
---     rows-length, length_rows, rows_written, rows-bytes, halves
+--     rows_length, length_rows, rows_written, rows-bytes, halves
 pub use Rattle.bitset.proofs.Sets.{set_none, set_lt, set_lt_16, set_all, member-set, member-set_past, member_over, member_none, none_in_0}
 pub use Rattle.bitset.proofs.Sets.{member_below, set_ext, set_past, set_empty, set_more, digit_member, set_members, set_of_members, ext, size_le}
 pub use Rattle.bitset.proofs.Sets.{size_below, size_set, insert_lt, member_insert, insert_over, insert_member, insert_add, insert_next, insert_skip}

@@ -1,14 +1,14 @@
 -- Sets of controllers as numbers of 16 bits. Index i stands for controller i + 1, so the bit worth 1 is for controller 1
 -- (document 01, 'Rounds': its term is marks).
 --   member s i                                   whether i is in the set s
---   set_of n p                                    the set of the indices below n that pass the test p
---   size_of s                                     how many members s has
+--   set_of n p                                   the set of the indices below n that pass the test p
+--   size_of s                                    how many members s has
 --   inserted s i                                 s with i, which is below 16; else s
 --   removed s i                                  s without i
 --   intersection a b, difference a b, union a b  the members of both; of a and not of b; of either
 --   restricted s n                               the members of s below n
 --   first n p                                    the least index below n that passes p; n where none does
---   lowest_of s                                   the least member of s; 16 where it has none
+--   lowest_of s                                  the least member of s; 16 where it has none
 use Rattle.std.specs.Prelude.{Bool, cond, not, ◌&&◌, ◌||◌, ℕ, zero, suc, ◌*◌, ◌/◌, ◌%◌, ◌^◌, eqb}
 use Rattle.lists.specs.Sum.{sum, ind, count}
 

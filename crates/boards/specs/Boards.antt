@@ -1,29 +1,29 @@
 -- What the exported functions answer and leave: the definitions of the crates below, with the state as bytes. A lent state of another length is
 -- refused with 6, which is tried first.
---   bad_length                                   6, row 6 of the refusal table
---   beyond_number                                what decoding answers where no block meets the rule: 255, the number of no refusal
+--   bad_length                                  6, row 6 of the refusal table
+--   beyond_number                               what decoding answers where no block meets the rule: 255, the number of no refusal
 --   Returned, returned r bytes                  a number answered, and the lent bytes as the call leaves them
---   start_returned state a                       an answer of `start`, with the state as bytes; refused, the lent bytes stay
---   start_bytes s own run b state                start to a lent state; b is the length of the lent block
---   ReturnedStep, returned_step r state b o      what a step leaves: its number, the state, the block and the outbox
---   step_as_bytes a                               an answer of `step`, with the state as bytes
---   step_returned state a                        the same where it was carried out; refused, the state stays byte for byte
---   step_bytes state b i o                       step on the state that the bytes stand for
---   outcome_in state                             the number of the outcome in a state
---   named_in state                               the marks of those named in a state; none where it has another length
---   final_size state                             the length of a block by the state's settings
---   final_fits state block final                 both lent blocks have it
---   final_bytes state block final                the outcome, and the final block: the block as it is, once the outcome is set
---   decode_number d                              the number for an answer of decoding
---   named_after d m                              the marks that it leaves where m was: those of the block; none for beyond; refused, m
+--   start_returned state a                      an answer of `start`, with the state as bytes; refused, the lent bytes stay
+--   start_bytes s own run b state               start to a lent state; b is the length of the lent block
+--   ReturnedStep, returned_step r state b o     what a step leaves: its number, the state, the block and the outbox
+--   step_as_bytes a                             an answer of `step`, with the state as bytes
+--   step_returned state a                       the same where it was carried out; refused, the state stays byte for byte
+--   step_bytes state b i o                      step on the state that the bytes stand for
+--   outcome_in state                            the number of the outcome in a state
+--   named_in state                              the marks of those named in a state; none where it has another length
+--   final_size state                            the length of a block by the state's settings
+--   final_fits state block final                both lent blocks have it
+--   final_bytes state block final               the outcome, and the final block: the block as it is, once the outcome is set
+--   decode_number d                             the number for an answer of decoding
+--   named_after d m                             the marks that it leaves where m was: those of the block; none for beyond; refused, m
 --   DecodeLeaves n t layout slots b m r b' m'   decoding: r is the number of its answer, b' the block that it leaves, and m' the marks
---   set_rows s                                   the sets C, D, F and E as the first of 16 rows of marks
---   set_bytes s                                  the bytes of these four rows
---   star_returned s sets                         an answer of the star; refused, the lent bytes stay
---   of_lengths a lent b out w                    w where `lent` has a bytes and `out` b; else 6, and `out` stays
---   star_bytes n t rows sets                     the star of the rows in 32 bytes, to 8 bytes
---   pair_bytes n rows pairs                      the missing pairs of the rows in 32 bytes, to 15 bytes
---   pair_star_bytes n t pairs sets                the star of the missing pairs in 15 bytes, to 8 bytes
+--   set_rows s                                  the sets C, D, F and E as the first of 16 rows of marks
+--   set_bytes s                                 the bytes of these four rows
+--   star_returned s sets                        an answer of the star; refused, the lent bytes stay
+--   of_lengths a lent b out w                   w where `lent` has a bytes and `out` b; else 6, and `out` stays
+--   star_bytes n t rows sets                    the star of the rows in 32 bytes, to 8 bytes
+--   pair_bytes n rows pairs                     the missing pairs of the rows in 32 bytes, to 15 bytes
+--   pair_star_bytes n t pairs sets              the star of the missing pairs in 15 bytes, to 8 bytes
 use Rattle.std.specs.Prelude.{◌≡◌, Bool, cond, ◌&&◌, List, ◌∷◌, ℕ, eqb, length, replicate}
 use Rattle.lists.specs.Fill.{tabulate}
 use Rattle.bitset.specs.Row.{rows_in, row_byte}

@@ -1,32 +1,32 @@
 -- Runs made through the exported functions of `boards`, with the state as bytes, and what demand 3 says of them. The contracts of
 -- `potekawhi_start`, `potekawhi_step`, `potekawhi_outcome`, `potekawhi_final_block` and `potekawhi_named` are the equations `start_bytes`, `step_bytes`,
 -- `outcome_in`, `final_bytes` and `named_in` that are used here.
---   Kept                         what the caller keeps from each step to the next: the state's bytes and the block
---   makes c l                    one step through the library
---   kept c l                     what it leaves to the next
+--   Kept                          what the caller keeps from each step to the next: the state's bytes and the block
+--   makes c l                     one step through the library
+--   kept c l                      what it leaves to the next
 --   kept_after c ls               what is kept after a list of steps
 --   kept_from s own run b buffer  what start leaves in a buffer, and the block lent to it
---   LibraryRuns                  after a start that is carried out, every step of every list of steps through the library is that of the run of
---                                `agreement`: its number, block and outbox, and the state as bytes
+--   LibraryRuns                   after a start that is carried out, every step of every list of steps through the library is that of the run of
+--                                 `agreement`: its number, block and outbox, and the state as bytes
 --   kept_at S buffers i           what controller i keeps after all its steps, with a buffer of its own
---   SetByLastCall ..             controller i's outcome and block are those that the last call sets
---   OneOutcome S buffers         these; later steps answer 8 and change nothing; one outcome and one block; one final block; with a correct sender the
---                                outcome agreed, 1, and the sender's block; without a sender (document 02, U6) agreed and the block that all correct
---                                controllers were started with, if it was one
---   LibraryAgrees                that holds of every system that `agreement` supposes, run through the library
---   NamedRight S buffers         document 02, U1: with the outcome agreed a correct controller names those whose piece in the last round was absent, or was
---                                not, byte for byte, their piece of its block; with any other outcome nobody; and no correct controller in any case. So
---                                whoever is named by t + 1 is not correct, whatever marks those show who are not correct themselves
---   LibraryNames                 that holds of every such system
+--   SetByLastCall ..              controller i's outcome and block are those that the last call sets
+--   OneOutcome S buffers          these; later steps answer 8 and change nothing; one outcome and one block; one final block; with a correct sender the
+--                                 outcome agreed, 1, and the sender's block; without a sender (document 02, U6) agreed and the block that all correct
+--                                 controllers were started with, if it was one
+--   LibraryAgrees                 that holds of every system that `agreement` supposes, run through the library
+--   NamedRight S buffers          document 02, U1: with the outcome agreed a correct controller names those whose piece in the last round was absent, or was
+--                                 not, byte for byte, their piece of its block; with any other outcome nobody; and no correct controller in any case. So
+--                                 whoever is named by t + 1 is not correct, whatever marks those show who are not correct themselves
+--   LibraryNames                  that holds of every such system
 --   calls_kept c ls               what is kept after each call among a list of steps: each step that answers 0
 --   none_kept                     nothing
---   kept_after_call ..             what controller i keeps after its call c; past its calls `none_kept`
---   HeldBefore S buffers         document 02, U14: if a correct controller's outcome is agreed, at least t + 1 correct ones kept its block, byte for byte,
---                                after call 2, and whoever did so keeps it after every later call; if the sender is correct, every correct controller is
---                                in the core, in the state that each keeps, from call 3t + 7 on
---   LibraryHeld                  that holds of every such system
---   LibraryLate                  document 02, U11: whatever bytes are lent, every step answers and leaves what it would if a slot of another run than the
---                                state's were all 00
+--   kept_after_call ..            what controller i keeps after its call c; past its calls `none_kept`
+--   HeldBefore S buffers          document 02, U14: if a correct controller's outcome is agreed, at least t + 1 correct ones kept its block, byte for byte,
+--                                 after call 2, and whoever did so keeps it after every later call; if the sender is correct, every correct controller is
+--                                 in the core, in the state that each keeps, from call 3t + 7 on
+--   LibraryHeld                   that holds of every such system
+--   LibraryLate                   document 02, U11: whatever bytes are lent, every step answers and leaves what it would if a slot of another run than the
+--                                 state's were all 00
 use Rattle.std.specs.Prelude.{◌≡◌, true, false, cond, ◌&&◌, List, [], ◌∷◌, ℕ, ◌+◌, ◌-◌, ◌*◌, ◌≤◌, ◌<◌, eqb, length, get_or, replicate}
 use Rattle.lists.specs.Same.{same}
 use Rattle.lists.specs.Sum.{count}

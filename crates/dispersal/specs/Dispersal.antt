@@ -6,7 +6,7 @@
 --   two_pieces k t own b j                round 2, to j: the own piece, then piece j of the own coding
 --   sent_pieces run n t k own b o         call 2: that to each j, in slots of the run with the number `run`
 --   is_marked k t own inbox layout b j    call 3: j's slot is present, its first piece equals piece j of the own coding, and its second equals the own
---                                        piece; oneself is always marked
+--                                         piece; oneself is always marked
 --   marks_of n t k own inbox layout b     call 3: the set of those marked, index j - 1 for controller j (document 01: marks)
 --   marks_message n s                     the marks as 16 bits, low byte first; bits past n are sent 0
 --   sent_marks layout n s o               call 3: the marks to all

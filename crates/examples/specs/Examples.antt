@@ -1,9 +1,9 @@
 -- Document 01, 'Checked examples': each with its letter, over the definitions, as one table. Proved in proofs/Proved.antt.
---   code i              what encoding gives controller i of the block 0a14, at n 4, t 1, k 1
+--   code i               what encoding gives controller i of the block 0a14, at n 4, t 1, k 1
 --   four_pieces a b c d  four slots of run 0, each with a piece of one byte
---   decodes a b c d     what decoding answers, and leaves in a block of zeros, from four pieces, at n 4, t 1, k 1
---   graph a b c d       16 rows of marks, of which the first four are given; mark i of a row has the value 2^(i - 1)
---   Examples            the table, a to j
+--   decodes a b c d      what decoding answers, and leaves in a block of zeros, from four pieces, at n 4, t 1, k 1
+--   graph a b c d        16 rows of marks, of which the first four are given; mark i of a row has the value 2^(i - 1)
+--   Examples             the table, a to j
 use Rattle.std.specs.Prelude.{◌≡◌, true, false, List, [], ◌∷◌, ℕ, ltb, replicate}
 use Rattle.gf256.specs.Field.{gmul}
 use Rattle.reed_solomon.specs.Encode.{Encoded, encoded, encode_of}

@@ -1,7 +1,7 @@
 -- Document 02, U9, on the graphs of document 01's examples g, h and i: their missing pairs, as 15 bytes, and the stars of these. Proved in
 -- proofs/Pairs.antt.
 --   first_four a b c d  15 bytes, of which the first four are given, then zeros
---   MissingPairs       the table
+--   MissingPairs        the table
 use Rattle.std.specs.Prelude.{◌≡◌, List, ◌∷◌, ℕ, replicate}
 use Rattle.graph.specs.Neighbour.{neighbour}
 use Rattle.graph.specs.Bits.{bits_of}

@@ -1,13 +1,13 @@
 -- The field of 256 elements (document 01, 'Field and code'). An element is a number below 256; its bits are the coefficients of a
 -- polynomial over two elements, bit k that of X to the k. The product looks at the low eight bits of any number, so that most laws
 -- hold of all numbers.
---   gadd a b                            the sum: exclusive or
+--   gadd a b                             the sum: exclusive or
 --   modulus, poly_mul n a b, reduce k p  11d; the product of polynomials, of n bits of b; the remainder, of a polynomial of 8 + k bits
---   gmul a b                            the product: of polynomials, reduced by 11d
---   gpow a n                            a multiplied by itself n times
---   ginv a                              the inverse; that of 00 is 00
+--   gmul a b                             the product: of polynomials, reduced by 11d
+--   gpow a n                             a multiplied by itself n times
+--   ginv a                               the inverse; that of 00 is 00
 --   orbit n p, index_of l i a            p, 02 p, .. : n of them; where a first stands in l, counted from i
---   glog a                              the exponent: a is that power of 02; that of 00 is 0
+--   glog a                               the exponent: a is that power of 02; that of 00 is 0
 use Rattle.std.specs.Prelude.{cond, List, [], ◌∷◌, ℕ, zero, suc, ◌+◌, ◌*◌, ◌/◌, ◌%◌, ◌^◌, eqb}
 use Rattle.std.specs.Int.Bits.{bit_xor}
 

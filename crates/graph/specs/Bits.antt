@@ -1,9 +1,9 @@
 -- The neighbour graph as missing pairs (document 02, U9): 120 bits, one for each pair in its order, set where both indices are below n and
 -- are not neighbours. 120 bits are 15 bytes, with none to spare: place p is bit p % 8 of byte p / 8, the bit worth 1 first.
---   bit bits p         the bit at place p
+--   bit bits p          the bit at place p
 --   missing_at n adj p  the pair at place p is missing: the larger index is below n, hence both are, and they are not neighbours
 --   bits_of n adj       the 120 bits of a graph
---   adjacent bits i j  i and j are neighbours by any 120 bits: they are the same, or the bit of their pair is not set. An index past 15 is in no pair
+--   adjacent bits i j   i and j are neighbours by any 120 bits: they are the same, or the bit of their pair is not set. An index past 15 is in no pair
 use Rattle.std.specs.Prelude.{Bool, not, ◌&&◌, ◌||◌, List, ℕ, ◌+◌, ◌*◌, ◌/◌, ◌%◌, min, max, eqb, ltb, get_or}
 use Rattle.lists.specs.Fill.{tabulate}
 use Rattle.bitset.specs.Set.{member, set_of}

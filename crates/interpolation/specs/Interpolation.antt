@@ -1,24 +1,24 @@
 -- Interpolation of a polynomial through values some of which are wrong (Welch and Berlekamp), by pairs of polynomials that are made
 -- right for one point after the other (Kötter). A pair Q, E is right at x, where y was received, when Q(x) = y E(x). Its weighted degree
 -- is the larger of the degree of Q and t more than that of E. What the result is worth is said by the laws `recovers` and `unique`.
---   agreements xs ys m     the number of points of the list xs at which m takes the value that the list ys has
---   Ratio, ratio q e       a pair Q, E
+--   agreements xs ys m      the number of points of the list xs at which m takes the value that the list ys has
+--   Ratio, ratio q e        a pair Q, E
 --   wrong_by y P x          Q(x) - y E(x)
---   combine a B b A        a B + b A
+--   combine a B b A         a B + b A
 --   with_root x A           X + x times A
---   Ratios, ratios         two pairs and bounds of their weighted degrees
---   swapped s              the other pair first
---   constant w c           the polynomial c, in w coefficients
---   start w t              1, 0 and 0, 1, in w coefficients
---   advance x y s          a point more, where A has the smaller bound: if A is right there, it stays, and B gets the root x; else A gets it, and B is
---                          made right there by A
---   next x y s             the same, whichever has the smaller bound
---   run t xs ys i          the state after the first i points
---   smaller s              the pair of the smaller bound
---   reduced c q e          q + c e without its constant coefficient, over X, in as many coefficients
---   series n q e           the first n coefficients of q / e as a power series
---   candidate t xs ys      the t + 1 coefficients that Q / E gives: the only polynomial that can agree in enough places
---   most                   the most points and coefficients that the code takes: n + t + 1 for n 16 and t 5
+--   Ratios, ratios          two pairs and bounds of their weighted degrees
+--   swapped s               the other pair first
+--   constant w c            the polynomial c, in w coefficients
+--   start w t               1, 0 and 0, 1, in w coefficients
+--   advance x y s           a point more, where A has the smaller bound: if A is right there, it stays, and B gets the root x; else A gets it, and B is
+--                           made right there by A
+--   next x y s              the same, whichever has the smaller bound
+--   run t xs ys i           the state after the first i points
+--   smaller s               the pair of the smaller bound
+--   reduced c q e           q + c e without its constant coefficient, over X, in as many coefficients
+--   series n q e            the first n coefficients of q / e as a power series
+--   candidate t xs ys       the t + 1 coefficients that Q / E gives: the only polynomial that can agree in enough places
+--   most                    the most points and coefficients that the code takes: n + t + 1 for n 16 and t 5
 --   can_try xs ys m         a value for each point, at least one coefficient, and not too many
 --   candidate_into xs ys m  the candidate of as many coefficients as m has; m as it is where it can't be tried
 use Rattle.std.specs.Prelude.{Bool, cond, ◌&&◌, List, [], ◌∷◌, ℕ, zero, suc, ◌+◌, ◌-◌, eqb, leb, length, get_or, replicate}

@@ -1,5 +1,5 @@
 -- For the contracts of private functions; a reader of the public contracts needs none of it.
---   ratios_of qa ea u qb eb v   two pairs of polynomials and the bounds of their weighted degrees
+--   ratios_of qa ea u qb eb v  two pairs of polynomials and the bounds of their weighted degrees
 --   SameWidth w qa ea qb eb    all four have w coefficients
 --   Next f s s'                s' is f s, and its bounds add up to one more
 --   Zeros xs ys t qa ea qb eb  all four are zeros, as many as the points xs and t + 1 need; ys has a value for each point

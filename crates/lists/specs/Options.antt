@@ -1,6 +1,6 @@
 -- Answers that may be none.
 --   or_else r q  r, or q where r is none
---   front x r   x before the list of r
+--   front x r    x before the list of r
 use Rattle.std.specs.Prelude.{List, ◌∷◌}
 use Rattle.std.proofs.Math.Option.{Option, none, some}
 

@@ -2,7 +2,7 @@
 --   ends f M                of each pair the end f, the first pair last, then zeros: 8 in all
 --   stored M                the matching M as it is answered
 --   pairs a b k             the pairs of the first k elements of a and of b, the last one first
---   pairs_of m               the pairs of an answer
+--   pairs_of m              the pairs of an answer
 --   IsFirstLargest n adj r  the pairs of r are the first largest matching among 0 .. n - 1, and r is how they are answered
 --   OneAnswer               no two answers are so: the relation determines every byte (proofs/One: `one_answer`)
 use Rattle.std.specs.Prelude.{◌≡◌, List, [], ◌∷◌, Bool, ℕ, zero, suc, length, get_or, set, replicate}

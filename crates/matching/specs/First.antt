@@ -5,7 +5,7 @@
 --   or_list r M             the list of r, or M where r is none
 --   up_to adj n k           the first largest of the matchings of at most k pairs among 0 .. n - 1
 --   matching_of n adj       the first largest matching among 0 .. n - 1
---   MatchingFirst          it is the first largest matching (proofs/First: `matching_first`)
+--   MatchingFirst           it is the first largest matching (proofs/First: `matching_first`)
 use Rattle.std.specs.Prelude.{List, [], Bool, true, cond, not, ◌&&◌, ℕ, zero, suc, eqb}
 use Rattle.std.proofs.Math.Option.{Option, none, some}
 use Rattle.lists.specs.Options.{or_else, front}

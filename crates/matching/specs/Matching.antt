@@ -8,8 +8,8 @@
 --   FirstLargest P M  of the largest matchings of pairs that pass P, M is the first in dictionary order
 --   OneMatching       no two lists meet `FirstLargest P`: the relation determines the matching (proofs/One: `one_matching`)
 --   Missing n adj p   p is a pair of 0 .. n - 1, the smaller end first, that are not neighbours
---   any_pair R M       some pair of M passes the test R
---   is_end i p         i is an end of p
+--   any_pair R M      some pair of M passes the test R
+--   is_end i p        i is an end of p
 --   matched M i       i is an end of a pair of M
 use Rattle.std.specs.Prelude.{◌≡◌, ◌⊎◌, List, [], ◌∷◌, Bool, false, ◌||◌, ℕ, ◌≤◌, ◌<◌, eqb, length}
 use Rattle.graph.specs.Pairs.{Pair, Before}

@@ -1,7 +1,7 @@
 -- One phase of the vote for one bit (document 01, 'Rounds', rounds 3p + 1 to 3p + 3), as functions of what the n slots say. A slot is a
 -- Bool, true for 1; index i is controller i + 1.
---   zero_seen n t said       at least n - t slots say 0 (Berman, Garay and Perry: C⁰ is 1)
---   one_seen n t said        at least n - t slots say 1 (C¹ is 1)
+--   zero_seen n t said      at least n - t slots say 0 (Berman, Garay and Perry: C⁰ is 1)
+--   one_seen n t said       at least n - t slots say 1 (C¹ is 1)
 --   held n t ones           1 if the slots with one seen exceed t, else 0
 --   support n t zeros ones  the count for the bit now held
 --   weak n t zeros ones     that count is below n - t

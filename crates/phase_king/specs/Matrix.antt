@@ -2,18 +2,18 @@
 -- 3p + 3). Rows and bits past n are 0. A number n over 16 counts as 16, so every definition is total; layout is that of the inbox.
 -- An absent slot reads as a message of no rows, and a row that is not there as zeros (bitset's `row_of`): it says 0 in round 3p + 1, adds to
 -- neither count in round 3p + 2, and is 0 for the king.
---   limit n                                  n, or 16 where n is larger
---   cell m r j                               bit j of row r of the matrix m
+--   limit n                                   n, or 16 where n is larger
+--   cell m r j                                bit j of row r of the matrix m
 --   matrix_of n f                             the matrix whose bit j of row r is f r j, for r and j below n
---   said inbox layout n r j i                what slot i + 1 says of bit j of row r
+--   said inbox layout n r j i                 what slot i + 1 says of bit j of row r
 --   king_says inbox layout n king r j         what the slot of the king says, controller 1 to n; 0 for any other number
 --   first_matrix inbox layout n               call 4: row j is the message of j, zeros if absent
---   zeros_of, ones_of inbox layout n t         after 3p + 1: where zero and where one is seen
---   held_of, weak_of inbox layout n t          after 3p + 2: the bits now held, and where their count is below n - t; row r of the ones matrix is row n +
---                                            r of the message
+--   zeros_of, ones_of inbox layout n t        after 3p + 1: where zero and where one is seen
+--   held_of, weak_of inbox layout n t         after 3p + 2: the bits now held, and where their count is below n - t; row r of the ones matrix is row n +
+--                                             r of the message
 --   settled_of rows weak inbox layout n king  after 3p + 3: the king's bit where weak, else the bit held
 --   seen_message n zeros ones                 the message of round 3p + 2: the zeros matrix, then the ones matrix
---   sent_by_king layout own king n rows o      round 3p + 3: the king's matrix to all; silence from everyone else
+--   sent_by_king layout own king n rows o     round 3p + 3: the king's matrix to all; silence from everyone else
 --   collect_answer, tally_answer, hold_answer, settle_answer   the answers of the functions, as structs
 use Rattle.std.specs.Prelude.{Bool, cond, List, [], ◌++◌, ℕ, ◌+◌, min, leb, eqb, length, get_or, replicate}
 use Rattle.lists.specs.Fill.{filled}

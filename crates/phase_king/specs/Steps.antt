@@ -1,7 +1,7 @@
 -- For the contracts of private functions; a reader of the public contracts needs none of it.
 --   said_rows inbox layout n r        row r of the message of each of the n slots
 --   rule_bit rule n t first second j  bit j by one of the four rules, from the rows that the slots say: `first` of row r, `second` of row n + r
---   rule_row, rule_matrix              the row of those bits, and the matrix of those rows
+--   rule_row, rule_matrix             the row of those bits, and the matrix of those rows
 --   king_row inbox layout n king r    row r of the king's message; empty for a number past n
 --   settled_row n held weak king      a row after round 3p + 3, from those three
 --   settled_rows                      the matrix of those rows

@@ -2,7 +2,7 @@
 -- supposed of what the others send: it may differ from receiver to receiver.
 --   CorrectIndex n correct i  i is one of the n controllers, and correct
 --   Resilient n t correct     3t + 1 at most n, and all but at most t of the n controllers are correct
---   phase_count t              how many phases a vote has
+--   phase_count t             how many phases a vote has
 --   Kings n t king            the kings of the phases 0, 1, .. are different controllers
 --   BitPhase                  a phase for one bit, from the bits held before to those held after
 --   MatrixPhase               a phase for matrices, in terms of what the inboxes of its three rounds hold

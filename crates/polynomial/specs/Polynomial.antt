@@ -1,15 +1,15 @@
 -- Polynomials over the field of 256 elements: lists of coefficients, the constant one first.
---   gsum n f       f 0 + .. + f (n - 1), in the field
---   evaluate p x   the value at x: p0 + p1 x + p2 x² + .., by powers of x (document 01, 'Field and code')
---   horner p x     p0 + x (p1 + x (p2 + ..)): the same value (law `evaluate-horner`)
---   plus p q       the sum
---   scale c p      c times p
---   product p q    the product
+--   gsum n f        f 0 + .. + f (n - 1), in the field
+--   evaluate p x    the value at x: p0 + p1 x + p2 x² + .., by powers of x (document 01, 'Field and code')
+--   horner p x      p0 + x (p1 + x (p2 + ..)): the same value (law `evaluate-horner`)
+--   plus p q        the sum
+--   scale c p       c times p
+--   product p q     the product
 --   times_root x p  X + x times p, in as many coefficients as p has: right where the last one of p is 0
---   Bytes p        every coefficient is an element
---   Zero p         every coefficient is 0
---   Below n p      of degree below n: the coefficients from place n on are 0
---   Points n x     x 0, .., x (n - 1) are different elements
+--   Bytes p         every coefficient is an element
+--   Zero p          every coefficient is 0
+--   Below n p       of degree below n: the coefficients from place n on are 0
+--   Points n x      x 0, .., x (n - 1) are different elements
 use Rattle.std.specs.Prelude.{◌≡◌, List, [], ◌∷◌, ℕ, zero, suc, ◌≤◌, ◌<◌, length, get_or}
 use Rattle.gf256.specs.Field.{gadd, gmul, gpow}
 use Rattle.lists.specs.Fill.{tabulate}

@@ -4,7 +4,7 @@
 --     start_0, start_state         number 0: settings and own number are valid, the block has its length, and the state is the fresh one
 --     start_found, start_refused   the answer, by the number that was found; start_by_size: the number by the block's stated length
 --   Step
---     step_number_lem                  the number is that of the refusal
+--     step_number_lem              the number is that of the refusal
 --     step_refused, step_carried   a refused step hands everything back; one that is carried out does its call
 --     step_0, 0_step               number 0 exactly where no row of the table names the step
 --     8_step                       8 for a finished run

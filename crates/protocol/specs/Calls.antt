@@ -1,15 +1,15 @@
 -- The calls (document 01, 'Rounds'): what each leaves of the state, the block and the outbox. Call c reads the inbox of round c - 1 and fills
 -- the outbox of round c. Every call but the last sets the outcome to open, and names nobody.
---   Carried, carried s b o     the state, the block and the outbox after a call carried out
---   inbox_layout s              the layout of the slots in the inbox of the next call, of the run whose number the state keeps
---   outbox_layout s             and in its outbox
+--   Carried, carried s b o       the state, the block and the outbox after a call carried out
+--   inbox_layout s               the layout of the slots in the inbox of the next call, of the run whose number the state keeps
+--   outbox_layout s              and in its outbox
 --   read_phase s, write_phase s  the phase of the round that the next call reads, and of the round that it fills
---   core_of rows n t            the core: E of the star of the matrix
+--   core_of rows n t             the core: E of the star of the matrix
 --   matrix_to_all s m o          the outbox with the matrix to all
 --   send_call, receive_call, compare_call, collect_call, tally_call, hold_call, settle_call, core_call, choose_call, finish_call
---                              the calls, in their order
---   settled_matrix s i          the matrix after round 3p + 3, in two of them
---   call_of kind s b i o        the call of a kind on the state s, the block b, the inbox i and the outbox o
+--                                the calls, in their order
+--   settled_matrix s i           the matrix after round 3p + 3, in two of them
+--   call_of kind s b i o         the call of a kind on the state s, the block b, the inbox i and the outbox o
 use Rattle.std.specs.Prelude.{List, ℕ, ◌-◌}
 use Rattle.bitset.specs.Row.{rows_of}
 use Rattle.wire.specs.declared.Call.{Call}

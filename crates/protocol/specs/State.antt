@@ -1,15 +1,15 @@
 -- The state of a controller (document 01, 'The house'; document 02, U1 and U11). It is written out in two places: `initial`, from which the zero and the
 -- fresh state are made, and `changed`, by which each group of fields is changed.
 --   initial s own r next  the outcome open, and no matrix, weak bits or core, and nobody named; r is the run number
---   zero_state             all zero, and the outcome open
---   fresh_state s own r    what start returns when carried out
+--   zero_state            all zero, and the outcome open
+--   fresh_state s own r   what start returns when carried out
 --   changed s ..          the state s with the next call, the outcome, the matrix, the weak bits, the core and the marks of those named given
---   with_call s next w     with another next call, the outcome w and nobody named, whoever was
+--   with_call s next w    with another next call, the outcome w and nobody named, whoever was
 --   advanced s w          the state at the call after its next one, with the outcome w and nobody named
---   with_matrix s m        with another matrix
---   with_votes s m w       with another matrix, and the bits of it whose count was low
---   with_core s m e        with another matrix, and a core
---   with_named s m         with the marks m of those named
+--   with_matrix s m       with another matrix
+--   with_votes s m w      with another matrix, and the bits of it whose count was low
+--   with_core s m e       with another matrix, and a core
+--   with_named s m        with the marks m of those named
 use Rattle.std.specs.Prelude.{List, ℕ, ◌+◌, replicate}
 use Rattle.settings.specs.declared.Settings.{Settings}
 use Rattle.reconstruction.specs.declared.Outcome.{Outcome}

@@ -4,10 +4,10 @@
 --   start_of s own run b   the answer; refused, the zero state. Start neither reads nor changes the block
 --   lengths_fit s b i o    the lent block, inbox and outbox are as long as the next call states
 --   step_refusal s b i o   a step tries 7, 8, 6
---   After, after a b o    the answer of a step with the block and the outbox as it leaves them
---   done c                that of a call carried out
+--   After, after a b o     the answer of a step with the block and the outbox as it leaves them
+--   done c                 that of a call carried out
 --   step_of s b i o        a step; refused, it hands the state back as given and changes no lent byte
---   Ready s b i o         what no row of the table names: the state and the lent lengths of a step that is carried out
+--   Ready s b i o          what no row of the table names: the state and the lent lengths of a step that is carried out
 use Rattle.std.specs.Prelude.{◌≡◌, Bool, cond, not, ◌&&◌, ◌||◌, List, ℕ, ◌+◌, ◌*◌, ◌≤◌, eqb, length}
 use Rattle.settings.specs.declared.Settings.{Settings}
 use Rattle.settings.specs.declared.Entry.TheVariants.{Start}

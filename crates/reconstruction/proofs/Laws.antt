@@ -1,6 +1,6 @@
 -- What a crate above may know of calls 3t + 7 to 3t + 9 besides the contracts and the definitions.
 --   Call 3t + 7
---     in_core_lem                             membership by number
+--     in_core_lem                         membership by number
 --     kind_forward, kind_rebuild          the table's length is that of a piece
 --     forwarded-member, forwarded_other   a core member sends to j piece j of its own coding; others are silent
 --   Call 3t + 8

@@ -1,7 +1,7 @@
 -- The outcomes with document 01's number and word for each: the numbers in the order of 'The house', the words as the simulator prints them.
 --   Listed, listed w  the number and the word of an outcome, in bytes
---   outcome_number w   its number
---   outcome_word w     its word
+--   outcome_number w  its number
+--   outcome_word w    its word
 use Rattle.std.specs.Prelude.{List, [], ◌∷◌, ℕ}
 use Rattle.reconstruction.specs.declared.Outcome.{Outcome}
 use Rattle.reconstruction.specs.declared.Outcome.TheVariants.{Open, Agreed, None, Beyond}

@@ -2,22 +2,22 @@
 -- Controllers are numbered from 1; own is the caller's own number; index i of the set core is controller i + 1. The functions are total:
 -- outside the settings, or with a block or an outbox of another length, nothing is written.
 --   in_core core j                           controller j is in the core
---   forwarded run n t k own core b o        call 3t + 7: a core member sends to j piece j of its own coding, in slots of the run `run`; others are silent
---   votes n core inbox layout m             how many core members sent the piece m, whole pieces compared
+--   forwarded run n t k own core b o         call 3t + 7: a core member sends to j piece j of its own coding, in slots of the run `run`; others are silent
+--   votes n core inbox layout m              how many core members sent the piece m, whole pieces compared
 --   is_chosen n t core inbox layout i        the controller of index i is a member, its slot is present, and at least t + 1 members sent its piece
 --   chosen_piece n t core inbox layout       call 3t + 8, outside the core: the piece that at least t + 1 members sent; of several, that of the
---                                           lowest-numbered member; with none the empty list
+--                                            lowest-numbered member; with none the empty list
 --   own_piece n t k own core inbox layout b  call 3t + 8: a member's piece is its own
 --   sent_piece layout n m o                  the piece to all; silence where there is none
---   shared n t k own core inbox layout b o  call 3t + 8, in slots of the inbox's run
---   ending w m                              the outcome w, and the marks m of those who are named
---   Finished, finish e b                    what the last call sets: the outcome and the marks, and the block
+--   shared n t k own core inbox layout b o   call 3t + 8, in slots of the inbox's run
+--   ending w m                               the outcome w, and the marks m of those who are named
+--   Finished, finish e b                     what the last call sets: the outcome and the marks, and the block
 --   finished_by n t layout inbox len r       agreed, the block of r and the marks of the slots of the inbox that do not hold their piece of it; where r is
---                                           none beyond, no marks and len zeros
---   finished n t layout core inbox b        the last call: no core: none and zeros; else agreed and the block that meets decoding's rule, or beyond and
---                                           zeros where none does; where decoding is refused, open and the block as it was (never in a run). Nobody
---                                           is named but with agreed
---   FinishedAgreed, FinishedBeyond          the same, by decoding's rule (laws `finished-agreed`, `finished-beyond`)
+--                                            none beyond, no marks and len zeros
+--   finished n t layout core inbox b         the last call: no core: none and zeros; else agreed and the block that meets decoding's rule, or beyond and
+--                                            zeros where none does; where decoding is refused, open and the block as it was (never in a run). Nobody
+--                                            is named but with agreed
+--   FinishedAgreed, FinishedBeyond           the same, by decoding's rule (laws `finished-agreed`, `finished-beyond`)
 use Rattle.std.specs.Prelude.{◌≡◌, Bool, cond, not, ◌&&◌, List, [], ℕ, ◌+◌, ◌-◌, ◌*◌, eqb, leb, ltb, length, replicate}
 use Rattle.std.proofs.Math.Option.{Option, none, some}
 use Rattle.lists.specs.Sum.{count}

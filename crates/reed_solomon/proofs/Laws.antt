@@ -4,7 +4,7 @@
 --     encode_valid                and there the number is 0 and the piece is B's
 --     encode_refused              any other number: nothing changes
 --     length_piece, bytes_piece   a piece has k bytes
---     get_or_piece                  byte s is the value of stripe s
+--     get_or_piece                byte s is the value of stripe s
 --     ready_yes, yes_ready        what `is_ready` lets pass
 --     blocks_equal                two blocks whose codings have the same piece at t + 1 of the numbers 1 .. n are the same
 --   Decoding

@@ -1,16 +1,16 @@
 -- Decoding (document 01, 'Field and code'; document 02, U2, U1 and U11): the rule, the false pieces, and what a call answers. The slots are of a layout
 -- whose messages are pieces: its length is k. A slot of another run is absent.
---   has_piece layout slots j                  slot j is present. An absent slot has no message, and no piece is empty
+--   has_piece layout slots j                 slot j is present. An absent slot has no message, and no piece is empty
 --   received layout slots s j                the value of stripe s in slot j: byte s of its message
---   present_count n layout slots              how many of the slots 1 .. n are present: N in document 02
+--   present_count n layout slots             how many of the slots 1 .. n are present: N in document 02
 --   differing n layout slots s m             how many present values of stripe s differ from the code of m
 --   Decodes n t layout slots block           the rule: for each stripe, twice the number of present values that differ from their code is at most N - t - 1.
 --                                            It is written as a sum, since with N at most t nothing is right
---   is_named t layout slots block j           slot j does not hold, byte for byte, piece j of the block. An absent slot's message is empty, and no piece is: so
+--   is_named t layout slots block j          slot j does not hold, byte for byte, piece j of the block. An absent slot's message is empty, and no piece is: so
 --                                            it is named too
---   named_of n t layout slots block           the marks of the slots of 1 .. n that are named
---   decode_fits n t layout slots block        the lent lengths are the stated ones: n slots of messages of k bytes, and a block
---   decode_refusal n t layout slots block     the number of the refusal table's row, or 0 ('Turned down': decoding tries 1, 2, 3, 6)
+--   named_of n t layout slots block          the marks of the slots of 1 .. n that are named
+--   decode_fits n t layout slots block       the lent lengths are the stated ones: n slots of messages of k bytes, and a block
+--   decode_refusal n t layout slots block    the number of the refusal table's row, or 0 ('Turned down': decoding tries 1, 2, 3, 6)
 --   Answers n t layout slots before d after  what a call answers, d, and leaves in the lent block: the block that meets the rule, with its marks; beyond and
 --                                            zeros where none does; refused, the row's number, and the block as it was
 --   DecodesUnique                            at most one block meets the rule, whatever t and k are, where 1 .. n are different elements of the field (law

@@ -1,13 +1,13 @@
 -- Coding (document 01, 'Field and code'): a stripe m0..mt is coded by f(i) = m0 + m1 i + .. + mt i^t for i = 1..n.
---   stripe t block s                   stripe s of a block, counted from 0: the bytes s(t + 1) .. s(t + 1) + t
+--   stripe t block s                    stripe s of a block, counted from 0: the bytes s(t + 1) .. s(t + 1) + t
 --   piece_of k t block i                the piece of controller i: byte s is the value at i of stripe s
 --   encode_fits k t block piece         the lent lengths are the stated ones: a block, and k bytes
 --   encode_refusal n t k i block piece  the number of the refusal table's row, or 0 ('Turned down': coding tries 1, 2, 3, 4, 6)
---   Encoded, encoded r piece           what a call leaves: the number that it returns, and the lent piece
+--   Encoded, encoded r piece            what a call leaves: the number that it returns, and the lent piece
 --   encode_of n t k i block piece       refused: its number, nothing changes; else 0 and the piece
 --   is_ready n t k i block fits         the rows that coding tries let the settings, the number i and the lengths pass; fits is the test of what is lent
---                                      beside the block, for callers that code into a box
---   Coding n t k i block               what they then say: piece i of the block can be coded
+--                                       beside the block, for callers that code into a box
+--   Coding n t k i block                what they then say: piece i of the block can be coded
 use Rattle.std.specs.Prelude.{◌≡◌, Bool, cond, ◌&&◌, List, ℕ, ◌+◌, ◌*◌, eqb, length, take, drop}
 use Rattle.lists.specs.Fill.{tabulate}
 use Rattle.settings.specs.Refusal.{encoding_refusal}

@@ -1,15 +1,15 @@
 -- The block that meets decoding's rule as a function, for definitions that need one: the first of all blocks, in dictionary order, that meets
 -- it. Within the settings it is the only one (`DecodesUnique`), so the order says nothing. The definition is never computed.
---   first_below m f                      the first of f 0, .., f (m - 1) that is not none
---   first_bytes len p                    the first list of len bytes that passes the test p; none where none does
+--   first_below m f                       the first of f 0, .., f (m - 1) that is not none
+--   first_bytes len p                     the first list of len bytes that passes the test p; none where none does
 --   is_right_stripe n t layout slots s m  the rule as a test: m are the right bytes of stripe s
---   meets n t layout slots B            each stripe of B is right
---   DecodesMeets                        what meets the rule passes the test (law `decodes-meets`)
---   MeetsDecodes                        a block that passes the test meets the rule (law `meets-decodes`)
---   rebuilt n t layout slots            the block that meets the rule; none where none does
---   RebuiltDecodes                      it does meet the rule (law `rebuilt-decodes`)
---   RebuiltBlock                        it is every block that meets the rule, where 1 .. n are different elements of the field (law `rebuilt-block`)
---   RebuiltNone                         it is none where no block meets the rule (law `rebuilt_none`)
+--   meets n t layout slots B              each stripe of B is right
+--   DecodesMeets                          what meets the rule passes the test (law `decodes-meets`)
+--   MeetsDecodes                          a block that passes the test meets the rule (law `meets-decodes`)
+--   rebuilt n t layout slots              the block that meets the rule; none where none does
+--   RebuiltDecodes                        it does meet the rule (law `rebuilt-decodes`)
+--   RebuiltBlock                          it is every block that meets the rule, where 1 .. n are different elements of the field (law `rebuilt-block`)
+--   RebuiltNone                           it is none where no block meets the rule (law `rebuilt_none`)
 use Rattle.std.specs.Prelude.{◌≡◌, Bool, true, cond, List, [], ◌∷◌, ℕ, zero, suc, ◌+◌, ◌*◌, ◌<◌, eqb, leb, length}
 use Rattle.std.proofs.Math.Option.{Option, none, some}
 use Rattle.lists.specs.Options.{or_else, front}

@@ -2,17 +2,17 @@
 -- The rule for one stripe, at a list of points:
 --   points n layout slots           the points that are read: the numbers of the present slots, rising
 --   column layout slots s xs        the values received at the points xs
---   values_at m xs                   the values of the polynomial m at the points xs
+--   values_at m xs                  the values of the polynomial m at the points xs
 --   differences xs ys m             at how many of the points xs the message m does not take the value that ys has
 --   unequal a b, different xs ys m  the marks of the places at which a and b differ; of those of the points xs
---   is_right t xs ys m               the rule, for the values ys at the points xs
+--   is_right t xs ys m              the rule, for the values ys at the points xs
 --   NoneRight t xs ys               no bytes are right
 --   Pointed t xs                    xs are points of controllers, rising, enough for t + 1 bytes and not too many
 --   Settled t xs ys found m         found says whether some bytes are right, and then m are
 --   Listed n layout slots count xs  the first count of xs are the points
 -- Bytes column by column:
---   every w l j n         n bytes of l, every w-th from byte j on
---   transposed h w l      the bytes of l, which has h rows of w bytes, column by column
+--   every w l j n          n bytes of l, every w-th from byte j on
+--   transposed h w l       the bytes of l, which has h rows of w bytes, column by column
 --   row_values k t cols x  the values at x of k polynomials of t + 1 coefficients that stand in cols column by column
 -- A block beside the slots:
 --   counted m piece counts                               1 added to each count at which the message m has another byte than piece

@@ -1,15 +1,15 @@
 -- The refusal table, rows 1 to 6 (document 01, 'Turned down'; row 5 as document 02, U6, has it: sender 0 is a run without a sender).
---   outside low high x    x is outside low .. high
+--   outside low high x     x is outside low .. high
 --   too_many n t           row 2
---   broken s i fits row   whether the settings s and a controller's number i (its own, or that of a piece) break the row; fits says that each lent
---                         length is exactly the stated one
---   tried e               the rows that an entry point tries, in their order
+--   broken s i fits row    whether the settings s and a controller's number i (its own, or that of a piece) break the row; fits says that each lent
+--                          length is exactly the stated one
+--   tried e                the rows that an entry point tries, in their order
 --   first_of p rows        the first of the rows that passes p; 0 where none does
 --   refusal_of e s i fits  the number returned: the first row tried that is broken, or 0
---   untried               a value in range, for what an entry point does not try
---   partial n t k         settings whose sender is not tried
+--   untried                a value in range, for what an entry point does not try
+--   partial n t k          settings whose sender is not tried
 --   state_refusal s own, encoding_refusal n t k i fits, decoding_refusal n t k fits, lengths_refusal n t k, star_refusal n t
---                         the number of each entry point that tries only some rows, from what it tries
+--                          the number of each entry point that tries only some rows, from what it tries
 use Rattle.std.specs.Prelude.{Bool, true, false, cond, not, ◌||◌, List, [], ◌∷◌, ℕ, ◌+◌, ◌*◌, ltb, eqb}
 use Rattle.settings.specs.declared.Settings.{Settings}
 use Rattle.settings.specs.declared.Entry.{Entry}

@@ -1,21 +1,21 @@
 -- The run of a system (document 01, 'The house program'): who stands under `from` is faulty and sends only its lines; the others follow the
 -- steps, in lockstep.
---   Scenario            settings, the block given, who is faulty, and what the faulty ones say: the message of a round from one to another, empty for
---                       none
+--   Scenario             settings, the block given, who is faulty, and what the faulty ones say: the message of a round from one to another, empty for
+--                        none
 --   run_number           the run number of a simulated run, 0 (document 02, U11)
 --   layout_at F c        the layout of the slots of round c
---   Proper F            the settings are in range, the block has its length, each message its round's length, and all are bytes
---   Playing             one controller between two calls: its state, its block, and what its last call sent
---   began F i           after its start
+--   Proper F             the settings are in range, the block has its length, each message its round's length, and all are bytes
+--   Playing              one controller between two calls: its state, its block, and what its last call sent
+--   began F i            after its start
 --   sent_as m            what a faulty controller sends: its message, or silence
 --   slot_to F c now i j  the slot that i gets from j in round c: from a faulty j what the file says; else, byte for byte, slot i of the outbox that j's
---                       call c left
+--                        call c left
 --   inbox_of F c now i   the inbox of round c of controller i; of length 0 for the first call
 --   outbox_of F c        the outbox lent to call c, cleared
---   called F c now i    call c + 1 of controller i, where `now` is what each holds after c calls
---   played F c i        controller i after c calls; a faulty one stays as it began
---   last F              the number of the last call
---   ended F i           controller i after the last call
+--   called F c now i     call c + 1 of controller i, where `now` is what each holds after c calls
+--   played F c i         controller i after c calls; a faulty one stays as it began
+--   last F               the number of the last call
+--   ended F i            controller i after the last call
 use Rattle.std.specs.Prelude.{◌≡◌, Bool, cond, List, [], ◌∷◌, ◌⊎◌, ℕ, zero, suc, ◌+◌, ◌*◌, ◌≤◌, length, replicate}
 use Rattle.lists.specs.Join.{joined}
 use Rattle.settings.specs.declared.Settings.{Settings}

@@ -1,12 +1,12 @@
 -- What the simulator writes (document 01, 'The house program'): for a file that has its form a line of names, then one line for each correct
 -- controller, in rising order; for any other file one line that says which line is wrong.
---   names_line             controller,outcome,block
---   result_line i w b      number, outcome, block
+--   names_line            controller,outcome,block
+--   result_line i w b     number, outcome, block
 --   results faulty w b n  the lines of the correct ones among 1 .. n; w and b have the outcome and the block of each
---   output_of F            the output for a scenario
---   bad_line x             the output for a file whose first wrong line is x
---   scenario_of input c    what the simulator plays for a file
---   written_for input r    the output for what was read
+--   output_of F           the output for a scenario
+--   bad_line x            the output for a file whose first wrong line is x
+--   scenario_of input c   what the simulator plays for a file
+--   written_for input r   the output for what was read
 --   simulated input       the output for a file: the simulator's definition
 use Rattle.std.specs.Prelude.{Bool, cond, List, [], ◌∷◌, ◌++◌, ℕ, zero, suc}
 use Rattle.text.specs.Read.{newline, comma}

@@ -1,12 +1,12 @@
 -- For the contracts of private functions; a reader of the public contracts needs none of it.
---   layout_in S c            the layout of the slots of round c
+--   layout_in S c           the layout of the slots of round c
 --   FileSettings S          the settings of a system file
 --   Rooms input len places  each message of the table stands in the file
 --   Filling ..              what filling an inbox finds: lengths, and a cleared inbox
---   put_part w l i y         l with part i, counted from 0, replaced by y
---   table_scenario ..        the scenario of the table that the reader answers
---   sent_by sent o           what each sent, as the code keeps it: outboxes of o bytes one behind the other
---   now_of ..                what each controller holds, as the code keeps it: states, and blocks and outboxes one behind the other
+--   put_part w l i y        l with part i, counted from 0, replaced by y
+--   table_scenario ..       the scenario of the table that the reader answers
+--   sent_by sent o          what each sent, as the code keeps it: outboxes of o bytes one behind the other
+--   now_of ..               what each controller holds, as the code keeps it: states, and blocks and outboxes one behind the other
 --   Making ..               what making an inbox finds
 --   Calling ..              what a call finds: settings, lengths, and messages that stand in the file
 --   taken a                 what is held after a step

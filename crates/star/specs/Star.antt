@@ -1,8 +1,8 @@
 -- The star and the core (document 01, 'Star and core'; source 001, Find-STAR and its quadruple). Index i stands for controller i + 1;
 -- `adj i j` says whether i and j are neighbours; M is the matching used, of pairs below n that are not neighbours.
---   struck adj M i      i is a non-neighbour of both ends of one pair of M
+--   struck adj M i       i is a non-neighbour of both ends of one pair of M
 --   set_C n adj M        C: the unmatched, without those struck
---   lacks n adj s i     i has a non-neighbour in the set s
+--   lacks n adj s i      i has a non-neighbour in the set s
 --   set_D n adj M        D: all but B, the matched with a non-neighbour in C
 --   at_least n adj s k   those with at least k neighbours in the set s
 --   set_F n t adj M      F: those with at least t + 1 neighbours in C
@@ -12,16 +12,16 @@
 --   is_large n t s       C has at least n - 2t members, D at least n - t, F and E at least 2t + 1
 --   star_with n t adj M  the four sets if they are large enough, else none
 --   refusal_for n t      the number with which the star refuses n and t; 0 where it does not
---   IsStar n t adj s    s is the star of the graph: refused, the number and no sets; else the star with the matching that, of the largest ones, is the
---                       first in dictionary order (`FirstLargest`)
---   found s             the core is found: E is not empty
+--   IsStar n t adj s     s is the star of the graph: refused, the number and no sets; else the star with the matching that, of the largest ones, is the
+--                        first in dictionary order (`FirstLargest`)
+--   found s              the core is found: E is not empty
 -- The star as a function, for callers that need one:
---   star_from n t adj     the star with `matching_of n adj`
---   star_for n t adj      the star of the graph
---   star_of rows n t      of the graph of rows of marks
+--   star_from n t adj      the star with `matching_of n adj`
+--   star_for n t adj       the star of the graph
+--   star_of rows n t       of the graph of rows of marks
 --   star_of_bits bits n t  of the graph of any 120 bits (document 02, U9)
---   StarIsOne            the relation holds of what the function answers and of nothing else (proofs/Same: `star_is_one`)
---   StarOfBits           the star of the bits of the rows is the star of the rows (proofs/Same: `star_of_bits_lem`)
+--   StarIsOne              the relation holds of what the function answers and of nothing else (proofs/Same: `star_is_one`)
+--   StarOfBits             the star of the bits of the rows is the star of the rows (proofs/Same: `star_of_bits_lem`)
 use Rattle.std.specs.Prelude.{◌≡◌, List, Bool, cond, not, ◌&&◌, ℕ, ◌+◌, ◌-◌, ◌*◌, eqb, ltb, leb}
 use Rattle.lists.specs.Sum.{count}
 use Rattle.bitset.specs.Set.{member, set_of, size_of}

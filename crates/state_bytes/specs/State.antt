@@ -2,10 +2,10 @@
 -- with its lowest byte first. The main law is `read_written` (proofs/Laws.antt): what was written is read back.
 --   little_endian w x     the w low bytes of the number x, the lowest first
 --   number_of bytes       the number that such bytes stand for
---   widths               how many bytes each field takes: n, t, k, own number, sender, next call, outcome, matrix, weak matrix, core, those
---                        named, run number
+--   widths                how many bytes each field takes: n, t, k, own number, sender, next call, outcome, matrix, weak matrix, core, those
+--                         named, run number
 --   width_of i            the width of field i, counted from 0
---   offset i             where field i starts: the sum of the widths before it
+--   offset i              where field i starts: the sum of the widths before it
 --   state_length          how many bytes a state takes: the sum of all widths
 --   six_numbers s         the first six fields, which are numbers
 --   fields_of s           the bytes of the twelve fields: numbers, and 16 rows of marks for each matrix
@@ -17,7 +17,7 @@
 --   outcome_from x        the outcome of a number (the listing is reconstruction's `outcome_number`); open where it is no outcome's
 --   state_in bytes        the state whose fields stand in the bytes
 --   state_of bytes        the state that the bytes stand for: every list of that length is a state; the zero state where it has another length
---   Words s              the bounds of a state's fields: numbers below 2 ^ 64, and rows and a run number of 16 bits
+--   Words s               the bounds of a state's fields: numbers below 2 ^ 64, and rows and a run number of 16 bits
 use Rattle.std.specs.Prelude.{◌≡◌, cond, List, [], ◌∷◌, ℕ, zero, suc, ◌+◌, ◌*◌, ◌/◌, ◌%◌, ◌^◌, ◌<◌, eqb, length, get_or, take, drop}
 use Rattle.lists.specs.Sum.{sum}
 use Rattle.lists.specs.Join.{joined}

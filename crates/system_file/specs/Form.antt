@@ -1,16 +1,16 @@
 -- The form of a system file, and what a file of that form says (document 01, 'The house program': it calls a system a house).
 --   file_limit                     the most bytes that a file has
---   settings_names, message_names   the two lines of names
+--   settings_names, message_names  the two lines of names
 --   is_settings l                  n 4 to 16; t at least 1, 3t + 1 at most n; k 1 to 32; the sender 0 to n, 0 for none (document 02, U6); a block of
---                                 k(t + 1) bytes
+--                                  k(t + 1) bytes
 --   is_message s l                 a round of the run; from 1 to n; to 0 to n; a message of its round's length
---   Message                       one line: its round, from, to, and the byte of the file where its message starts
+--   Message                        one line: its round, from, to, and the byte of the file where its message starts
 --   message_at input a             the message in the line at a
---   clashes m m'                  both give the same (round, from, to); `to` 0 gives all
+--   clashes m m'                   both give the same (round, from, to); `to` 0 gives all
 --   is_repeated ms m               m clashes with one of ms
---   Contents                      what a file says: settings, block, messages (the last line first)
+--   Contents                       what a file says: settings, block, messages (the last line first)
 --   with_message c m               with a message more
---   Read                          the first wrong or missing line, 0 for a file that is too long; or what the file says
+--   Read                           the first wrong or missing line, 0 for a file that is too long; or what the file says
 --   read_from fuel input c a line  the message lines from byte a on, the first of which is line number `line`, after the contents c
 --   settings_in l                  the settings that the settings line says
 --   contents_of l                  what a file with this settings line says before its first message

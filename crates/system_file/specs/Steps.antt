@@ -1,25 +1,25 @@
 -- For the contracts of private functions; a reader of the public contracts needs none of it.
---   head_in l a               what the settings line l that starts at byte a says
---   head_at input a           what the line at byte a says as the settings line
---   message_ranges s          the ranges of round, from and to in the settings s
---   line_in s l a             what the message line l that starts at byte a says in the settings s
---   is_to to j                a message to `to` is for j
---   is_taken x to j           j is a receiver, and x is no empty place
---   is_given row to           a receiver has a place in the row
---   row_with row to p         the row with the place p for each receiver
---   row_at ps r f             the row of round r and sender f in the table ps
---   is_new ps m               no receiver of m has a place in its row
---   table_with ps m           the table ps with the place of m for each receiver
---   message r f to p         the message with these numbers
---   is_entry s input a ps     the line at byte a is ended, a message, and new
+--   head_in l a                what the settings line l that starts at byte a says
+--   head_at input a            what the line at byte a says as the settings line
+--   message_ranges s           the ranges of round, from and to in the settings s
+--   line_in s l a              what the message line l that starts at byte a says in the settings s
+--   is_to to j                 a message to `to` is for j
+--   is_taken x to j            j is a receiver, and x is no empty place
+--   is_given row to            a receiver has a place in the row
+--   row_with row to p          the row with the place p for each receiver
+--   row_at ps r f              the row of round r and sender f in the table ps
+--   is_new ps m                no receiver of m has a place in its row
+--   table_with ps m            the table ps with the place of m for each receiver
+--   message r f to p           the message with these numbers
+--   is_entry s input a ps      the line at byte a is ended, a message, and new
 --   entry_at, table_at         what such a line gives: its sender and the next line; the table with it
---   bare s ms                what a file of the settings s with the messages ms says, but the block
---   restored c r             what was read from the settings of c alone, with all of c
+--   bare s ms                  what a file of the settings s with the messages ms says, but the block
+--   restored c r               what was read from the settings of c alone, with all of c
 --   lines_of r, table_in r ps  what the reader of the message lines answers; the table that it leaves
---   block_at input a e        the bytes that the digits from a to e say
---   opened s block           the settings and the block, before the first message
---   Enters m                 m is in range for the table
---   Started, Opened          what the readers of the message lines and of the contents ask
+--   block_at input a e         the bytes that the digits from a to e say
+--   opened s block             the settings and the block, before the first message
+--   Enters m                   m is in range for the table
+--   Started, Opened            what the readers of the message lines and of the contents ask
 use Rattle.std.specs.Prelude.{Bool, cond, not, ◌&&◌, ◌||◌, List, [], ◌∷◌, ℕ, ◌+◌, ◌-◌, ◌*◌, ◌/◌, ◌%◌, ◌≤◌, ◌<◌, eqb, ltb, length, get_or, take, drop}
 use Rattle.lists.specs.Fill.{tabulate}
 use Rattle.lists.specs.Join.{part}

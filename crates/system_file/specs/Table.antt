@@ -1,6 +1,6 @@
 -- The messages of a file by round, sender and receiver, and what the reader answers.
 --   is_faulty ms i         controller i stands under `from` (document 01: who stands under `from` is faulty)
---   reaches m r f j       m is of round r, from f, and to j, or to all
+--   reaches m r f j        m is of round r, from f, and to j, or to all
 --   place_of ms r f j      where the message of round r from f to j starts in the file; 0 where there is none
 --   text_of input len p    the message of len bytes that starts at byte p of the file; empty for p 0
 --   said_of input c r f j  the message of round r from f to j, as the file says it; empty where there is none
@@ -10,7 +10,7 @@
 --   in_table r f j         r is one of 23 rounds, f and j are among 16 controllers
 --   place_in places r f j  what a table has for (r, f, j); 0 outside
 --   file_of r              the reader's answer: the settings, the block, the faulty controllers, the table; zeros for a wrong file
---   Properly input c      what holds of each file that is read: settings, block and messages within their bounds
+--   Properly input c       what holds of each file that is read: settings, block and messages within their bounds
 use Rattle.std.specs.Prelude.{◌≡◌, Bool, true, false, cond, ◌&&◌, ◌||◌, List, [], ◌∷◌, ℕ, ◌+◌, ◌-◌, ◌*◌, ◌/◌, ◌%◌, ◌≤◌, ◌<◌, eqb, leb, length, get_or, take, drop, replicate}
 use Rattle.lists.specs.Fill.{tabulate}
 use Rattle.bitset.specs.Set.{set_of}

@@ -3,12 +3,12 @@
 --   is_ended input a        that line ends in a newline
 --   next_at input a         where the line after it starts
 --   is_names names input a  the line at a has these names, and ends in a newline
---   rest i l, field i l    what follows the first i commas of the line l, and the field there
---   inRange rs l i         field i of the line l is a number in range i; rs has the lowest and the highest number of each range in turn
+--   rest i l, field i l     what follows the first i commas of the line l, and the field there
+--   in_range rs l i         field i of the line l is a number in range i; rs has the lowest and the highest number of each range in turn
 --   in_ranges rs l n        each of the first n fields is
 --   is_numbers rs l         there are four ranges at most, and the first fields are numbers in them
 --   numbers_in rs l         the values of these fields, with zeros up to four, and where what follows these fields starts
---   no_numbers, numbers_of   the answer where this test fails; the answer
+--   no_numbers, numbers_of  the answer where this test fails; the answer
 use Rattle.std.specs.Prelude.{Bool, true, false, cond, ◌&&◌, List, ℕ, zero, suc, ◌+◌, ◌-◌, ◌*◌, ◌/◌, leb, ltb, length, get_or, drop, replicate}
 use Rattle.lists.specs.Fill.{filled}
 use Rattle.lists.specs.Same.{same}

@@ -1,16 +1,16 @@
 -- Fields of lines, decimal numbers and lower-case hexadecimal bytes, as they are read (document 01, 'The house program': numbers have no
 -- leading zero, bytes are lower case, every line ends in a newline).
---   newline, comma         the byte that ends a line, and the one between two fields
---   before c l             the bytes of l before its first c; all of l where it has none
---   behind c l             the bytes of l behind its first c; none where it has none
---   every p l              each byte of l passes the test p
---   is_digit b, digit_of b   a decimal digit, and its value
+--   newline, comma          the byte that ends a line, and the one between two fields
+--   before c l              the bytes of l before its first c; all of l where it has none
+--   behind c l              the bytes of l behind its first c; none where it has none
+--   every p l               each byte of l passes the test p
+--   is_digit b, digit_of b  a decimal digit, and its value
 --   is_number f             decimal digits, at least one, and no leading zero
 --   value_from x f          the number that the digits of x and then the digits f say
 --   value_of f              the number that decimal digits say
 --   number_in low high f    f is a number from low to high
 --   number_read low high f  that number, or that f is none
---   is_hex b, hex_of b       a lower-case hexadecimal digit, and its value; 0 for any other byte
+--   is_hex b, hex_of b      a lower-case hexadecimal digit, and its value; 0 for any other byte
 --   is_bytes len f          exactly len bytes, each two lower-case hexadecimal digits
 --   bytes_of f              the bytes that hexadecimal digits say, two digits a byte, the high one first
 use Rattle.std.specs.Prelude.{Bool, true, false, cond, not, ◌&&◌, ◌||◌, List, [], ◌∷◌, ℕ, ◌+◌, ◌-◌, ◌*◌, eqb, leb, length, drop}

@@ -1,12 +1,12 @@
 -- Decimal numbers and lower-case hexadecimal bytes as they are written, and a buffer that text is appended to.
 --   digit_byte d, hex_byte d  the byte of a decimal digit, and of a hexadecimal one
---   digits m x              the last m decimal digits of x, at most, with no leading zero
---   decimal x               x in decimal digits with no leading zero; no number of 64 bits has more than 20
---   hexadecimal l           the bytes l, two lower-case hexadecimal digits each, the high one first
---   fits at s out           out has room for s at the place `at`
---   appended at s out       out with s at the place `at`; as it is where it has no room
---   end_of at s out          the place after s; `at` where out has no room
---   padded m s              s, and then zeros up to m bytes
+--   digits m x                the last m decimal digits of x, at most, with no leading zero
+--   decimal x                 x in decimal digits with no leading zero; no number of 64 bits has more than 20
+--   hexadecimal l             the bytes l, two lower-case hexadecimal digits each, the high one first
+--   fits at s out             out has room for s at the place `at`
+--   appended at s out         out with s at the place `at`; as it is where it has no room
+--   end_of at s out           the place after s; `at` where out has no room
+--   padded m s                s, and then zeros up to m bytes
 use Rattle.std.specs.Prelude.{Bool, cond, List, [], ◌∷◌, ◌++◌, ℕ, zero, suc, ◌+◌, ◌-◌, ◌/◌, ◌%◌, leb, ltb, length, take, drop, replicate}
 
 abbrev pub digit_byte : ℕ → ℕ

@@ -10,14 +10,14 @@
 --     inbox_is, outbox_is                 n slots; first_inbox, last-outbox: but for these
 --   What was sent and what is read
 --     Sized, sized_silence, sized_bytes   what fills a slot of a layout; content: what is read of it
---     arrived                             a slot that arrived as it was sent is read as what was sent; read-back: so is slot j of what was written
+--     arrived                             a slot that arrived as it was sent is read as what was sent; read_back: so is slot j of what was written
 --     length-message, message_all         a message has the layout's length; what holds of every byte of the inbox holds of its bytes
 --     other_run_absent                    a slot that carries another run's number has no message; late_absent: whatever round it was written for
 --     length-silenced, silenced_reads     a slot without a message can be made silent: the length stays, and every slot reads as it did
 --   Slots as lists
 --     width_le, slot_is, length_slot      a slot is a part of the box
 --     length-slots, written_each, slots_each   the slots of an outbox; what holds of each byte of the messages holds of theirs
---     to_all_lem                              a message to all; slots_start, put_next_slot, length_rest, slots_all: slots written one after the other
+--     to_all_lem                          a message to all; slots_start, put_next_slot, length_rest, slots_all: slots written one after the other
 --     silent_slot, put_into, relay_into   a slot written into a cleared box
 --     copied_all, length-copied           bytes copied to the front of others
 pub use Rattle.wire.proofs.RoundKinds.{round-block, round_pieces, round_marks, round_matrix, round_seen, round_king, round_forward, round_rebuild}

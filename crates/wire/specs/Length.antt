@@ -1,16 +1,16 @@
 -- Message lengths, and the lengths of inboxes and outboxes (document 01, 'The house' and 'Rounds').
---   block_length k t                    the bytes of a block, stripe after stripe
---   row_index r                         the place of a kind of round in the table, counted from 0; 8 for Outside
---   row_length r n t k                  the length column of the table
---   factors_of r                        the factors of k × (t + 1), k, n and 1 in that length
---   kinds, factors_at i                 the rows of the table in their order, and the factors in row i
---   in_settings n t k                   rows 1 to 3 of the refusal table let the settings pass
---   block_size n t k                    the length of a block; 0 outside the settings
---   kind_length r n t k                 the length of a message of a kind of round; 0 outside the settings
---   kind_layout run r n t k             the layout of the slots of a kind of round in the run with the number `run`
---   round_layout run n t k c            the layout of the slots of round c of that run
---   message_length n t k c              the length of a message of round c; 0 outside the settings and rounds
---   box_length n t k c                  the length of an inbox or outbox of round c: n slots, whatever the run; 0 outside the settings and rounds
+--   block_length k t                     the bytes of a block, stripe after stripe
+--   row_index r                          the place of a kind of round in the table, counted from 0; 8 for Outside
+--   row_length r n t k                   the length column of the table
+--   factors_of r                         the factors of k × (t + 1), k, n and 1 in that length
+--   kinds, factors_at i                  the rows of the table in their order, and the factors in row i
+--   in_settings n t k                    rows 1 to 3 of the refusal table let the settings pass
+--   block_size n t k                     the length of a block; 0 outside the settings
+--   kind_length r n t k                  the length of a message of a kind of round; 0 outside the settings
+--   kind_layout run r n t k              the layout of the slots of a kind of round in the run with the number `run`
+--   round_layout run n t k c             the layout of the slots of round c of that run
+--   message_length n t k c               the length of a message of round c; 0 outside the settings and rounds
+--   box_length n t k c                   the length of an inbox or outbox of round c: n slots, whatever the run; 0 outside the settings and rounds
 --   inbox_length, outbox_length n t k c  the length that call c is lent; 0 for the first inbox and the last outbox
 use Rattle.std.specs.Prelude.{Bool, cond, List, [], ◌∷◌, ℕ, ◌+◌, ◌-◌, ◌*◌, eqb, get_or}
 use Rattle.settings.specs.Refusal.{lengths_refusal}

@@ -1,11 +1,11 @@
 -- Rounds and calls (document 01, 'The house': a run has 3t + 8 rounds and 3t + 9 calls; 'Rounds': the table).
 --   round_count t, call_count t  how many there are
 --   phase_round m, last_round m  the kinds of rounds of a phase, by their remainder by 3, and of those after the vote, without their 3t
---   round_kind t c              the row of the table in which round c stands: 1, 2, 3, then 3p + 1, 3p + 2, 3p + 3 for p = 1 .. t + 1, then 3t + 7, 3t +
---                              8; Outside for every other number
+--   round_kind t c               the row of the table in which round c stands: 1, 2, 3, then 3p + 1, 3p + 2, 3p + 3 for p = 1 .. t + 1, then 3t + 7, 3t +
+--                                8; Outside for every other number
 --   phase_call m, last_call m    the same of calls
---   call_kind t c               the kind of call c, which reads the inbox of round c - 1 and fills the outbox of round c
---   phase_of c                  the phase p of the rounds 3p + 1, 3p + 2 and 3p + 3, whose king is controller p
+--   call_kind t c                the kind of call c, which reads the inbox of round c - 1 and fills the outbox of round c
+--   phase_of c                   the phase p of the rounds 3p + 1, 3p + 2 and 3p + 3, whose king is controller p
 use Rattle.std.specs.Prelude.{cond, ℕ, ◌+◌, ◌-◌, ◌*◌, ◌/◌, ◌%◌, leb, eqb}
 use Rattle.wire.specs.declared.Round.{Round}
 use Rattle.wire.specs.declared.Round.TheVariants.{Block, Pieces, Marks, Matrix, Seen, King, Forward, Rebuild, Outside}

@@ -1,19 +1,19 @@
 -- Slots: an inbox or outbox has n slots in number order, each a header and then the round's message (document 01, 'The house'). The header is a byte,
 -- 01 where the slot is present, and the run number, low byte first (document 02, U11).
---   layout_with run len          what a slot is: the layout in the run with the number `run`, with messages of len bytes
+--   layout_with run len         what a slot is: the layout in the run with the number `run`, with messages of len bytes
 --   header, width layout        the bytes before a message, and of a whole slot
---   slot_of box layout j         the bytes of slot j, counted from 1
+--   slot_of box layout j        the bytes of slot j, counted from 1
 --   holds box layout j          the box holds slot j whole
---   run_in slot                  the run number that a slot carries
---   is_present layout slot       its first byte is 01, and it carries the number of the layout's run; any other slot is absent
---   message_of box layout j      the message in slot j; empty where the slot is absent, j is 0, or the box does not hold it whole
---   offset_of box layout j       where in the box that message starts; 0 where there is none
+--   run_in slot                 the run number that a slot carries
+--   is_present layout slot      its first byte is 01, and it carries the number of the layout's run; any other slot is absent
+--   message_of box layout j     the message in slot j; empty where the slot is absent, j is 0, or the box does not hold it whole
+--   offset_of box layout j      where in the box that message starts; 0 where there is none
 --   Sent                        what one controller sends to another in a round: silence, or a message
 --   written layout s            a slot written in full: 01, the run number and the message, or all 00
 --   slots layout f n            the n slots of an outbox whose slot j is f j
---   to_all layout n m outbox     the outbox with the message m in its n slots; as it is where it is not exactly as long, or m is not of the layout's
+--   to_all layout n m outbox    the outbox with the message m in its n slots; as it is where it is not exactly as long, or m is not of the layout's
 --                               length
---   put_slot box layout j m      the box with slot j written with the message m; the box as it is where it does not hold the slot whole or m is not of
+--   put_slot box layout j m     the box with slot j written with the message m; the box as it is where it does not hold the slot whole or m is not of
 --                               the layout's length
 --   relayed box layout j src i  the box with slot j replaced by slot i of the box src, byte for byte; the box as it is where either does not hold its
 --                               slot whole

@@ -3,7 +3,7 @@
 -- and 0a14, as document 01 prints; `faulty-sender_core`, `faulty-sender_held`: who is in the core, and how many held 0a14 (document 02, U14). They
 -- are computed: of the second the core and the counts of decoding's rule for 0a14, from which `agreement` gives the rest.
 --   steps_of piece block pieces other   the steps of the controller with that piece of 0a14, to which 1 sends the slot `block` in round 1 and
---                                      `pieces` in round 2; other is its piece of 0b14, which 4 received
+--                                       `pieces` in round 2; other is its piece of 0b14, which 4 received
 use mathlib.Core.Path.{◌≡◌, refl, ap}
 use mathlib.Core.Bool.{cond, not}
 use mathlib.Core.List.{List, [], ◌∷◌, ◌++◌}

@@ -1,7 +1,7 @@
 -- What demand 3 supposes, as tests of a system: `meets_supposed`; and short forms in which a system of four controllers is written down.
 --   Meets S                the tests
 --   Step, lents            what is lent to a step: an inbox, and the length of an outbox of zeros
---   run_number              the number of the systems' run, 0102 in hexadecimal
+--   run_number             the number of the systems' run, 0102 in hexadecimal
 --   present m, absent len  a slot of that run with a message; a slot of 00 in a round of that length
 --   late m                 a slot with a message of run 0002, whose number has the same low byte
 --   rows a b c d           a matrix of four rows of marks

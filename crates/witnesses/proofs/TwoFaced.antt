@@ -5,7 +5,7 @@
 -- demand 3, agreed and 0a14; `two_faced_named`: whom 1, 2 and 3 name (document 02, U1).
 --   from4_1, from4_2, from4_3   the slots that 4 sends to 1, 2 and 3, round after round
 --   from1 sender                the slot that 1 sends to each in round 1, whether as the sender or not
---   steps_of slot piece from4    the steps of the controller with that piece, where slot is what 1 sends it in round 1
+--   steps_of slot piece from4   the steps of the controller with that piece, where slot is what 1 sends it in round 1
 --   system sender               the system in which 1 is the sender, and the one without
 use mathlib.Core.Path.{◌≡◌, refl, ap, ◌∙◌}
 use mathlib.Core.Bool.{Bool, true, false, cond, not, ◌&&◌, ◌||◌}
