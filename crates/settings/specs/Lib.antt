@@ -1,3 +1,4 @@
--- The refusal table and the settings that it lets pass.
+-- The refusal table, the number that is returned, and the settings that the table lets pass.
 pub mod Refusal
+pub mod Number
 pub mod Valid

@@ -2,9 +2,10 @@
 // has it).
 #![tactic(auto)]
 
-ghost use Rattle.std.specs.Prelude.{◌≡◌, ◌++◌, ◌-◌, length, replicate};
+ghost use Rattle.std.specs.Prelude.{◌≡◌, map};
 ghost use Rattle.settings.specs.Refusal.{outside, too_many, broken, tried, refusal_of};
 ghost use Rattle.settings.specs.Refusal.{partial, state_refusal, encoding_refusal, decoding_refusal, lengths_refusal, star_refusal};
+ghost use Rattle.settings.specs.Number.{row_of, number_of};
 
 // What all controllers of a system share: n controllers of which at most t are faulty, k stripes, the sender; sender 0: none.
 #[derive(Clone, Copy)]
@@ -13,6 +14,46 @@ pub struct Settings {
     pub t: usize,
     pub k: usize,
     pub sender: usize,
+}
+
+// Why a call is refused: the rows of the table, 1 to 8 in this order.
+#[derive(Clone, Copy, PartialEq, Eq)]
+pub enum Refusal {
+    // n is out of range
+    Controllers,
+    // t is 0, or 3t + 1 exceeds n
+    Tolerance,
+    // k is out of range
+    Stripes,
+    // the own number, or that of a piece, is no controller's
+    Number,
+    // the sender is out of range
+    Sender,
+    // a lent length is not the stated one
+    Length,
+    // the state given is none that a run can have
+    State,
+    // the run has ended
+    Finished,
+}
+
+// The number of the row.
+// Shut out: 0 for row 1; 7 for row 8.
+impl From<Refusal> for u8 {
+    ghost from_gives = { λ r x. x ≡ row_of r };
+
+    fn from(refusal: Refusal) -> u8 {
+        match refusal {
+            Refusal::Controllers => 1,
+            Refusal::Tolerance => 2,
+            Refusal::Stripes => 3,
+            Refusal::Number => 4,
+            Refusal::Sender => 5,
+            Refusal::Length => 6,
+            Refusal::State => 7,
+            Refusal::Finished => 8,
+        }
+    }
 }
 
 // Who tries the table: each entry point tries rows of its own.
@@ -33,74 +74,63 @@ pub enum Entry {
 }
 
 // Whether x is outside low .. high.
+#[tactic(auto, unfolding(crate::specs::Refusal::outside))]
 fn is_outside(low: usize, high: usize, x: usize) -> bool
     ensures { result ≡ outside low high x }
 {
-    if x < low {
-        return true;
-    }
-    high < x
+    x < low || high < x
 }
 
 // Row 2: t is 0, or 3t + 1 exceeds n; no sum can overflow.
 fn too_many(n: usize, t: usize) -> bool
     ensures { result ≡ too_many n t }
 {
-    if t == 0 {
-        return true;
-    }
-    if n == 0 {
-        return true;
-    }
-    (n - 1) / 3 < t
+    t == 0 || n.saturating_sub(1) / 3 < t
 }
 
 // Whether the settings and a controller's number (its own, or that of a piece) break a row; `fits` says that each lent length is the stated
 // one.
-fn breaks(s: Settings, number: usize, fits: bool, row: u8) -> bool
-    ensures { result ≡ broken s number fits row }
+#[tactic(auto, unfolding(crate::specs::Refusal::broken))]
+fn breaks(s: Settings, number: usize, fits: bool, row: Refusal) -> bool
+    ensures { result ≡ broken s number fits (row_of row) }
 {
     match row {
-        1 => is_outside(4, 16, s.n),
-        2 => too_many(s.n, s.t),
-        3 => is_outside(1, 128, s.k),
-        4 => is_outside(1, s.n, number),
-        5 => is_outside(0, s.n, s.sender),
-        6 => !fits,
-        _ => false,
+        Refusal::Controllers => is_outside(4, 16, s.n),
+        Refusal::Tolerance => too_many(s.n, s.t),
+        Refusal::Stripes => is_outside(1, 128, s.k),
+        Refusal::Number => is_outside(1, s.n, number),
+        Refusal::Sender => is_outside(0, s.n, s.sender),
+        Refusal::Length => !fits,
+        Refusal::State | Refusal::Finished => false,
     }
 }
 
-// The rows that an entry point tries, in their order; 0 stands for no row.
-fn rows(entry: Entry) -> [u8; 6]
-    ensures { result ≡ tried entry ++ replicate (6 - length (tried entry)) 0 }
+// The rows that an entry point tries, in their order.
+fn rows(entry: Entry) -> &'static [Refusal]
+    ensures { map row_of result.now ≡ tried entry }
 {
+    use Refusal::{Controllers, Length, Number, Sender, Stripes, Tolerance};
     match entry {
-        Entry::Start => [1, 2, 3, 4, 5, 6],
-        Entry::State => [1, 2, 3, 4, 5, 0],
-        Entry::Encode => [1, 2, 3, 4, 6, 0],
-        Entry::Decode => [1, 2, 3, 6, 0, 0],
-        Entry::Lengths => [1, 2, 3, 0, 0, 0],
-        Entry::Star => [1, 2, 0, 0, 0, 0],
+        Entry::Start => &[Controllers, Tolerance, Stripes, Number, Sender, Length],
+        Entry::State => &[Controllers, Tolerance, Stripes, Number, Sender],
+        Entry::Encode => &[Controllers, Tolerance, Stripes, Number, Length],
+        Entry::Decode => &[Controllers, Tolerance, Stripes, Length],
+        Entry::Lengths => &[Controllers, Tolerance, Stripes],
+        Entry::Star => &[Controllers, Tolerance],
     }
 }
 
-// The number of the first row, of those that the entry point tries, that the settings, the number and the lent lengths break; 0 where they
-// break none.
+// The first row, of those that the entry point tries, that the settings, the number and the lent lengths break.
 // Shut out: must-fail/largest_n; must-fail/rows_in_another_order; must-fail/start_always_refuses; must-fail/sender_past_n.
-pub fn refusal(entry: Entry, s: Settings, number: usize, fits: bool) -> u8
-    ensures { result ≡ refusal_of entry s number fits }
+pub fn check(entry: Entry, s: Settings, number: usize, fits: bool) -> Result<(), Refusal>
+    ensures { number_of result ≡ refusal_of entry s number fits }
 {
-    let order = rows(entry);
-    let mut i: usize = 0;
-    while i < 6 {
-        let row = order[i];
-        if breaks(s, number, fits, row) {
-            return row;
+    for row in rows(entry) {
+        if breaks(s, number, fits, *row) {
+            return Err(*row);
         }
-        i += 1;
     }
-    0
+    Ok(())
 }
 
 // What an entry point does not try has this value, which is in range.
@@ -120,40 +150,51 @@ fn partial(n: usize, t: usize, k: usize) -> Settings
 
 // The settings and the own number of a given state.
 // Shut out: the sender for the own number; t for n.
-pub fn state_refusal(s: Settings, own: usize) -> u8
-    ensures { result ≡ state_refusal s own }
+#[tactic(auto, unfolding(crate::specs::Refusal::state_refusal))]
+pub fn state_refusal(s: Settings, own: usize) -> Result<(), Refusal>
+    ensures { number_of result ≡ state_refusal s own }
 {
-    refusal(Entry::State, s, own, true)
+    check(Entry::State, s, own, true)
 }
 
 // Coding: `number` is that of the piece, `fits` says that the lent lengths are the stated ones.
 // Shut out: the rows of decoding; k for the number.
-pub fn encoding_refusal(n: usize, t: usize, k: usize, number: usize, fits: bool) -> u8
-    ensures { result ≡ encoding_refusal n t k number fits }
+#[tactic(auto, unfolding(crate::specs::Refusal::encoding_refusal))]
+pub fn encoding_refusal(
+    n: usize,
+    t: usize,
+    k: usize,
+    number: usize,
+    fits: bool,
+) -> Result<(), Refusal>
+    ensures { number_of result ≡ encoding_refusal n t k number fits }
 {
-    refusal(Entry::Encode, partial(n, t, k), number, fits)
+    check(Entry::Encode, partial(n, t, k), number, fits)
 }
 
 // Decoding.
 // Shut out: the rows of message lengths; `fits` not asked.
-pub fn decoding_refusal(n: usize, t: usize, k: usize, fits: bool) -> u8
-    ensures { result ≡ decoding_refusal n t k fits }
+#[tactic(auto, unfolding(crate::specs::Refusal::decoding_refusal))]
+pub fn decoding_refusal(n: usize, t: usize, k: usize, fits: bool) -> Result<(), Refusal>
+    ensures { number_of result ≡ decoding_refusal n t k fits }
 {
-    refusal(Entry::Decode, partial(n, t, k), UNTRIED, fits)
+    check(Entry::Decode, partial(n, t, k), UNTRIED, fits)
 }
 
 // Message lengths.
 // Shut out: the rows of the star; n and t the other way round.
-pub fn lengths_refusal(n: usize, t: usize, k: usize) -> u8
-    ensures { result ≡ lengths_refusal n t k }
+#[tactic(auto, unfolding(crate::specs::Refusal::lengths_refusal))]
+pub fn lengths_refusal(n: usize, t: usize, k: usize) -> Result<(), Refusal>
+    ensures { number_of result ≡ lengths_refusal n t k }
 {
-    refusal(Entry::Lengths, partial(n, t, k), UNTRIED, true)
+    check(Entry::Lengths, partial(n, t, k), UNTRIED, true)
 }
 
 // The star.
 // Shut out: the rows of message lengths with t for k; n and t the other way round.
-pub fn star_refusal(n: usize, t: usize) -> u8
-    ensures { result ≡ star_refusal n t }
+#[tactic(auto, unfolding(crate::specs::Refusal::star_refusal))]
+pub fn star_refusal(n: usize, t: usize) -> Result<(), Refusal>
+    ensures { number_of result ≡ star_refusal n t }
 {
-    refusal(Entry::Star, partial(n, t, UNTRIED), UNTRIED, true)
+    check(Entry::Star, partial(n, t, UNTRIED), UNTRIED, true)
 }
