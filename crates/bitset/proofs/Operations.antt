@@ -5,10 +5,11 @@ use mathlib.Core.Bool.{Bool, true, false, not, ◌&&◌, ◌||◌}
 use Prim.Native.Nat.{ℕ, zero, suc, ◌/◌, ◌%◌, ◌^◌, ◌<◌}
 use native.Mathlib.Omega.{arith}
 use lib.Bits.{bit_and, bit_or, bit_xor, and_shr, or_shr, xor_shr, and_mod, or_mod, xor_mod, and_lt, or_lt, xor_lt}
-use lib.Dec.{eqb}
+use lib.Dec.{eqb, lit<}
+use native.Mathlib.Nat.{zero-add}
 use Rattle.lists.specs.Sum.{count}
-use Rattle.bitset.specs.Set.{member, set_of, size_of, intersection, difference, union}
-use Rattle.bitset.proofs.Sets.{set_lt, member-set, ext, size_set}
+use Rattle.bitset.specs.Set.{member, set_of, size_of, inserted, removed, intersection, difference, union}
+use Rattle.bitset.proofs.Sets.{set_lt, set_ext, member-set, member_none, member_insert, insert_add, ext, size_set}
 
 pub member-intersection : (a b i : ℕ) → i < 16 → member (intersection a b) i ≡ (member a i && member b i)
 unfolding intersection
@@ -37,6 +38,20 @@ difference_lt a b = set_lt 16 (λ i. member a i && not (member b i))
 pub union_lt : (a b : ℕ) → union a b < 2 ^ 16
 unfolding union
 union_lt a b = set_lt 16 (λ i. member a i || member b i)
+
+-- ---- with the set of one index
+member_bit : (i j : ℕ) → i < 16 → j < 16 → member (2 ^ i) j ≡ eqb j i
+member_bit i j l m =
+    let e : inserted 0 i ≡ 2 ^ i = insert_add 0 i (lit< tt) l (member_none i) ∙ zero-add (2 ^ i) in
+    rw (← e, member_insert 0 i j m, member_none j)
+
+pub union_bit : (s i : ℕ) → i < 16 → union s (2 ^ i) ≡ inserted s i
+unfolding union inserted
+union_bit s i l = set_ext 16 _ _ (λ j m. ap (λ b. member s j || b) (member_bit i j l m))
+
+pub difference_bit : (s i : ℕ) → i < 16 → difference s (2 ^ i) ≡ removed s i
+unfolding difference removed
+difference_bit s i l = set_ext 16 _ _ (λ j m. ap (λ b. member s j && not b) (member_bit i j l m))
 
 -- ---- the processor's operations, digit by digit
 -- what two digits say, from its four cases

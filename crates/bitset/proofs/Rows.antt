@@ -1,9 +1,10 @@
 -- Laws of rows in message bytes. The main ones: `row_read` (a row of the message that was written is read back) and `bytes_rows` (rows are
 -- written in bytes).
-use mathlib.Core.Path.{◌≡◌, sym, ap, ap₂, ◌∙◌}
+use mathlib.Core.Path.{◌≡◌, refl, sym, ap, ap₂, ◌∙◌}
+use native.Mathlib.Nat.{mod-eq_of_lt}
 use mathlib.Core.Bool.{Bool, true, false, cond}
 use mathlib.Core.List.{List, [], ◌∷◌, ◌++◌}
-use Prim.Native.Nat.{ℕ, ◌+◌, ◌*◌, ◌/◌, ◌%◌, ◌^◌, ◌≤◌, ◌<◌, min}
+use Prim.Native.Nat.{ℕ, zero, suc, ◌+◌, ◌*◌, ◌/◌, ◌%◌, ◌^◌, ◌≤◌, ◌<◌, min}
 use native.Mathlib.Omega.{arith}
 use borrow.Author.Tests.{eq-eqb, ne_eqb, lt-ltb, le-ltb}
 use lib.Dec.{eqb, lit<}
@@ -107,6 +108,12 @@ row_read n rows r l h =
     ∙ restrict_below x n (restrict_lt (get_or rows r 0) n)
 
 -- ---- bytes
+-- byte i of the two of a number of 16 bits
+pub byte_of : (x i : ℕ) → x < 65536 → i < 2 → get_or (x % 256 ∷ x / 256 % 256 ∷ []) i 0 ≡ cond (eqb i 0) (x % 256) (x / 256)
+byte_of x zero h l = refl
+byte_of x (suc zero) h l = mod-eq_of_lt (omega arith)
+byte_of x (suc (suc i)) h l = absurd (omega arith)
+
 -- of 16 bits, the low eight and the rest are bytes
 pub halves : (s n : ℕ) → n ≤ 16 → (restricted s n % 256 < 256) × (restricted s n / 256 < 256)
 halves s n h =

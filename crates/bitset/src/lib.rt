@@ -2,22 +2,19 @@
 // Every function is total: an index past 15 is in no set.
 #![tactic(auto)]
 
-ghost use Rattle.std.specs.Prelude.{◌≡◌, true, ◌*◌, ◌^◌, ◌<◌, min};
+ghost use Rattle.std.specs.Prelude.{◌≡◌, true, ◌*◌, ◌^◌, ◌<◌, min, MatchOption};
 ghost use Rattle.lists.specs.Fill.{filled};
 ghost use Rattle.bitset.specs.Set.{member, set_of, size_of, inserted, removed, intersection, difference, union, restricted, lowest_of};
 ghost use Rattle.bitset.specs.Row.{row_of, row_byte, rows_length};
 
-use lists::{high, low, word};
+use lists::word;
 
 // Whether i is in the set s.
 // Shut out: 15 in no set; the digit 0 taken for a member.
 pub fn member(s: u16, i: usize) -> bool
     ensures { result ≡ member s i }
 {
-    if 16 <= i {
-        return false;
-    }
-    (s >> i) % 2 == 1
+    i < 16 && (s >> i) % 2 == 1
 }
 
 // 2 to the i.
@@ -33,13 +30,7 @@ fn bit(i: usize) -> u16
 pub fn insert(s: u16, i: usize) -> u16
     ensures { result ≡ inserted s i }
 {
-    if 16 <= i {
-        return s;
-    }
-    if member(s, i) {
-        return s;
-    }
-    s + bit(i)
+    if i < 16 { union(s, bit(i)) } else { s }
 }
 
 // The set s without i.
@@ -47,13 +38,7 @@ pub fn insert(s: u16, i: usize) -> u16
 pub fn remove(s: u16, i: usize) -> u16
     ensures { result ≡ removed s i }
 {
-    if 16 <= i {
-        return s;
-    }
-    if member(s, i) {
-        return s - bit(i);
-    }
-    s
+    if i < 16 { difference(s, bit(i)) } else { s }
 }
 
 // The members of both sets.
@@ -85,15 +70,19 @@ pub fn union(a: u16, b: u16) -> u16
 pub fn size(s: u16) -> usize
     ensures { result ≡ size_of s }
 {
-    u16::count_ones(s) as usize
+    s.count_ones() as usize
 }
 
-// The least member of the set s; 16 where it has none.
-// Shut out: the highest member; the size for the least member.
-pub fn lowest(s: u16) -> usize
-    ensures { result ≡ lowest_of s }
+// The least member of the set s; none where it is empty.
+// Shut out: the highest member; the size for the least member; 16 for the empty set; none for the set of 15.
+pub fn lowest(s: u16) -> Option<usize>
+    ensures { MatchOption result (s ≡ 0) (λ i. (i ≡ lowest_of s) × (i < 16)) }
 {
-    u16::trailing_zeros(s) as usize
+    if s == 0 {
+        None
+    } else {
+        Some(s.trailing_zeros() as usize)
+    }
 }
 
 // The members of s below n.
@@ -101,10 +90,7 @@ pub fn lowest(s: u16) -> usize
 pub fn restrict(s: u16, n: usize) -> u16
     ensures { result ≡ restricted s n }
 {
-    if 16 <= n {
-        return s;
-    }
-    s % bit(n)
+    if n < 16 { s % bit(n) } else { s }
 }
 
 // The set of all indices below n, of 16 at most.
@@ -112,10 +98,7 @@ pub fn restrict(s: u16, n: usize) -> u16
 pub fn below(n: usize) -> u16
     ensures { result ≡ set_of (min n 16) (λ _. true) }
 {
-    if 16 <= n {
-        return 65535;
-    }
-    bit(n) - 1
+    if n < 16 { bit(n) - 1 } else { u16::MAX }
 }
 
 // The set in row r of the message m, of the indices below n; empty where m does not hold the row whole.
@@ -134,11 +117,7 @@ fn row_byte(rows: &[u16; 16], n: usize, b: usize) -> u8
     requires { b < 32 }
     ensures { result ≡ row_byte n rows.now b }
 {
-    let x = restrict(rows[b / 2], n);
-    if b % 2 == 0 {
-        return low(x);
-    }
-    high(x)
+    restrict(rows[b / 2], n).to_le_bytes()[b % 2]
 }
 
 // How many bytes n rows take, of 16 at most.
@@ -146,10 +125,7 @@ fn row_byte(rows: &[u16; 16], n: usize, b: usize) -> u8
 pub fn rows_length(n: usize) -> usize
     ensures { result ≡ rows_length n }
 {
-    if 16 <= n {
-        return 32;
-    }
-    2 * n
+    2 * n.min(16)
 }
 
 // Writes the first n rows, of 16 at most, without the bits past n, as far as `out` reaches; the rest of `out` stays.
@@ -157,13 +133,7 @@ pub fn rows_length(n: usize) -> usize
 pub fn write_rows(out: &mut [u8], rows: &[u16; 16], n: usize)
     ensures { out.new ≡ filled (row_byte n rows.now) (rows_length n) out.old }
 {
-    let end = rows_length(n);
-    let mut b: usize = 0;
-    while b < end {
-        if b >= out.len() {
-            return;
-        }
+    for b in 0..rows_length(n).min(out.len()) {
         out[b] = row_byte(rows, n, b);
-        b += 1;
     }
 }

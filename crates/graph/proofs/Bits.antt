@@ -1,7 +1,7 @@
 -- Laws of the graph as missing pairs: the bits made from a graph say that graph below n (`adjacent_of`); in any bits everyone is its own
 -- neighbour, neighbours are so both ways, and of the bits only those of pairs below n count (`adjacent_same`). Then the digits that the
 -- code reads, and the missing pairs of indices past 15.
-use mathlib.Core.Path.{◌≡◌, sym, ap, ap₂, subst, ◌∙◌}
+use mathlib.Core.Path.{◌≡◌, refl, sym, ap, ap₂, subst, ◌∙◌}
 use mathlib.Core.Logic.{⊎_elim}
 use mathlib.Core.List.{List}
 use mathlib.Core.Bool.{Bool, true, false, not, ◌&&◌, ◌||◌}
@@ -88,11 +88,9 @@ module _ (bits : List ℕ) where
           (lt_or_le i 16)
 
   -- ---- the digits that the code reads
-  pub digit_less : (i j d : ℕ) → i < j → j < 16 → d ≡ ind (bit bits (place i j)) → d ≡ ind (not (adjacent bits i j))
-  digit_less i j d l m e = e ∙ sym (ap (λ (b : Bool). ind (not b)) (adjacent_less i j l m) ∙ ap ind (not-not (bit bits (place i j))))
-
-  pub digit_more : (i j d : ℕ) → j < i → i < 16 → d ≡ ind (bit bits (place j i)) → d ≡ ind (not (adjacent bits i j))
-  digit_more i j d l m e = digit_less j i d l m e ∙ ap (λ (b : Bool). ind (not b)) (adjacent_sym j i)
+  pub digit_pair : (i j : ℕ) → (i ≡ j → ⊥) → max i j < 16 → ind (bit bits (place (min i j) (max i j))) ≡ ind (not (adjacent bits i j))
+  unfolding adjacent
+  digit_pair i j ne l = rw (ne_eqb i j ne, lt-ltb (max i j) 16 l, not-not) refl
 
   pub digit_same : (i j : ℕ) → i ≡ j → 0 ≡ ind (not (adjacent bits i j))
   digit_same i j e = sym (ap (λ (b : Bool). ind (not b)) (adjacent_self i j e))

@@ -10,17 +10,14 @@ ghost use Rattle.graph.specs.Pairs.{place};
 ghost use Rattle.graph.specs.Bits.{bit, bits_of, adjacent};
 
 use bitset::{insert, member};
-use lists::{low, wide};
+use lists::low;
 
 // Whether i and j mark each other.
 fn mark_each_other(rows: &[u16; 16], i: usize, j: usize) -> bool
     requires { (i < 16) × (j < 16) }
     ensures { result ≡ (member (get_or rows.now i 0) j && member (get_or rows.now j 0) i) }
 {
-    if member(rows[i], j) {
-        return member(rows[j], i);
-    }
-    false
+    member(rows[i], j) && member(rows[j], i)
 }
 
 // Whether i and j, j the larger, are a missing pair.
@@ -28,10 +25,7 @@ fn is_missing(rows: &[u16; 16], n: usize, i: usize, j: usize) -> bool
     requires { (i < j) × (j < 16) }
     ensures { result ≡ (ltb j n && not (neighbour rows.now i j)) }
 {
-    if j < n {
-        return !mark_each_other(rows, i, j);
-    }
-    false
+    j < n && !mark_each_other(rows, i, j)
 }
 
 // The place of the first pair whose smaller index is i: 15 + 14 + .., i summands.
@@ -54,10 +48,7 @@ fn place(i: usize, j: usize) -> usize
 fn with_bit(s: u8, k: usize, yes: bool) -> u8
     ensures { result ≡ set_of 8 (λ i. member s i || (yes && eqb i k)) }
 {
-    if yes {
-        return low(insert(wide(s), k));
-    }
-    s
+    if yes { low(insert(u16::from(s), k)) } else { s }
 }
 
 // The graph of the rows as missing pairs, of the indices below n.
@@ -66,15 +57,11 @@ pub fn bits_of(rows: &[u16; 16], n: usize) -> [u8; 15]
     ensures { result ≡ bits_of n (neighbour rows.now) }
 {
     let mut bits = [0u8; 15];
-    let mut i: usize = 0;
-    while i < 16 {
-        let mut j = i + 1;
-        while j < 16 {
+    for i in 0..16 {
+        for j in i + 1..16 {
             let p = place(i, j);
             bits[p / 8] = with_bit(bits[p / 8], p % 8, is_missing(rows, n, i, j));
-            j += 1;
         }
-        i += 1;
     }
     bits
 }
@@ -84,7 +71,7 @@ fn digit_at(bits: [u8; 15], p: usize) -> u16
     requires { p < 120 }
     ensures { result ≡ ind (bit bits p) }
 {
-    (wide(bits[p / 8]) >> (p % 8)) % 2
+    (u16::from(bits[p / 8]) >> (p % 8)) % 2
 }
 
 // 1 where i and j are not neighbours, else 0.
@@ -92,13 +79,11 @@ fn missing_digit(bits: [u8; 15], i: usize, j: usize) -> u16
     requires { (i < 16) × (j < 16) }
     ensures { result ≡ ind (not (adjacent bits i j)) }
 {
-    if i < j {
-        return digit_at(bits, place(i, j));
+    if i == j {
+        0
+    } else {
+        digit_at(bits, place(i.min(j), i.max(j)))
     }
-    if j < i {
-        return digit_at(bits, place(j, i));
-    }
-    0
 }
 
 // b times 2 to the j.
@@ -109,31 +94,19 @@ fn shifted(b: u16, j: usize) -> u16
     b << j
 }
 
-// n, or 16 where it is more.
-fn at_most_16(n: usize) -> usize
-    ensures { result ≡ min n 16 }
-{
-    if n < 16 {
-        return n;
-    }
-    16
-}
-
 // The set of those with whom i makes a missing pair below n; empty where i is not below n and 16. Digits are added, not tested one by one:
 // a branch on each would be mispredicted for half of random bits.
 // Shut out: must-fail/bits_past_n_read; must-fail/self_not_neighbour.
 pub fn missing_row(bits: [u8; 15], n: usize, i: usize) -> u16
     ensures { result ≡ missing n (adjacent bits) i }
 {
-    let m = at_most_16(n);
+    let m = n.min(16);
     if m <= i {
         return 0;
     }
     let mut s: u16 = 0;
-    let mut j: usize = 0;
-    while j < m {
+    for j in 0..m {
         s += shifted(missing_digit(bits, i, j), j);
-        j += 1;
     }
     s
 }

@@ -9,25 +9,7 @@ ghost use Rattle.lists.specs.Same.{same};
 pub fn is_equal(a: &[u8], b: &[u8]) -> bool
     ensures { result ≡ same a.now b.now }
 {
-    if a.len() != b.len() {
-        return false;
-    }
-    let mut i: usize = 0;
-    while i < a.len() {
-        if a[i] != b[i] {
-            return false;
-        }
-        i += 1;
-    }
-    true
-}
-
-// A byte as a wider number.
-// Shut out: its low seven bits; the byte and 256.
-pub fn wide(x: u8) -> u16
-    ensures { (result ≡ x) × (result < 256) }
-{
-    x as u16
+    a == b
 }
 
 // The low byte of a 16-bit number.
@@ -35,7 +17,7 @@ pub fn wide(x: u8) -> u16
 pub fn low(x: u16) -> u8
     ensures { result ≡ x % 256 }
 {
-    (x % 256) as u8
+    x.to_le_bytes()[0]
 }
 
 // The high byte of a 16-bit number.
@@ -43,7 +25,7 @@ pub fn low(x: u16) -> u8
 pub fn high(x: u16) -> u8
     ensures { result ≡ x / 256 }
 {
-    (x / 256) as u8
+    x.to_le_bytes()[1]
 }
 
 // The number with these two bytes.
@@ -51,5 +33,5 @@ pub fn high(x: u16) -> u8
 pub fn word(low: u8, high: u8) -> u16
     ensures { result ≡ low + 256 * high }
 {
-    wide(low) + 256 * wide(high)
+    u16::from_le_bytes([low, high])
 }

@@ -1,28 +1,13 @@
--- `bitset::remove` meets its contract: nothing changes past 15 or where i is no member; else the bit is taken away.
+-- `bitset::remove` meets its contract: the difference with the set of i; nothing changes past 15.
 use native.Mathlib.Omega.{arith}
-use Rattle.bitset.proofs.Sets.{remove_other, remove_sub, member_over}
-use Rattle.bitset.specs.Set.{removed}
-use Prim.Native.Nat.{ℕ, ◌+◌}
-use mathlib.Core.Path.{◌≡◌, sym, ap, ◌∙◌}
+use Rattle.bitset.proofs.Sets.{remove_other, member_over}
+use Rattle.bitset.proofs.Operations.{difference_bit}
+use mathlib.Core.Path.{sym, ◌∙◌}
 use Rattle.bitset.proofs.remove.Goals as goal
 
-pub returns-then-i-ge16 : goal.returns-then-i-ge16
-returns-then-i-ge16 c =
-    sym (remove_other c.args.s c.args.i (omega arith) (member_over 16 c.args.s c.args.i (omega arith) (omega arith)))
+pub returns-then-i-lt16 : goal.returns-then-i-lt16
+returns-then-i-lt16 c = c.difference.ensures ∙ rw c.bit.ensures (difference_bit c.args.s c.args.i c.if-i-lt16.true)
 
--- a member: the set is what is left and the bit's worth
-less : (c : goal.After-bit) → removed c.args.s
-    c.args.i + c.bit.result ≡ c.args.s
-less c =
-    ap (λ (x : ℕ). removed c.args.s c.args.i + x) c.bit.ensures
-    ∙ remove_sub c.args.s c.args.i (omega arith) (omega arith) (sym c.member.ensures ∙ c.if-member.true)
-
-pub overflow_sub-result : goal.overflow_sub-result
-overflow_sub-result c = omega (arith, less c)
-
-pub returns-then-member : goal.returns-then-member
-returns-then-member c = omega (arith, less c)
-
-pub returns : goal.returns
-returns c =
-    sym (remove_other c.args.s c.args.i (omega arith) (sym c.member.ensures ∙ c.if-member.false))
+pub returns-else-i-lt16 : goal.returns-else-i-lt16
+returns-else-i-lt16 c =
+    sym (remove_other c.args.s c.args.i (omega arith) (member_over 16 c.args.s c.args.i (omega arith) c.if-i-lt16.false))

@@ -2,13 +2,12 @@
 use lib.Pow.{pow_mono}
 use native.Mathlib.Omega.{arith}
 use Rattle.bitset.proofs.Sets.{restrict_mod, restrict_below}
-use Prim.Native.Nat.{ℕ, ◌%◌}
-use mathlib.Core.Path.{sym, ap, ◌∙◌}
+use mathlib.Core.Path.{sym}
 use Rattle.bitset.proofs.restrict.Goals as goal
 
-pub returns-then-n-ge16 : goal.returns-then-n-ge16
-returns-then-n-ge16 c =
-    sym (restrict_below c.args.s c.args.n (omega (arith, pow_mono {i = 16} {j = c.args.n} (omega arith))))
+pub returns-then-n-lt16 : goal.returns-then-n-lt16
+returns-then-n-lt16 c = rw (c.bit.ensures, restrict_mod c.args.s c.args.n)
 
-pub returns : goal.returns
-returns c = ap (λ (x : ℕ). c.args.s % x) c.bit.ensures ∙ sym (restrict_mod c.args.s c.args.n)
+pub returns-else-n-lt16 : goal.returns-else-n-lt16
+returns-else-n-lt16 c =
+    sym (restrict_below c.args.s c.args.n (omega (arith, pow_mono {i = 16} {j = c.args.n} (omega arith))))

@@ -2,11 +2,7 @@
 use Rattle.bitset.specs.Row.{row_byte}
 use Rattle.lists.specs.Fill.{filled}
 use mathlib.Core.Path.{◌≡◌}
-use Prim.Native.Nat.{◌-◌, ◌*◌, ◌≤◌, min}
 use Rattle.bitset.proofs.write_rows.Given as goal
 
 abbrev pub invariant-loop-b : goal.invariant-loop-b
-invariant-loop-b l = (l.end ≡ 2 * min l.n 16) × (l.b ≤ l.end) × (l.out ≡ filled (row_byte l.n l.rows) l.b l.initial.out)
-
-abbrev pub decreases-loop-b : goal.decreases-loop-b
-decreases-loop-b l = l.end - l.b
+invariant-loop-b l = l.out ≡ filled (row_byte l.n l.rows) l.b l.initial.out

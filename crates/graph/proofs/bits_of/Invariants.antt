@@ -3,18 +3,12 @@ use Rattle.graph.proofs.Making.{bits_to}
 use Rattle.graph.specs.Neighbour.{neighbour}
 use Rattle.graph.specs.Pairs.{place}
 use mathlib.Core.Path.{◌≡◌}
-use Prim.Native.Nat.{◌+◌, ◌-◌, ◌≤◌, ◌<◌}
+use Prim.Native.Nat.{◌+◌}
 use Rattle.graph.proofs.bits_of.Given as goal
 
 -- the pairs before (i, j) have their bits
 abbrev pub invariant-loop-j : goal.invariant-loop-j
-invariant-loop-j l = (l.i < l.j) × (l.j ≤ 16) × (l.bits ≡ bits_to l.n (neighbour l.rows) (place l.i l.j))
-
-abbrev pub decreases-loop-j : goal.decreases-loop-j
-decreases-loop-j l = 16 - l.j
+invariant-loop-j l = l.bits ≡ bits_to l.n (neighbour l.rows) (place l.i l.j)
 
 abbrev pub invariant-loop-i : goal.invariant-loop-i
-invariant-loop-i l = (l.i ≤ 16) × (l.bits ≡ bits_to l.n (neighbour l.rows) (place l.i (l.i + 1)))
-
-abbrev pub decreases-loop-i : goal.decreases-loop-i
-decreases-loop-i l = 16 - l.i
+invariant-loop-i l = l.bits ≡ bits_to l.n (neighbour l.rows) (place l.i (l.i + 1))

@@ -3,4 +3,4 @@ use Rattle.graph.proofs.Bits.{digit_is}
 use Rattle.graph.proofs.digit_at.Goals as goal
 
 pub returns : goal.returns
-returns c = digit_is _ _ _ c.wide.ensures.0
+returns c = digit_is _ _ _ c.from.ensures

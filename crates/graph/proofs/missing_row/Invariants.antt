@@ -3,11 +3,7 @@ use Rattle.graph.specs.Bits.{adjacent}
 use Rattle.bitset.specs.Set.{set_of}
 use mathlib.Core.Bool.{not}
 use mathlib.Core.Path.{◌≡◌}
-use Prim.Native.Nat.{◌-◌, ◌≤◌}
 use Rattle.graph.proofs.missing_row.Given as goal
 
 abbrev pub invariant-loop-j : goal.invariant-loop-j
-invariant-loop-j l = (l.j ≤ l.m) × (l.s ≡ set_of l.j (λ x. not (adjacent l.bits l.i x)))
-
-abbrev pub decreases-loop-j : goal.decreases-loop-j
-decreases-loop-j l = l.m - l.j
+invariant-loop-j l = l.s ≡ set_of l.j (λ x. not (adjacent l.bits l.i x))
