@@ -11,6 +11,7 @@
 --     decode_0, 0_decode               decoding is carried out exactly within the settings, with the stated lengths
 --     decodes_unique                   at most one block meets the rule
 --     answers_unique                   so there is one answer, and one block that is left
+--     one_decoded                      what an answer says determines it
 --     meets-decodes                    a block that passes the test `meets` meets the rule
 --     stripe-beyond                    where the candidate for a stripe is not right, no block meets the rule; few-beyond: nor with at most t slots present
 --     rebuilt-decodes, rebuilt-block   `rebuilt` gives the block that meets the rule; rebuilt_none: or none where none does
@@ -27,3 +28,4 @@ pub use Rattle.reed_solomon.proofs.Rule.{0_decode, decodes_unique, answers_uniqu
 pub use Rattle.reed_solomon.proofs.Rule.{few-beyond, rebuilt_none, decodes-or-not, pieces_decode, present_count_le, rebuilt_same, named_same}
 pub use Rattle.reed_solomon.proofs.Rule.{decode_refusal_same}
 pub use Rattle.reed_solomon.proofs.Named.{member_named, named_lt, true_not_named, named_absent, named_differs, not_named, named_other_run}
+pub use Rattle.reed_solomon.proofs.Decoded.{one_decoded}

@@ -9,4 +9,5 @@ mod Mending
 mod Named
 mod Counts
 mod Ready
+mod Decoded
 pub mod Laws

@@ -29,8 +29,7 @@ use Rattle.polynomial.proofs.Laws.{evaluate_lt, equal_of_values, past_end}
 use Rattle.interpolation.specs.Interpolation.{candidate}
 use Rattle.interpolation.proofs.Laws.{recovers}
 use Rattle.reed_solomon.specs.Encode.{stripe, piece_of, encode_fits, encode_refusal, encoded, encode_of}
-use Rattle.reed_solomon.specs.declared.Decoded.TheVariants.{Block, Beyond, Refused}
-use Rattle.reed_solomon.specs.Decode.{has_piece, received, present_count, differing, Decodes, decode_fits, decode_refusal, DecodesUnique}
+use Rattle.reed_solomon.specs.Decode.{has_piece, received, present_count, differing, Decodes, decode_fits, decode_refusal, DecodesUnique, Block, Beyond, Refused}
 use Rattle.reed_solomon.specs.Decode.{is_named, named_of, AnswersUnique, PiecesDecode, FewBeyond}
 use Rattle.reed_solomon.specs.First.{first_bytes, is_right_stripe, meets, DecodesMeets, MeetsDecodes, rebuilt, RebuiltDecodes, RebuiltBlock, RebuiltNone}
 use Rattle.reed_solomon.specs.Steps.{points, column, differences, is_right, NoneRight, Pointed}

@@ -11,6 +11,8 @@
 --   named_of n t layout slots block          the marks of the slots of 1 .. n that are named
 --   decode_fits n t layout slots block       the lent lengths are the stated ones: n slots of messages of k bytes, and a block
 --   decode_refusal n t layout slots block    the number of the refusal table's row, or 0 ('Turned down': decoding tries 1, 2, 3, 6)
+--   Decoded                                  what a call answers: a block, with the marks of the slots that are named; beyond; the number of a refusal
+--   decoded_of a                             what the code's answer a says: with marks or with none, or refused
 --   Answers n t layout slots before d after  what a call answers, d, and leaves in the lent block: the block that meets the rule, with its marks; beyond and
 --                                            zeros where none does; refused, the row's number, and the block as it was
 --   DecodesUnique                            at most one block meets the rule, whatever t and k are, where 1 .. n are different elements of the field (law
@@ -22,17 +24,17 @@
 --   NamedAbsent, NamedDiffers, NotNamed      document 02's words for the slots that are named: those that are absent, or differ in any stripe from the code
 --                                            of the block, and no others (laws `named_absent`, `named_differs`, `not_named`)
 --   NamedOtherRun                            so a slot that carries another run's number is named, whatever its message (law `named_other_run`)
-use Rattle.std.specs.Prelude.{◌≡◌, Bool, true, false, not, ◌&&◌, List, ℕ, ◌+◌, ◌*◌, ◌≤◌, ◌<◌, eqb, length, get_or, replicate}
+use Rattle.std.specs.Prelude.{◌≡◌, Bool, true, false, not, ◌&&◌, List, ℕ, ◌+◌, ◌*◌, ◌≤◌, ◌<◌, eqb, length, get_or, replicate, Option, Some, None, Result, Ok, Err}
 use Rattle.lists.specs.Sum.{count}
 use Rattle.lists.specs.Same.{same}
 use Rattle.bitset.specs.Set.{set_of}
+use Rattle.settings.specs.declared.Refusal.{Refusal}
 use Rattle.settings.specs.Refusal.{decoding_refusal}
+use Rattle.settings.specs.Number.{row_of}
 use Rattle.wire.specs.Length.{block_length}
 use Rattle.wire.specs.declared.slot.Layout.{Layout}
 use Rattle.wire.specs.Slot.{width, slot_of, message_of, OtherRun}
 use Rattle.polynomial.specs.Polynomial.{evaluate, Bytes}
-use Rattle.reed_solomon.specs.declared.Decoded.{Decoded}
-use Rattle.reed_solomon.specs.declared.Decoded.TheVariants.{Block, Beyond, Refused}
 use Rattle.reed_solomon.specs.Encode.{stripe, piece_of}
 
 unfoldable pub has_piece : Layout → List ℕ → ℕ → Bool
@@ -64,6 +66,16 @@ decode_fits n t layout slots block = eqb (length slots) (n * width layout) && eq
 unfoldable pub decode_refusal : (n t : ℕ) → Layout → List ℕ → List ℕ → ℕ
 decode_refusal n t layout slots block =
     decoding_refusal n t layout.length (decode_fits n t layout slots block)
+
+pub data Decoded : Type 0 where
+  Block : ℕ → Decoded
+  Beyond : Decoded
+  Refused : ℕ → Decoded
+
+abbrev pub decoded_of : Result (Option ℕ) Refusal → Decoded
+decoded_of (Ok (Some named)) = Block named
+decoded_of (Ok None) = Beyond
+decoded_of (Err r) = Refused (row_of r)
 
 abbrev pub Answers : (n t : ℕ) (layout : Layout) (slots before : List ℕ) → Decoded → List ℕ → Type 0
 Answers n t layout slots before (Block named) after =

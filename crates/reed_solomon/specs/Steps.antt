@@ -23,8 +23,8 @@
 --   Lent n t layout slots xs                             xs are the points of the present slots, enough for t + 1 bytes
 --   Mended t layout slots xs s found before after        found says whether some bytes of stripe s are right; then those of the block after the call are, and
 --                                                        the stripes before it stay
---   Rebuilds n t layout slots d block                    what is left in the block: the block that meets the rule, with its marks; with beyond, none meets it
-use Rattle.std.specs.Prelude.{◌≡◌, Bool, true, false, not, List, ℕ, ◌+◌, ◌*◌, ◌≤◌, ◌<◌, eqb, leb, length, get_or, take}
+--   Rebuilds n t layout slots named block                what is left in the block: the block that meets the rule, with its marks; without marks, none meets it
+use Rattle.std.specs.Prelude.{◌≡◌, Bool, true, false, not, List, ℕ, ◌+◌, ◌*◌, ◌≤◌, ◌<◌, eqb, leb, length, get_or, take, Option, MatchOption}
 use Rattle.lists.specs.Sum.{count, ind}
 use Rattle.lists.specs.Fill.{tabulate, filled}
 use Rattle.lists.specs.Join.{joined}
@@ -34,8 +34,6 @@ use Rattle.settings.specs.Valid.{Coded}
 use Rattle.wire.specs.declared.slot.Layout.{Layout}
 use Rattle.polynomial.specs.Polynomial.{evaluate, Bytes}
 use Rattle.reed_solomon.specs.Encode.{stripe}
-use Rattle.reed_solomon.specs.declared.Decoded.TheVariants.{Block, Beyond, Refused}
-use Rattle.reed_solomon.specs.declared.Decoded.{Decoded}
 use Rattle.reed_solomon.specs.Decode.{has_piece, received, differing, Decodes, named_of}
 
 unfoldable pub points : ℕ → Layout → List ℕ → List ℕ
@@ -119,7 +117,7 @@ pub record Mended (t : ℕ) (layout : Layout) (slots xs : List ℕ) (s : ℕ) (f
   pub kept : found ≡ true → take (s * (t + 1)) after ≡ take (s * (t + 1)) before
   pub none_right : found ≡ false → NoneRight t xs (column layout slots s xs)
 
-abbrev pub Rebuilds : (n t : ℕ) → Layout → List ℕ → Decoded → List ℕ → Type 0
-Rebuilds n t layout slots (Block named) block = Decodes n t layout slots block × (named ≡ named_of n t layout slots block)
-Rebuilds n t layout slots Beyond block = (B : List ℕ) → Decodes n t layout slots B → ⊥
-Rebuilds n t layout slots (Refused r) block = ⊥
+abbrev pub Rebuilds : (n t : ℕ) → Layout → List ℕ → Option ℕ → List ℕ → Type 0
+Rebuilds n t layout slots named block =
+    MatchOption named ((B : List ℕ) → Decodes n t layout slots B → ⊥)
+    (λ x. Decodes n t layout slots block × (x ≡ named_of n t layout slots block))

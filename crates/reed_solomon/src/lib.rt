@@ -7,22 +7,16 @@ mod comparison;
 mod guessing;
 mod settling;
 
-ghost use Rattle.std.specs.Prelude.{◌≡◌, ◌+◌, ◌*◌, ◌≤◌, ◌<◌, eqb, length, take};
+ghost use Rattle.std.specs.Prelude.{◌≡◌, ◌+◌, ◌*◌, ◌≤◌, ◌<◌, eqb, length, take, Ok};
 ghost use Rattle.settings.specs.Valid.{Coded};
+ghost use Rattle.settings.specs.Number.{number_of};
 ghost use Rattle.wire.specs.Length.{block_length};
 ghost use Rattle.reed_solomon.specs.Encode.{piece_of, encode_fits, encoded, encode_of, is_ready};
-ghost use Rattle.reed_solomon.specs.Decode.{has_piece, decode_fits, decode_refusal, Answers};
+ghost use Rattle.reed_solomon.specs.Decode.{has_piece, decode_fits, decode_refusal, decoded_of, Answers};
 ghost use Rattle.reed_solomon.specs.Steps.{Pointed, Mended, Rebuilds, Lent, Room, Listed};
 
+use settings::Refusal;
 use wire::Layout;
-
-// What decoding answers. The block itself is in the lent bytes; with it come the marks of the slots that were absent or did not hold their piece.
-#[derive(Clone, Copy)]
-pub enum Decoded {
-    Block(u16),
-    Beyond,
-    Refused(u8),
-}
 
 // Whether slot j is present.
 fn has_piece(slots: &[u8], layout: Layout, j: usize) -> bool
@@ -128,7 +122,7 @@ fn mend_all(
     block: &mut [u8],
     cols: &mut [u8],
     tmp: &mut [u8],
-) -> Decoded
+) -> Option<u16>
     requires { Lent n t layout slots.now xs.now × Room t layout.length block.old cols.old tmp.old }
     ensures { Rebuilds n t layout slots.now result block.new }
 {
@@ -139,14 +133,14 @@ fn mend_all(
     while s < layout.length {
         let search = mend(slots, t, layout, s, xs, known, block, cols, tmp);
         if !search.found {
-            return Decoded::Beyond;
+            return None;
         }
         known = search.marks;
         let next = comparison::check(n, t, layout, slots, xs.len(), s + 1, block, cols, tmp);
         named = next.named;
         s = next.wrong;
     }
-    Decoded::Block(named)
+    Some(named)
 }
 
 // The block and its marks from the present slots, whose points are xs. The last stripe is decoded first, so that slots that turned false are known,
@@ -160,14 +154,14 @@ fn decode_present(
     block: &mut [u8],
     cols: &mut [u8],
     tmp: &mut [u8],
-) -> Decoded
+) -> Option<u16>
     requires { Lent n t layout slots.now xs.now × Room t layout.length block.old cols.old tmp.old }
     ensures { Rebuilds n t layout slots.now result block.new }
 {
     let mut m = [0u8; 6];
     let search = settling::settle(slots, t, layout, layout.length - 1, xs, 0, &mut m[..t + 1]);
     if !search.found {
-        return Decoded::Beyond;
+        return None;
     }
     guess_rest(
         slots,
@@ -192,7 +186,7 @@ fn decode_points(
     slots: &[u8],
     xs: &[u8],
     block: &mut [u8],
-) -> Decoded
+) -> Option<u16>
     requires { Lent n t layout slots.now xs.now × (length block.old ≡ layout.length * (t + 1)) }
     ensures { Rebuilds n t layout slots.now result block.new }
 {
@@ -220,13 +214,13 @@ fn decode_slots(
     slots: &[u8],
     xs: &mut [u8],
     block: &mut [u8],
-) -> Decoded
+) -> Option<u16>
     requires { Coded n t layout.length × (n ≤ length xs.old) × (length block.old ≡ layout.length * (t + 1)) }
     ensures { Rebuilds n t layout slots.now result block.new }
 {
     let count = list_points(n, layout, slots, xs);
     if count <= t {
-        return Decoded::Beyond;
+        return None;
     }
     decode_points(n, t, layout, slots, &xs[..count], block)
 }
@@ -250,53 +244,46 @@ fn is_block(block: &[u8], t: usize, k: usize) -> bool
 fn decode_fits(n: usize, t: usize, layout: Layout, slots: &[u8], block: &[u8]) -> bool
     ensures { result ≡ decode_fits n t layout slots.now block.now }
 {
-    if !wire::holds_exactly(slots, n, layout) {
-        return false;
-    }
-    is_block(block, t, layout.length)
+    wire::holds_exactly(slots, n, layout) && is_block(block, t, layout.length)
 }
 
 fn encode_fits(k: usize, t: usize, block: &[u8], piece: &[u8]) -> bool
     ensures { result ≡ encode_fits k t block.now piece.now }
 {
-    if !is_block(block, t, k) {
-        return false;
-    }
-    piece.len() == k
+    is_block(block, t, k) && piece.len() == k
 }
 
 // The block and its marks, or zeros.
-fn rebuild(n: usize, t: usize, layout: Layout, slots: &[u8], block: &mut [u8]) -> Decoded
+fn rebuild(n: usize, t: usize, layout: Layout, slots: &[u8], block: &mut [u8]) -> Option<u16>
     requires { decode_refusal n t layout slots.now block.old ≡ 0 }
-    ensures { Answers n t layout slots.now block.old result block.new }
+    ensures { Answers n t layout slots.now block.old (decoded_of (Ok result)) block.new }
 {
     let mut xs = [0u8; 16];
-    let decoded = decode_slots(n, t, layout, slots, &mut xs, block);
-    if let Decoded::Beyond = decoded {
-        wire::silence(block);
+    let named = decode_slots(n, t, layout, slots, &mut xs, block);
+    if named.is_none() {
+        block.fill(0);
     }
-    decoded
+    named
 }
 
 // Decoding: the block in each stripe of which twice the number of present values that differ from their code is at most N - t - 1, with N of the n
-// slots present, into the lent block, and the marks of the slots that do not hold their piece of it; beyond and zeros where there is none. The
-// relation determines the answer and the block that is left: at most one block meets the rule (laws `decodes_unique`, `answers_unique`).
+// slots present, into the lent block, and the marks of the slots that do not hold their piece of it; none and zeros where there is no such block. The
+// relation determines the answer and the block that is left: at most one block meets the rule (laws `decodes_unique`, `answers_unique`, `one_decoded`).
 // Shut out: must-fail/guess_unchecked; must-fail/bound_off_by_one; must-fail/stripe_bound_off_by_one; must-fail/another_point;
 // must-fail/absent_as_zeros; must-fail/absent_differ; must-fail/points_renumbered; must-fail/beyond_keeps_the_block;
 // must-fail/refusal_clears_the_block; must-fail/named_without_absent; must-fail/named_by_first_stripe.
-pub fn decode(n: usize, t: usize, layout: Layout, slots: &[u8], block: &mut [u8]) -> Decoded
-    ensures { Answers n t layout slots.now block.old result block.new }
+pub fn decode(
+    n: usize,
+    t: usize,
+    layout: Layout,
+    slots: &[u8],
+    block: &mut [u8],
+) -> Result<Option<u16>, Refusal>
+    ensures { Answers n t layout slots.now block.old (decoded_of result) block.new }
 {
-    let refused = settings::decoding_refusal(
-        n,
-        t,
-        layout.length,
-        decode_fits(n, t, layout, slots, block),
-    );
-    if refused != 0 {
-        return Decoded::Refused(refused);
-    }
-    rebuild(n, t, layout, slots, block)
+    let fits = decode_fits(n, t, layout, slots, block);
+    settings::decoding_refusal(n, t, layout.length, fits)?;
+    Ok(rebuild(n, t, layout, slots, block))
 }
 
 // The values at x of the stripes of a block, into `piece`, by way of `column`.
@@ -325,16 +312,21 @@ fn encode_piece(t: usize, block: &[u8], x: u8, piece: &mut [u8])
 }
 
 // Coding: piece `number` of a block's coding, into the lent piece.
-// Shut out: 0 where it is refused; each stripe without its last byte; must-fail/piece_of_another.
-pub fn encode(n: usize, t: usize, k: usize, number: usize, block: &[u8], piece: &mut [u8]) -> u8
-    ensures { encoded result piece.new ≡ encode_of n t k number block.now piece.old }
+// Shut out: Ok where it is refused; each stripe without its last byte; must-fail/piece_of_another.
+pub fn encode(
+    n: usize,
+    t: usize,
+    k: usize,
+    number: usize,
+    block: &[u8],
+    piece: &mut [u8],
+) -> Result<(), Refusal>
+    ensures { encoded (number_of result) piece.new ≡ encode_of n t k number block.now piece.old }
 {
-    let refusal = settings::encoding_refusal(n, t, k, number, encode_fits(k, t, block, piece));
-    if refusal != 0 {
-        return refusal;
-    }
+    let fits = encode_fits(k, t, block, piece);
+    settings::encoding_refusal(n, t, k, number, fits)?;
     encode_piece(t, block, number as u8, piece);
-    0
+    Ok(())
 }
 
 // Whether the rows that coding tries let the settings, the number and the lengths pass; `fits` is the test of what is lent beside the block.
@@ -342,8 +334,5 @@ pub fn encode(n: usize, t: usize, k: usize, number: usize, block: &[u8], piece: 
 pub fn is_ready(n: usize, t: usize, k: usize, number: usize, block: &[u8], fits: bool) -> bool
     ensures { result ≡ is_ready n t k number block.now fits }
 {
-    if !is_block(block, t, k) {
-        return false;
-    }
-    settings::encoding_refusal(n, t, k, number, fits) == 0
+    is_block(block, t, k) && settings::encoding_refusal(n, t, k, number, fits).is_ok()
 }
