@@ -1,11 +1,12 @@
 // What the programs that run cases and print them have in common: random numbers, run numbers, digests, bytes and lengths of lent slices, and printing to
 // standard output. No contract can say what is printed.
-#![tactic(auto)]
+#![tactic(auto, unfolding(crate::specs::Random::next_random, crate::specs::Random::mixed, crate::specs::Random::some_run, crate::specs::Random::other_run))]
 
-ghost use Rattle.std.specs.Prelude.{◌≡◌, ◌/◌, ◌%◌, ◌≤◌, ◌&&◌, ltb, length, take, replicate, if◌then◌else◌, ◌==◌, nat_lt};
+ghost use Rattle.std.specs.Prelude.{◌≡◌, ℕ, ◌/◌, ◌%◌, ◌≤◌, ◌&&◌, ltb, length, map, take, replicate, if◌then◌else◌, ◌==◌, nat_lt};
 ghost use Rattle.lists.specs.Sum.{ind};
 ghost use Rattle.cases.specs.Random.{next_random, mixed, seeded, drawn, digested, some_run, other_run};
 
+use std::fmt::Display;
 use std::io;
 
 // The run numbers of cases.
@@ -24,7 +25,7 @@ pub fn next(x: u64) -> u64
 pub fn mix(x: u64, y: u64) -> u64
     ensures { result ≡ mixed x y }
 {
-    next(std::num::wrapping_add_u64(x, y))
+    next(x.wrapping_add(y))
 }
 
 // A seed from four numbers.
@@ -72,50 +73,51 @@ pub fn some_run(x: usize) -> u16
 pub fn other_run(run: u16, c: usize) -> u16
     ensures { result ≡ other_run run c }
 {
-    if c % 2 == 0 {
-        return run ^ 1;
+    if c % 2 == 0 { run ^ 1 } else { run ^ 256 }
+}
+
+// The types of what is digested.
+pub trait Unsigned: Copy {
+    ghost value: { Self → ℕ };
+
+    fn value(self) -> u64
+        ensures { result ≡ value self };
+}
+
+impl Unsigned for u8 {
+    ghost value = { λ x. x };
+
+    fn value(self) -> u64 {
+        u64::from(self)
     }
-    run ^ 256
 }
 
-fn of_byte(x: u8) -> u64
-    ensures { result ≡ x }
-{
-    x as u64
+impl Unsigned for u16 {
+    ghost value = { λ x. x };
+
+    fn value(self) -> u64 {
+        u64::from(self)
+    }
 }
 
-fn of_word(x: u16) -> u64
-    ensures { result ≡ x }
-{
-    x as u64
-}
-
-// A digest of d and the bytes of a slice.
-// Shut out: that of the last byte alone; that without the first.
-pub fn digest(d: u64, s: &[u8]) -> u64
-    ensures { result ≡ digested d s.now }
+// A digest of d and the elements of a slice.
+// Shut out: that of the last element alone; that without the first.
+pub fn digest<T: Unsigned>(d: u64, s: &[T]) -> u64
+    ensures { result ≡ digested d (map T.value s.now) }
 {
     let mut r = d;
-    let mut i: usize = 0;
-    while i < s.len() {
-        r = mix(r, of_byte(s[i]));
-        i += 1;
+    for x in s {
+        r = mix(r, x.value());
     }
     r
 }
 
-// The same of words.
+// The same of words, whose values are themselves.
 // Shut out: that of the last word alone; that without the first.
 pub fn digest_words(d: u64, s: &[u16]) -> u64
     ensures { result ≡ digested d s.now }
 {
-    let mut r = d;
-    let mut i: usize = 0;
-    while i < s.len() {
-        r = mix(r, of_word(s[i]));
-        i += 1;
-    }
-    r
+    digest(d, s)
 }
 
 // 1 where both are the same, else 0: for a count of cases.
@@ -123,10 +125,7 @@ pub fn digest_words(d: u64, s: &[u16]) -> u64
 pub fn is_same(a: u8, b: u8) -> u64
     ensures { (result ≡ ind (a == b)) × (result ≤ 1) }
 {
-    if a == b {
-        return 1;
-    }
-    0
+    u64::from(a == b)
 }
 
 // Whether index i is one of t: every third, from index 1 on.
@@ -134,10 +133,7 @@ pub fn is_same(a: u8, b: u8) -> u64
 pub fn is_third(t: usize, i: usize) -> bool
     ensures { result ≡ (i % 3 == 1 && nat_lt (i / 3) t) }
 {
-    if i % 3 == 1 {
-        return i / 3 < t;
-    }
-    false
+    i % 3 == 1 && i / 3 < t
 }
 
 // The length x for a part of s; 0 where s is shorter.
@@ -146,10 +142,7 @@ pub fn fitting(x: usize, s: &[u8]) -> usize
     ensures prefix_len { (result ≤ length s.now) × (result ≡ length (take result s.now)) }
     ensures value { result ≡ (if ltb (length s.now) x then 0 else x) }
 {
-    if s.len() < x {
-        return 0;
-    }
-    x
+    if s.len() < x { 0 } else { x }
 }
 
 // Each byte of s becomes v.
@@ -157,9 +150,7 @@ pub fn fitting(x: usize, s: &[u8]) -> usize
 pub fn fill(s: &mut [u8], v: u8)
     ensures { s.new ≡ replicate (length s.old) v }
 {
-    for i in 0..s.len() {
-        s[i] = v;
-    }
+    s.fill(v);
 }
 
 // Prints a text.
@@ -182,18 +173,13 @@ pub fn decimal(rt: &impl Print, x: usize) -> io::Result<()>
     print!(rt; "{x}")
 }
 
-// A space and a number.
-fn number(rt: &impl Print, x: usize) -> io::Result<()> {
-    print!(rt; " {x}")
-}
-
 // A text, then a space and a number for each.
-pub fn numbers(rt: &impl Print, name: &[u8], xs: &[usize]) -> io::Result<()>
+pub fn numbers<T: Display>(rt: &impl Print, name: &[u8], xs: &[T]) -> io::Result<()>
     ensures { Unit {0} }
 {
     text(rt, name)?;
     for x in xs {
-        number(rt, *x)?;
+        print!(rt; " {x}")?;
     }
     Ok(())
 }
@@ -202,19 +188,8 @@ pub fn numbers(rt: &impl Print, name: &[u8], xs: &[usize]) -> io::Result<()>
 pub fn byte_line(rt: &impl Print, name: &[u8], xs: &[u8]) -> io::Result<()>
     ensures { Unit {0} }
 {
-    text(rt, name)?;
-    for x in xs {
-        byte_number(rt, *x)?;
-    }
+    numbers(rt, name, xs)?;
     newline(rt)
-}
-
-fn byte_number(rt: &impl Print, x: u8) -> io::Result<()> {
-    number(rt, x as usize)
-}
-
-fn hex_byte(rt: &impl Print, x: u8) -> io::Result<()> {
-    print!(rt; "{x:02x}")
 }
 
 // A space, and two hexadecimal digits for each byte; a dash for no byte.
@@ -222,11 +197,11 @@ pub fn hex(rt: &impl Print, s: &[u8]) -> io::Result<()>
     ensures { Unit {0} }
 {
     text(rt, b" ")?;
-    if s.len() == 0 {
+    if s.is_empty() {
         return text(rt, b"-");
     }
     for x in s {
-        hex_byte(rt, *x)?;
+        print!(rt; "{x:02x}")?;
     }
     Ok(())
 }
@@ -235,6 +210,5 @@ pub fn hex(rt: &impl Print, s: &[u8]) -> io::Result<()>
 pub fn end_digest(rt: &impl Print, d: u64) -> io::Result<()>
     ensures { Unit {0} }
 {
-    print!(rt; " {d:08x}")?;
-    newline(rt)
+    println!(rt; " {d:08x}")
 }
