@@ -5,7 +5,7 @@ ghost use Rattle.protocol.specs.State.{advanced};
 ghost use Rattle.protocol.specs.Calls.{carried, inbox_layout, outbox_layout, settled_matrix, send_call, receive_call, compare_call, collect_call, tally_call, hold_call, settle_call, core_call, choose_call, finish_call, call_of};
 ghost use Rattle.controller.specs.Steps.{Bounded};
 
-use protocol::{State, with_call, with_core, with_matrix, with_named, with_votes};
+use protocol::State;
 use reconstruction::Outcome;
 use wire::{Call, Layout};
 
@@ -14,7 +14,7 @@ fn advance(s: State, outcome: Outcome) -> State
     requires { s.next ≤ 24 }
     ensures { result ≡ advanced s outcome }
 {
-    with_call(s, s.next + 1, outcome)
+    s.with_call(s.next + 1, outcome)
 }
 
 // The state at the next call of a run that goes on.
@@ -107,7 +107,7 @@ fn collect_call(s: State, inbox: &[u8], outbox: &mut [u8]) -> State
     let out = outbox_layout(s);
     phase_king::send_matrix(outbox, out, &rows, s.settings.n);
     let next = open(s);
-    with_matrix(next, rows)
+    next.with_matrix(rows)
 }
 
 // After 3p + 1.
@@ -137,7 +137,7 @@ fn hold_call(s: State, inbox: &[u8], outbox: &mut [u8]) -> State
     let out = outbox_layout(s);
     phase_king::send_as_king(outbox, out, s.own, king, &rows, s.settings.n);
     let next = open(s);
-    with_votes(next, rows, weak)
+    next.with_votes(rows, weak)
 }
 
 // The matrix after 3p + 3.
@@ -168,7 +168,7 @@ fn settle_call(s: State, inbox: &[u8], outbox: &mut [u8]) -> State
     let out = outbox_layout(s);
     phase_king::send_matrix(outbox, out, &rows, s.settings.n);
     let next = open(s);
-    with_matrix(next, rows)
+    next.with_matrix(rows)
 }
 
 // Call 3t + 7.
@@ -190,7 +190,7 @@ fn core_call(s: State, block: &[u8], inbox: &[u8], outbox: &mut [u8]) -> State
         outbox,
     );
     let next = open(s);
-    with_core(next, rows, core)
+    next.with_core(rows, core)
 }
 
 // Call 3t + 8.
@@ -222,7 +222,7 @@ fn finish_call(s: State, block: &mut [u8], inbox: &[u8]) -> State
     let ending = reconstruction::finish(s.settings.n, s.settings.t, layout, s.core, inbox, block);
     let outcome = ending.outcome;
     let next = advance(s, outcome);
-    with_named(next, ending.named)
+    next.with_named(ending.named)
 }
 
 // The call that is next.

@@ -7,36 +7,34 @@ mod calls;
 mod refusal;
 
 ghost use Rattle.std.specs.Prelude.{◌≡◌, length};
-ghost use Rattle.protocol.specs.Step.{start_of, after, step_of};
+ghost use Rattle.protocol.specs.Step.{answered, start_of, after, step_of};
 
 use calls::perform;
-use protocol::{Started, State, Stepped, initial, zero_state};
+use protocol::{Refused, State, initial, zero_state};
 use refusal::{start_refusal, step_refusal};
 use settings::Settings;
 
 // Begins the run with the number `run`; the block is neither read nor changed. Refused: the zero state.
-// Shut out: a start carried out that returns 1; a refused one whose state has a next call; run 0, whatever is given.
-pub fn start(s: Settings, own: usize, run: u16, block: &[u8]) -> Started
-    ensures { result ≡ start_of s own run (length block.now) }
+// Shut out: a start carried out that answers row 1; a refused one whose state has a next call; run 0, whatever is given.
+pub fn start(s: Settings, own: usize, run: u16, block: &[u8]) -> Result<State, Refused>
+    ensures { answered result ≡ start_of s own run (length block.now) }
 {
-    let number = start_refusal(s, own, block.len());
-    if number == 0 {
-        let state = initial(s, own, run, 1);
-        return Started { number: 0, state };
+    match start_refusal(s, own, block.len()) {
+        Ok(()) => Ok(initial(s, own, run, 1)),
+        Err(refusal) => Err(Refused {
+            refusal,
+            state: zero_state(),
+        }),
     }
-    let state = zero_state();
-    Started { number, state }
 }
 
 // One step. Refused: the state comes back as given, and no lent byte changes.
-// Shut out: a refused step that returns 0; 7 after the last call; must-fail/none_while_open; must-fail/always_refusing.
-pub fn step(s: State, block: &mut [u8], inbox: &[u8], outbox: &mut [u8]) -> Stepped
-    ensures { after result block.new outbox.new ≡ step_of s block.old inbox.now outbox.old }
+// Shut out: a refused step that answers Ok; row 7 after the last call; must-fail/none_while_open; must-fail/always_refusing.
+pub fn step(s: State, block: &mut [u8], inbox: &[u8], outbox: &mut [u8]) -> Result<State, Refused>
+    ensures { after (answered result) block.new outbox.new ≡ step_of s block.old inbox.now outbox.old }
 {
-    let number = step_refusal(s, block.len(), inbox.len(), outbox.len());
-    if number != 0 {
-        return Stepped { number, state: s };
+    match step_refusal(s, block.len(), inbox.len(), outbox.len()) {
+        Ok(()) => Ok(perform(s, block, inbox, outbox)),
+        Err(refusal) => Err(Refused { refusal, state: s }),
     }
-    let state = perform(s, block, inbox, outbox);
-    Stepped { number: 0, state }
 }

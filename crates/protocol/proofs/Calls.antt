@@ -1,8 +1,8 @@
--- Laws of start and step. The main ones: `start_0` (what a start carried out says), `step_refused` and `step_carried` (a step hands everything back,
+-- Laws of start and step. The main ones: `one_answered` (what is said of an answer determines it), `start_0` (what a start carried out says), `step_refused` and `step_carried` (a step hands everything back,
 -- or does its call), `of_send` to `of_outside` (what a call of each kind is), `step_0` and `0_step` (number 0 exactly where no row of the
 -- table names the step), `8_step` (a finished run), and `call_keeps` (a call keeps the settings, the own number and the run
 -- number, and counts on).
-use mathlib.Core.Path.{◌≡◌, refl, sym, ap, subst, ◌∙◌}
+use mathlib.Core.Path.{◌≡◌, refl, sym, ap, ap₂, subst, ◌∙◌}
 use mathlib.Core.Bool.{Bool, true, false, cond, not, ◌&&◌, ◌||◌}
 use mathlib.Core.List.{List}
 use mathlib.Core.Logic.{◌⊎◌, ⊎_elim}
@@ -13,22 +13,44 @@ use lib.Dec.{eqb}
 use lib.ListN.{length}
 use Rattle.lists.proofs.Tests.{either, and_left, and_right, and_both, and_no_left, and_no_right, and_tail, or_neither, or_left, or_right, cond_yes, cond_no}
 use Rattle.lists.proofs.Tests.{cond-zero, same_or_not}
+use Rattle.std.specs.Prelude.{Result, Ok, Err}
 use Rattle.settings.specs.declared.Settings.{Settings}
+use Rattle.settings.specs.declared.Refusal.{Refusal}
+use Rattle.settings.specs.declared.Refusal.TheVariants as row
+use Rattle.settings.specs.Number.{row_of}
 use Rattle.settings.specs.declared.Entry.TheVariants.{Start}
 use Rattle.settings.specs.Refusal.{outside, refusal_of, state_refusal}
 use Rattle.settings.specs.Valid.{Valid}
-use Rattle.settings.proofs.Laws.{starting_0, state_0, 0_state, yes_outside, outside_no, no_outside, starting_fits}
+use Rattle.settings.proofs.Laws.{starting_0, state_0, 0_state, yes_outside, outside_no, no_outside, starting_fits, one_answer, row_least}
 use Rattle.wire.specs.declared.Call.{Call}
 use Rattle.wire.specs.declared.Call.TheVariants.{Send, Receive, Compare, Collect, Tally, Hold, Settle, Core, Choose, Finish, Outside}
 use Rattle.wire.specs.Round.{call_kind}
 use Rattle.wire.specs.Length.{block_length, block_size, inbox_length, outbox_length}
 use Rattle.wire.proofs.Laws.{Fact, call_fact, block_size_is}
 use Rattle.protocol.specs.declared.State.{State}
-use Rattle.protocol.specs.declared.Started.{Started}
+use Rattle.protocol.specs.declared.Refused.{Refused}
 use Rattle.protocol.specs.State.{fresh_state, zero_state}
 use Rattle.protocol.specs.Calls.{carried, send_call, receive_call, compare_call, collect_call, tally_call, hold_call, settle_call, core_call, choose_call}
 use Rattle.protocol.specs.Calls.{finish_call, call_of}
-use Rattle.protocol.specs.Step.{start_refusal, start_of, lengths_fit, step_refusal, After, after, done, step_of, Ready}
+use Rattle.protocol.specs.Step.{Answer, answered, start_refusal, start_of, lengths_fit, step_refusal, After, after, done, step_of, Ready}
+
+-- ---- the answer, as the code gives it
+-- its view determines it
+row_in : Result Unit Refusal → Refusal
+row_in (Ok _) = row.State
+row_in (Err r) = r
+
+row_one : (r q : Refusal) → row_of r ≡ row_of q → r ≡ q
+unfolding row_in
+row_one r q e = ap row_in (one_answer (Err r) (Err q) e)
+
+pub one_answered : (a b : Result State Refused) → answered a ≡ answered b → a ≡ b
+one_answered (Ok s) (Ok u) e = ap (λ (x : Answer). Ok x.state) e
+one_answered (Ok s) (Err r) e = absurd (omega (arith, ap (λ (x : Answer). x.number) e, row_least r.refusal))
+one_answered (Err r) (Ok s) e = absurd (omega (arith, ap (λ (x : Answer). x.number) e, row_least r.refusal))
+one_answered (Err r) (Err q) e =
+    ap₂ (λ (f : Refusal) (s : State). Err (record { refusal = f; state = s })) (row_one r.refusal q.refusal (ap (λ (x : Answer). x.number) e))
+    (ap (λ (x : Answer). x.state) e)
 
 -- ---- start
 module _ (s : Settings) (own run b : ℕ) where
@@ -38,7 +60,7 @@ module _ (s : Settings) (own run b : ℕ) where
   start_number = go (eqb (start_refusal s own b) 0) refl
     where
       go : (x : Bool) → eqb (start_refusal s own b) 0 ≡ x
-          → (cond {A = Started} x (record { number = 0; state = fresh_state s own run }) (record { number = start_refusal s own b; state = zero_state })).number
+          → (cond {A = Answer} x (record { number = 0; state = fresh_state s own run }) (record { number = start_refusal s own b; state = zero_state })).number
           ≡ start_refusal s own b
       go true e = sym (eqb-true (start_refusal s own b) 0 e)
       go false e = refl
@@ -56,7 +78,7 @@ module _ (s : Settings) (own run b : ℕ) where
     pub start_state : (start_of s own run b).state ≡ fresh_state s own run
     unfolding start_of
     start_state =
-        ap (λ (x : Started). x.state)
+        ap (λ (x : Answer). x.state)
         (cond_yes (eqb (start_refusal s own b) 0) _ _ (eq-eqb (start_refusal s own b) 0 code))
 
 -- the state that start returns has the run number that is given, or 0
@@ -64,7 +86,7 @@ pub start_run : (P : ℕ → Type 0) (s : Settings) (own run b : ℕ) → P run 
 unfolding start_of
 start_run P s own run b h z = go (eqb (start_refusal s own b) 0)
   where
-    go : (x : Bool) → P (cond {A = Started} x (record { number = 0; state = fresh_state s own run })
+    go : (x : Bool) → P (cond {A = Answer} x (record { number = 0; state = fresh_state s own run })
         (record { number = start_refusal s own b; state = zero_state })).state.run
     go true = h
     go false = z

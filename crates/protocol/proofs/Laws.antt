@@ -1,4 +1,6 @@
 -- What a crate above may know of start, step and the calls besides the contracts and the definitions.
+--   The answer
+--     one_answered                 the number and the state that the definitions speak of determine the answer of the code
 --   Start
 --     start_number                 the number is that of the refusal
 --     start_0, start_state         number 0: settings and own number are valid, the block has its length, and the state is the fresh one
@@ -23,5 +25,5 @@ pub use Rattle.protocol.proofs.Calls.{start_number, start_0, start_state, start_
 pub use Rattle.protocol.proofs.Calls.{step_carried, step_0, 0_step, 8_step, 7_settings, 7_next, settings-valid, lengths_decide, fits-not-block}
 pub use Rattle.protocol.proofs.Calls.{fits-not-inbox, fits-outbox, of_send, of_receive, of_compare, of_collect, of_tally, of_hold, of_settle, of_core}
 pub use Rattle.protocol.proofs.Calls.{of_choose, of_finish, of_outside, Keeps, call_keeps, call_inside, call-block, block-call}
-pub use Rattle.protocol.proofs.Calls.{start_run, step_run}
+pub use Rattle.protocol.proofs.Calls.{start_run, step_run, one_answered}
 pub use Rattle.protocol.proofs.Late.{step_same, late_silent}

@@ -1,5 +1,7 @@
 -- Start and step: the number, the state and every lent byte, for all inputs (document 01, 'The house', 'Turned down'). Start takes a run number, any
 -- of 16 bits, which the state keeps (document 02, U11): no row of the table names it.
+--   Answer                 what start and step answer: a number, 0 or that of the row by which they refuse, and a state
+--   answered a             what the answer of the code says: 0 and the state, or the number of the row and the state that the refusal hands back
 --   start_refusal s own b  start tries rows 1 to 6, in order; b is the length of the lent block
 --   start_of s own run b   the answer; refused, the zero state. Start neither reads nor changes the block
 --   lengths_fit s b i o    the lent block, inbox and outbox are as long as the next call states
@@ -8,23 +10,31 @@
 --   done c                 that of a call carried out
 --   step_of s b i o        a step; refused, it hands the state back as given and changes no lent byte
 --   Ready s b i o          what no row of the table names: the state and the lent lengths of a step that is carried out
-use Rattle.std.specs.Prelude.{◌≡◌, Bool, cond, not, ◌&&◌, ◌||◌, List, ℕ, ◌+◌, ◌*◌, ◌≤◌, eqb, length}
+use Rattle.std.specs.Prelude.{◌≡◌, Bool, cond, not, ◌&&◌, ◌||◌, List, ℕ, ◌+◌, ◌*◌, ◌≤◌, eqb, length, Result, Ok, Err}
 use Rattle.settings.specs.declared.Settings.{Settings}
 use Rattle.settings.specs.declared.Entry.TheVariants.{Start}
 use Rattle.settings.specs.Refusal.{outside, refusal_of, state_refusal}
+use Rattle.settings.specs.Number.{row_of}
 use Rattle.settings.specs.Valid.{Valid}
 use Rattle.wire.specs.Round.{call_kind}
 use Rattle.wire.specs.Length.{block_length, inbox_length, outbox_length}
 use Rattle.protocol.specs.declared.State.{State}
-use Rattle.protocol.specs.declared.Started.{Started}
-use Rattle.protocol.specs.declared.Stepped.{Stepped}
+use Rattle.protocol.specs.declared.Refused.{Refused}
 use Rattle.protocol.specs.State.{zero_state, fresh_state}
 use Rattle.protocol.specs.Calls.{Carried, call_of}
+
+pub record Answer : Type 0 where
+  pub number : ℕ
+  pub state : State
+
+abbrev pub answered : Result State Refused → Answer
+answered (Ok s) = record { number = 0; state = s }
+answered (Err r) = record { number = row_of r.refusal; state = r.state }
 
 unfoldable pub start_refusal : Settings → (own b : ℕ) → ℕ
 start_refusal s own b = refusal_of Start s own (eqb b (block_length s.k s.t))
 
-unfoldable pub start_of : Settings → (own run b : ℕ) → Started
+unfoldable pub start_of : Settings → (own run b : ℕ) → Answer
 start_of s own run b =
     cond (eqb (start_refusal s own b) 0)
     (record { number = 0; state = fresh_state s own run })
@@ -44,11 +54,11 @@ step_refusal s b i o =
     0))
 
 pub record After : Type 0 where
-  pub answer : Stepped
+  pub answer : Answer
   pub block : List ℕ
   pub outbox : List ℕ
 
-abbrev pub after : Stepped → List ℕ → List ℕ → After
+abbrev pub after : Answer → List ℕ → List ℕ → After
 after a b o = record { answer = a; block = b; outbox = o }
 
 abbrev pub done : Carried → After

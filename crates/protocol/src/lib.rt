@@ -1,4 +1,4 @@
-// The state of a controller, written out and changed here alone, and what start and step answer (document 01, 'The house'; document 02, U1 and U11).
+// The state of a controller, written out and changed here alone, and what start and step answer where they refuse (document 01, 'The house'; document 02, U1 and U11).
 // The definitions of every call, of start and of step are in specs/.
 #![tactic(auto)]
 
@@ -6,7 +6,7 @@ ghost use Rattle.std.specs.Prelude.{◌≡◌};
 ghost use Rattle.protocol.specs.State.{initial, zero_state, with_call, with_matrix, with_votes, with_core, with_named};
 
 use reconstruction::Outcome;
-use settings::Settings;
+use settings::{Refusal, Settings};
 
 // The settings, the own number, the run number, the number of the next call, the outcome, the matrix of the vote with the bits whose count was low, the core, and
 // the marks of those whom the controller names. The block is lent beside it.
@@ -23,17 +23,10 @@ pub struct State {
     pub named: u16,
 }
 
-// What start answers: the refusal number, or 0, and the state.
+// What start and step answer where they refuse: why, and the state, which is the zero state of a start and the given one of a step.
 #[derive(Clone, Copy)]
-pub struct Started {
-    pub number: u8,
-    pub state: State,
-}
-
-// What a step answers: the refusal number, or 0, and the state.
-#[derive(Clone, Copy)]
-pub struct Stepped {
-    pub number: u8,
+pub struct Refused {
+    pub refusal: Refusal,
     pub state: State,
 }
 
@@ -69,66 +62,57 @@ pub fn zero_state() -> State
     initial(none, 0, 0, 0)
 }
 
-// The state with another next call and outcome, and nobody named, whoever was.
-// Shut out: the next call as it was; the weak bits for the matrix; another run number; must-fail/named_kept.
-pub fn with_call(s: State, next: usize, outcome: Outcome) -> State
-    ensures { result ≡ with_call s next outcome }
-{
-    let settings = s.settings;
-    let matrix = s.matrix;
-    let weak = s.weak;
-    let named: u16 = 0;
-    State {
-        settings,
-        own: s.own,
-        run: s.run,
-        next,
-        outcome,
-        matrix,
-        weak,
-        core: s.core,
-        named,
+impl State {
+    // The state with another next call and outcome, and nobody named, whoever was.
+    // Shut out: the next call as it was; the weak bits for the matrix; another run number; must-fail/named_kept.
+    pub fn with_call(self, next: usize, outcome: Outcome) -> State
+        ensures { result ≡ with_call self next outcome }
+    {
+        State {
+            next,
+            outcome,
+            named: 0,
+            ..self
+        }
     }
-}
 
-// With another matrix.
-// Shut out: a matrix of zeros; the weak bits changed in its place.
-pub fn with_matrix(s: State, matrix: [u16; 16]) -> State
-    ensures { result ≡ with_matrix s matrix }
-{
-    let mut r = s;
-    r.matrix = matrix;
-    r
-}
+    // With another matrix.
+    // Shut out: a matrix of zeros; the weak bits changed in its place.
+    pub fn with_matrix(self, matrix: [u16; 16]) -> State
+        ensures { result ≡ with_matrix self matrix }
+    {
+        State { matrix, ..self }
+    }
 
-// With another matrix, and the bits of it whose count was low.
-// Shut out: the matrix for the weak bits; the two the other way round.
-pub fn with_votes(s: State, matrix: [u16; 16], weak: [u16; 16]) -> State
-    ensures { result ≡ with_votes s matrix weak }
-{
-    let mut r = s;
-    r.matrix = matrix;
-    r.weak = weak;
-    r
-}
+    // With another matrix, and the bits of it whose count was low.
+    // Shut out: the matrix for the weak bits; the two the other way round.
+    pub fn with_votes(self, matrix: [u16; 16], weak: [u16; 16]) -> State
+        ensures { result ≡ with_votes self matrix weak }
+    {
+        State {
+            matrix,
+            weak,
+            ..self
+        }
+    }
 
-// With another matrix and core.
-// Shut out: no core; the weak bits changed in the place of the matrix.
-pub fn with_core(s: State, matrix: [u16; 16], core: u16) -> State
-    ensures { result ≡ with_core s matrix core }
-{
-    let mut r = s;
-    r.matrix = matrix;
-    r.core = core;
-    r
-}
+    // With another matrix and core.
+    // Shut out: no core; the weak bits changed in the place of the matrix.
+    pub fn with_core(self, matrix: [u16; 16], core: u16) -> State
+        ensures { result ≡ with_core self matrix core }
+    {
+        State {
+            matrix,
+            core,
+            ..self
+        }
+    }
 
-// With the marks of those named.
-// Shut out: nobody named; the core changed in the place of the marks.
-pub fn with_named(s: State, named: u16) -> State
-    ensures { result ≡ with_named s named }
-{
-    let mut r = s;
-    r.named = named;
-    r
+    // With the marks of those named.
+    // Shut out: nobody named; the core changed in the place of the marks.
+    pub fn with_named(self, named: u16) -> State
+        ensures { result ≡ with_named self named }
+    {
+        State { named, ..self }
+    }
 }

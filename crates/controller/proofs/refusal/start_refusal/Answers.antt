@@ -10,6 +10,6 @@ use Rattle.controller.proofs.refusal.start_refusal.Goals as goal
 pub returns : goal.returns
 returns c =
     let a = c.args in
-    c.refusal.ensures
+    c.check.ensures
     ∙ ap (λ (x : ℕ). refusal_of Start a.s a.own (eqb a.b x)) c.block_length.ensures
     ∙ start_by_size a.s a.own a.b
