@@ -230,23 +230,6 @@ call_fact t c =
     after t c l = omega arith
 
 -- ---- phases
-pub phase_matrix : (p : ℕ) → phase_of (3 * p + 1) ≡ p
-unfolding phase_of
-phase_matrix p = omega arith
-
-pub phase_seen : (p : ℕ) → phase_of (3 * p + 2) ≡ p
-unfolding phase_of
-phase_seen p = omega arith
-
 pub phase_king : (p : ℕ) → phase_of (3 * p + 3) ≡ p
 unfolding phase_of
 phase_king p = omega arith
-
--- ---- how many
-pub round_count_lem : (t : ℕ) → round_count t ≡ 3 * t + 8
-unfolding round_count
-round_count_lem t = refl
-
-pub call_count_lem : (t : ℕ) → call_count t ≡ 3 * t + 9
-unfolding call_count
-call_count_lem t = refl

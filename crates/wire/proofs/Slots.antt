@@ -12,14 +12,14 @@ use lib.Dec.{leb, eqb}
 use lib.ListN.{length, get_or, set, take, drop, replicate, length-append, length-drop, length-take, drop_of_length-le}
 use lib.ListN.{get_or-replicate, length-replicate}
 use lib.Seq.{length-take-le, take_all, take_at, drop_at, drop-drop, get_or-take}
-use Rattle.lists.proofs.Tests.{either, and_left, and_right, and_both, and_no_left, and_no_right, and_tail, cond_yes, cond_no, lt_or_le, same_or_not}
+use Rattle.lists.proofs.Tests.{either, and_left, and_right, and_both, and_no_left, and_no_right, and_tail, cond_yes, cond_no, lt_or_le, same_or_not, true≢false}
 use Rattle.lists.specs.Join.{part}
 use Rattle.lists.proofs.Parts.{all_take, all_drop, all_zeros, next_offset, drop-take, length_put}
 use Rattle.lists.proofs.Joins.{part_take, joined_none, joined_more, joined_ext, length-joined, part_joined, all_joined, joined-zeros, part_put_same}
 use Rattle.lists.proofs.Joins.{part_put_other}
 use Rattle.wire.specs.declared.slot.Layout.{Layout}
 use Rattle.wire.specs.Slot.{header, width, slot_of, holds, run_in, is_present, message_of, offset_of, Sent, silence, bytes, written, slots, to_all, put_slot}
-use Rattle.wire.specs.Slot.{relayed, silenced, copied, SameMessages, OtherRunAbsent, LateAbsent}
+use Rattle.wire.specs.Slot.{relayed, silenced, copied, SameMessages, OtherRunAbsent, LateAbsent, IsSlot, HasNone, IsMessage}
 
 -- ---- the layout
 pub width_pos : (layout : Layout) → 0 < width layout
@@ -45,6 +45,19 @@ holds-zero box layout j e = and_no_left (not (eqb j 0)) (leb (j * width layout) 
 pub holds_past : (box : List ℕ) (layout : Layout) (j : ℕ) → length box < j * width layout → holds box layout j ≡ false
 unfolding holds
 holds_past box layout j l = and_no_right (not (eqb j 0)) (leb (j * width layout) (length box)) (lt-leb (j * width layout) (length box) l)
+
+-- slot j ends past the box, or j is 0
+pub not_within : (box : List ℕ) (layout : Layout) (j : ℕ) → (1 ≤ j → length box < (j - 1) * width layout + width layout) → holds box layout j ≡ false
+not_within box layout j h =
+    ⊎_elim (λ (z : j < 1). holds-zero box layout j (omega arith))
+    (λ (s : 1 ≤ j). holds_past box layout j (omega (arith, h s, slot_end j (width layout) s)))
+    (lt_or_le j 1)
+
+pub holds_no : (box : List ℕ) (layout : Layout) (j : ℕ) → 1 ≤ j → holds box layout j ≡ false → length box < j * width layout
+holds_no box layout j some n =
+    ⊎_elim (λ (l : length box < j * width layout). l)
+    (λ (l : j * width layout ≤ length box). absurd (true≢false (sym (yes_holds box layout j some l) ∙ n)))
+    (lt_or_le (length box) (j * width layout))
 
 pub holds_yes : (box : List ℕ) (layout : Layout) (j : ℕ) → holds box layout j ≡ true → (1 ≤ j) × (j * width layout ≤ length box)
 unfolding holds
@@ -84,14 +97,6 @@ module _ (box : List ℕ) (layout : Layout) (j : ℕ) where
       ap length slot_take
       ∙ length-take-le (width layout) (drop ((j - 1) * width layout) box)
       (subst (λ (m : ℕ). width layout ≤ m) (sym (length-drop ((j - 1) * width layout) box)) (omega (arith, slot_end j (width layout) f.0, f.1)))
-
-  -- and is present as the part that is lent is
-  pub present_part : is_present layout (take ((j - 1) * width layout + width layout - (j - 1) * width layout) (drop ((j - 1) * width layout) box))
-      ≡ is_present layout (slot_of box layout j)
-  present_part =
-      let a = (j - 1) * width layout in
-      let l : a + width layout - a ≡ width layout = omega arith in
-      ap (λ (x : ℕ). is_present layout (take x (drop a box))) l ∙ ap (is_present layout) (sym slot_take)
 
 -- ---- what a slot carries
 -- 01 in front, and the run's number
@@ -140,61 +145,6 @@ module _ (box : List ℕ) (layout : Layout) (j : ℕ) where
   offset_held h e =
       cond_yes (holds box layout j && is_present layout (slot_of box layout j)) ((j - 1) * width layout + header) 0
       (and_both (holds box layout j) (is_present layout (slot_of box layout j)) h e)
-
--- a message starts at 0 only where there is none
-pub record Placed (box : List ℕ) (layout : Layout) (j : ℕ) : Type 0 where
-  pub some : 1 ≤ offset_of box layout j
-  pub within : offset_of box layout j + layout.length ≤ length box
-  pub here : message_of box layout j ≡ take layout.length (drop (offset_of box layout j) box)
-
-pub placed-or_none : (box : List ℕ) (layout : Layout) (j : ℕ) → Placed box layout j ⊎ ((offset_of box layout j ≡ 0) × (message_of box layout j ≡ []))
-unfolding width
-placed-or_none box layout j =
-    ⊎_elim
-    (λ (h : holds box layout j ≡ true).
-    ⊎_elim
-    (λ (p : is_present layout (slot_of box layout j) ≡ true).
-    let f = holds_yes box layout j h in
-    let e : offset_of box layout j ≡ (j - 1) * width layout + header = offset_held box layout j h p in
-    let inner : width layout - header ≡ layout.length = omega arith in
-    inl
-    (record {
-      some = omega (arith, e);
-      within = omega (arith, e, slot_end j (width layout) f.0, f.1);
-      here =
-          message_held box layout j h p ∙ ap (drop header) (slot_take box layout j)
-          ∙ drop-take header (width layout) (drop ((j - 1) * width layout) box)
-          ∙ ap (λ (x : ℕ). take x (drop header (drop ((j - 1) * width layout) box))) inner
-          ∙ ap (take layout.length) (drop-drop header ((j - 1) * width layout) box ∙ ap (λ (i : ℕ). drop i box) (sym e));
-    }))
-    (λ (p : is_present layout (slot_of box layout j) ≡ false). inr (offset_absent box layout j p, message_absent box layout j p))
-    (either (is_present layout (slot_of box layout j))))
-    (λ (h : holds box layout j ≡ false). inr (offset_none box layout j h, message_none box layout j h))
-    (either (holds box layout j))
-
--- with no offset there is no message
-pub no_message : (box : List ℕ) (layout : Layout) (j : ℕ) → offset_of box layout j ≡ 0 → message_of box layout j ≡ []
-no_message box layout j e =
-    ⊎_elim (λ (p : Placed box layout j). absurd (omega (arith, p.some))) (λ (n : (offset_of box layout j ≡ 0) × (message_of box layout j ≡ [])). n.1)
-    (placed-or_none box layout j)
-
-pub placed : (box : List ℕ) (layout : Layout) (j : ℕ) → (offset_of box layout j ≡ 0 → ⊥) → Placed box layout j
-placed box layout j n =
-    ⊎_elim (λ (p : Placed box layout j). p) (λ (e : (offset_of box layout j ≡ 0) × (message_of box layout j ≡ [])). absurd (n e.0))
-    (placed-or_none box layout j)
-
--- the part of the box that starts there, as long as the message, is the message
-pub message_at_lem : (box : List ℕ) (layout : Layout) (j : ℕ) → take (length (message_of box layout j)) (drop (offset_of box layout j) box) ≡ message_of box layout j
-message_at_lem box layout j =
-    ⊎_elim
-    (λ (p : Placed box layout j).
-    let l : length (message_of box layout j) ≡ layout.length
-    = ap length p.here ∙ length-take-le layout.length (drop (offset_of box layout j) box)
-    (omega (arith, p.within, length-drop (offset_of box layout j) box)) in
-    ap (λ (i : ℕ). take i (drop (offset_of box layout j) box)) l ∙ sym p.here)
-    (λ (e : (offset_of box layout j ≡ 0) × (message_of box layout j ≡ [])).
-    ap (λ (m : List ℕ). take (length m) (drop (offset_of box layout j) box)) e.1 ∙ sym e.1)
-    (placed-or_none box layout j)
 
 -- a message that is there has the round's length
 pub length-message : (box : List ℕ) (layout : Layout) (j : ℕ) → (length (message_of box layout j) ≡ 0 → ⊥) → length (message_of box layout j) ≡ layout.length
@@ -247,17 +197,6 @@ slots_none layout f = joined_none (λ i. written layout (f (i + 1)))
 pub slots_next : (layout : Layout) (f : ℕ → Sent) (j : ℕ) → slots layout f (j + 1) ≡ slots layout f j ++ written layout (f (j + 1))
 unfolding slots
 slots_next layout f j = joined_more (λ i. written layout (f (i + 1))) j
-
-pub slots_ext : (layout : Layout) (f g : ℕ → Sent) (n : ℕ) → ((j : ℕ) → 1 ≤ j → j ≤ n → f j ≡ g j) → slots layout f n ≡ slots layout g n
-unfolding slots
-slots_ext layout f g n h =
-    joined_ext (λ i. written layout (f (i + 1))) (λ i. written layout (g (i + 1))) n
-    (λ i l. ap (written layout) (h (i + 1) (omega arith) (omega arith)))
-
--- silence is an outbox of zeros
-pub silent_slots : (layout : Layout) (n : ℕ) → replicate (n * width layout) 0 ≡ slots layout (λ _. silence) n
-unfolding slots written
-silent_slots layout n = joined-zeros (width layout) n
 
 -- slot j of an outbox written slot by slot
 pub slot_of-slots : (layout : Layout) (f : ℕ → Sent) → ((j : ℕ) → Sized layout (f j)) → (n j : ℕ) → 1 ≤ j → j ≤ n
@@ -415,89 +354,89 @@ unfolding copied
 length-copied s d =
     length-append (take (length d) s) (drop (length s) d) ∙ omega (arith, length-take (length d) s, length-drop (length s) d)
 
--- ---- the tests that the code makes
-module _ (box : List ℕ) (layout : Layout) (j : ℕ) where
-  pub number-zero : j ≡ 0 → 0 ≡ offset_of box layout j
-  number-zero e = sym (offset_none box layout j (holds-zero box layout j e))
+-- ---- the answers of the code
+pub slot_is_in : (box : List ℕ) (layout : Layout) (j a e : ℕ) → 1 ≤ j → a ≡ (j - 1) * width layout → e ≡ a + width layout → e ≤ length box → IsSlot box layout j a e
+slot_is_in box layout j a e some at to room = record {
+  held = yes_holds box layout j some (omega (arith, slot_end j (width layout) some));
+  starts = at;
+  ends = to;
+  within = room;
+}
 
-  module _ (some : 1 ≤ j) where
-    pub too_short : length box < width layout → 0 ≡ offset_of box layout j
-    too_short l = sym (offset_none box layout j (holds_past box layout j (omega (arith, slot_end j (width layout) some))))
+pub none_held : (box : List ℕ) (layout : Layout) (j : ℕ) → holds box layout j ≡ false → HasNone box layout j
+none_held box layout j e = record { no_offset = offset_none box layout j e; no_message = message_none box layout j e }
 
-    pub past_end : length box / width layout < j → holds box layout j ≡ false
-    past_end l = holds_past box layout j ((div-lt_iff_lt-mul (width_pos layout)).0 l)
+module _ (box : List ℕ) (layout : Layout) (j a e : ℕ) (s : IsSlot box layout j a e) where
+  some : 1 ≤ j
+  some = (holds_yes box layout j s.held).0
 
-    module _ (held : j ≤ length box / width layout) where
-      within : j * width layout ≤ length box
-      within = (le-div_iff_mul-le (width_pos layout)).0 held
+  pub ends_at : e ≡ j * width layout
+  ends_at = omega (arith, s.starts, s.ends, slot_end j (width layout) some)
 
-      pub slot_fits : (j - 1) * width layout + width layout ≤ length box
-      slot_fits = omega (arith, within, slot_end j (width layout) some)
+  -- the part of the box that the slot is lent as
+  pub part_is : take (e - a) (drop a box) ≡ slot_of box layout j
+  part_is =
+      let l : e - a ≡ width layout = omega (arith, s.ends) in
+      ap₂ (λ (n i : ℕ). take n (drop i box)) l s.starts ∙ sym (slot_take box layout j)
 
-      -- what is told of the part that is lent is told of the slot
-      module _ (b : Bool)
-          (told : b ≡ is_present layout (take ((j - 1) * width layout + width layout - (j - 1) * width layout) (drop ((j - 1) * width layout) box))) where
-        pub absent_slot : b ≡ false → 0 ≡ offset_of box layout j
-        absent_slot n = sym (offset_absent box layout j (sym (present_part box layout j) ∙ sym told ∙ n))
+  pub length_part : length (take (e - a) (drop a box)) ≡ width layout
+  length_part = ap length part_is ∙ length_held box layout j s.held
 
-        pub present_slot : b ≡ true → (j - 1) * width layout + header ≡ offset_of box layout j
-        present_slot y = sym (offset_held box layout j (yes_holds box layout j some within) (sym (present_part box layout j) ∙ sym told ∙ y))
+  -- the box in which that part came back as v
+  put_back : (v : List ℕ) → take a box ++ (v ++ drop (e - a) (drop a box)) ≡ take ((j - 1) * width layout) box ++ (v ++ drop (j * width layout) box)
+  put_back v =
+      let u : a + (e - a) ≡ j * width layout = omega (arith, s.ends, ends_at) in
+      ap₂ (λ (x y : List ℕ). x ++ (v ++ y)) (ap (λ (i : ℕ). take i box) s.starts) (drop-drop (e - a) a box ∙ ap (λ (i : ℕ). drop i box) u)
 
-      -- slot j written with a message that was lent to it
-      pub put_part_lem : (m v : List ℕ) → length m ≡ layout.length → v ≡ written layout (bytes m)
-          → take ((j - 1) * width layout)
-          box ++ (v ++ drop ((j - 1) * width layout + width layout - (j - 1) * width layout) (drop ((j - 1) * width layout) box)) ≡ put_slot box layout j m
-      put_part_lem m v e is-v =
-          let u : (j - 1) * width layout + ((j - 1) * width layout + width layout - (j - 1) * width layout) ≡ j * width layout = omega
-          (arith, slot_end j (width layout) some) in
-          ap₂ (λ (x y : List ℕ). take ((j - 1) * width layout) box ++ (x ++ y)) is-v
-          (drop-drop ((j - 1) * width layout + width layout - (j - 1) * width layout) ((j - 1) * width layout) box ∙ ap (λ (i : ℕ). drop i box) u)
-          ∙ sym (put_held box layout j m some within e)
+  pub put_there : (m v : List ℕ) → length m ≡ layout.length → v ≡ written layout (bytes m)
+      → take a box ++ (v ++ drop (e - a) (drop a box)) ≡ put_slot box layout j m
+  put_there m v l is-v =
+      put_back v ∙ ap (λ (x : List ℕ). take ((j - 1) * width layout) box ++ (x ++ drop (j * width layout) box)) is-v
+      ∙ sym (put_held box layout j m some (holds_yes box layout j s.held).1 l)
 
--- a slot of one box copied to a slot of another, both of which were lent as parts
-pub relay_part : (box src v : List ℕ) (layout : Layout) (j i : ℕ) → 1 ≤ j → j ≤ length box / width layout → 1 ≤ i → i ≤ length src / width layout
-    → v ≡ copied (take ((i - 1) * width layout + width layout - (i - 1) * width layout) (drop ((i - 1) * width layout) src))
-    (take ((j - 1) * width layout + width layout - (j - 1) * width layout) (drop ((j - 1) * width layout) box))
-    → take ((j - 1) * width layout) box ++ (v ++ drop ((j - 1) * width layout + width layout - (j - 1) * width layout) (drop ((j - 1) * width layout) box))
-    ≡ relayed box layout j src i
-relay_part box src v layout j i some-j held-j some-i held-i is-v =
-    let w = width layout in
-    let a = (j - 1) * w in
-    let b = (i - 1) * w in
-    let to : a + w - a ≡ w = omega arith in
-    let from : b + w - b ≡ w = omega arith in
-    let room : a + w ≤ length box = slot_fits box layout j some-j held-j in
-    let held : b + w ≤ length src = slot_fits src layout i some-i held-i in
-    let u : a + (a + w - a) ≡ j * w = omega (arith, slot_end j w some-j) in
-    let l : length (take w (drop b src)) ≡ length (take w (drop a box)) =
-    length-take-le w (drop b src) (omega (arith, length-drop b src)) ∙ sym (length-take-le w (drop a box) (omega (arith, length-drop a box))) in
-    let e : v ≡ slot_of src layout i =
-    is-v ∙ ap₂ (λ (x y : ℕ). copied (take x (drop b src)) (take y (drop a box))) from to ∙ copied_all (take w (drop b src)) (take w (drop a box)) l
-    ∙ sym (slot_take src layout i) in
-    ap₂ (λ (x y : List ℕ). take a box ++ (x ++ y)) e (drop-drop (a + w - a) a box ∙ ap (λ (x : ℕ). drop x box) u)
-    ∙ sym (relay_held box layout j src i some-j (omega (arith, room, slot_end j w some-j)) some-i (omega (arith, held, slot_end i w some-i)))
+  pub none_present : is_present layout (take (e - a) (drop a box)) ≡ false → HasNone box layout j
+  none_present n =
+      let absent : is_present layout (slot_of box layout j) ≡ false = ap (is_present layout) (sym part_is) ∙ n in
+      record { no_offset = offset_absent box layout j absent; no_message = message_absent box layout j absent }
+
+  pub message_there : is_present layout (take (e - a) (drop a box)) ≡ true → IsMessage box layout j (a + header) e
+  unfolding width
+  message_there y =
+      let present : is_present layout (slot_of box layout j) ≡ true = ap (is_present layout) (sym part_is) ∙ y in
+      let rest : e - (a + header) ≡ e - a - header = omega arith in
+      record {
+        starts = ap (λ (x : ℕ). x + header) s.starts ∙ sym (offset_held box layout j s.held present);
+        ends = omega (arith, s.ends);
+        within = s.within;
+        reads =
+            ap (λ (n : ℕ). take n (drop (a + header) box)) rest ∙ ap (take (e - a - header)) (sym (drop-drop header a box))
+            ∙ sym (drop-take header (e - a) (drop a box)) ∙ ap (drop header) part_is ∙ sym (message_held box layout j s.held present);
+      }
+
+pub relay_there : (box src v : List ℕ) (layout : Layout) (j a e i b f : ℕ) → IsSlot box layout j a e → IsSlot src layout i b f → v ≡ take (f - b) (drop b src)
+    → take a box ++ (v ++ drop (e - a) (drop a box)) ≡ relayed box layout j src i
+relay_there box src v layout j a e i b f s t is-v =
+    let g = holds_yes box layout j s.held in
+    let h = holds_yes src layout i t.held in
+    put_back box layout j a e s v
+    ∙ ap (λ (x : List ℕ). take ((j - 1) * width layout) box ++ (x ++ drop (j * width layout) box)) (is-v ∙ part_is src layout i b f t)
+    ∙ sym (relay_held box layout j src i g.0 g.1 h.0 h.1)
 
 -- the header's bytes set in the front of a slot
 abbrev pub with_header : Layout → List ℕ → List ℕ
 with_header layout d = set (set (set d 0 1) 1 (layout.run % 256)) 2 (layout.run / 256)
 
--- a slot whose header is set and whose rest was lent and came back with the message copied to it
+-- a slot whose header is set and whose rest was lent and came back as the message
 pub put_head : (layout : Layout) (d m : List ℕ) → length d ≡ width layout → length m ≡ layout.length
-    → take header (with_header layout d)
-    ++ (copied m (take (length (with_header layout d) - header) (drop header (with_header layout d)))
-    ++ drop (length (with_header layout d) - header) (drop header (with_header layout d)))
-    ≡ written layout (bytes m)
+    → take header (with_header layout d) ++ (m ++ drop (length (with_header layout d) - header) (drop header (with_header layout d))) ≡ written layout (bytes m)
 unfolding width written
 put_head layout [] m h f = absurd (omega arith)
 put_head layout (x ∷ []) m h f = absurd (omega arith)
 put_head layout (x ∷ y ∷ []) m h f = absurd (omega arith)
 put_head layout (x ∷ y ∷ z ∷ d) m h f =
-    let e : length m ≡ length d = omega arith in
     let l : length (1 ∷ layout.run % 256 ∷ layout.run / 256 ∷ d) - header ≡ length d = omega arith in
     ap (λ (v : List ℕ). 1 ∷ layout.run % 256 ∷ layout.run / 256 ∷ v)
-    (ap (λ (i : ℕ). copied m (take i d) ++ drop i d) l
-    ∙ ap₂ ◌++◌ (ap (copied m) (take_all (length d) d (le_of_eq refl)) ∙ copied_all m d e) (drop_of_length-le d (le_of_eq refl))
-    ∙ append-nil m)
+    (ap (λ (i : ℕ). m ++ drop i d) l ∙ ap (λ (x : List ℕ). m ++ x) (drop_of_length-le d (le_of_eq refl)) ∙ append-nil m)
 
 -- while an outbox is written, its length stays
 pub length_rest : (layout : Layout) (f : ℕ → Sent) → ((i : ℕ) → Sized layout (f i)) → (o box : List ℕ) (j : ℕ) → j * width layout ≤ length o

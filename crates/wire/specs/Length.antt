@@ -1,9 +1,7 @@
 -- Message lengths, and the lengths of inboxes and outboxes (document 01, 'The house' and 'Rounds').
 --   block_length k t                     the bytes of a block, stripe after stripe
---   row_index r                          the place of a kind of round in the table, counted from 0; 8 for Outside
 --   row_length r n t k                   the length column of the table
 --   factors_of r                         the factors of k × (t + 1), k, n and 1 in that length
---   kinds, factors_at i                  the rows of the table in their order, and the factors in row i
 --   in_settings n t k                    rows 1 to 3 of the refusal table let the settings pass
 --   block_size n t k                     the length of a block; 0 outside the settings
 --   kind_length r n t k                  the length of a message of a kind of round; 0 outside the settings
@@ -12,7 +10,7 @@
 --   message_length n t k c               the length of a message of round c; 0 outside the settings and rounds
 --   box_length n t k c                   the length of an inbox or outbox of round c: n slots, whatever the run; 0 outside the settings and rounds
 --   inbox_length, outbox_length n t k c  the length that call c is lent; 0 for the first inbox and the last outbox
-use Rattle.std.specs.Prelude.{Bool, cond, List, [], ◌∷◌, ℕ, ◌+◌, ◌-◌, ◌*◌, eqb, get_or}
+use Rattle.std.specs.Prelude.{Bool, cond, List, [], ◌∷◌, ℕ, ◌+◌, ◌-◌, ◌*◌, eqb}
 use Rattle.settings.specs.Refusal.{lengths_refusal}
 use Rattle.wire.specs.declared.Round.{Round}
 use Rattle.wire.specs.declared.Round.TheVariants.{Block, Pieces, Marks, Matrix, Seen, King, Forward, Rebuild, Outside}
@@ -22,17 +20,6 @@ use Rattle.wire.specs.Slot.{layout_with, header}
 
 unfoldable pub block_length : ℕ → ℕ → ℕ
 block_length k t = k * (t + 1)
-
-abbrev pub row_index : Round → ℕ
-row_index Block = 0
-row_index Pieces = 1
-row_index Marks = 2
-row_index Matrix = 3
-row_index Seen = 4
-row_index King = 5
-row_index Forward = 6
-row_index Rebuild = 7
-row_index Outside = 8
 
 unfoldable pub row_length : Round → ℕ → ℕ → ℕ → ℕ
 row_length Block n t k = block_length k t
@@ -55,12 +42,6 @@ factors_of King = 0 ∷ 0 ∷ 2 ∷ 0 ∷ []
 factors_of Forward = 0 ∷ 1 ∷ 0 ∷ 0 ∷ []
 factors_of Rebuild = 0 ∷ 1 ∷ 0 ∷ 0 ∷ []
 factors_of Outside = []
-
-abbrev pub kinds : List Round
-kinds = Block ∷ Pieces ∷ Marks ∷ Matrix ∷ Seen ∷ King ∷ Forward ∷ Rebuild ∷ []
-
-unfoldable pub factors_at : ℕ → List ℕ
-factors_at i = factors_of (get_or kinds i Outside)
 
 unfoldable pub in_settings : ℕ → ℕ → ℕ → Bool
 in_settings n t k = eqb (lengths_refusal n t k) 0

@@ -1,7 +1,7 @@
 // The lengths of messages, blocks, inboxes and outboxes, by one table of factors (document 01, 'Rounds').
-ghost use Rattle.std.specs.Prelude.{◌≡◌, ◌<◌};
+ghost use Rattle.std.specs.Prelude.{◌≡◌, MatchOption};
 ghost use Rattle.settings.specs.Valid.{Coded};
-ghost use Rattle.wire.specs.Length.{row_index, factors_at, row_length, in_settings, block_size, kind_length, kind_layout, round_layout, message_length, inbox_length, outbox_length};
+ghost use Rattle.wire.specs.Length.{factors_of, row_length, in_settings, block_size, kind_length, kind_layout, round_layout, message_length, inbox_length, outbox_length};
 
 use crate::{Layout, Round, layout_with, round_kind, slot};
 
@@ -17,42 +17,22 @@ const FACTORS: [[usize; 4]; 8] = [
     [0, 1, 0, 0],
 ];
 
-// The row of the table for a kind of round; 8 where there is none.
-fn row_index(r: Round) -> usize
-    ensures { result ≡ row_index r }
+// The row of the table for a kind of round; None outside the rounds.
+fn factors(kind: Round) -> Option<&'static [usize; 4]>
+    ensures { MatchOption result (kind ≡ Round.Outside) (λ row. row.now ≡ factors_of kind) }
 {
-    match r {
-        Round::Block => 0,
-        Round::Pieces => 1,
-        Round::Marks => 2,
-        Round::Matrix => 3,
-        Round::Seen => 4,
-        Round::King => 5,
-        Round::Forward => 6,
-        Round::Rebuild => 7,
-        Round::Outside => 8,
-    }
-}
-
-// A row of the table of factors.
-fn factor_row(i: usize) -> [usize; 4]
-    requires { i < 8 }
-    ensures { result ≡ factors_at i }
-{
-    FACTORS[i]
+    FACTORS.get(kind as usize)
 }
 
 // The length of a message of a kind of round.
-fn row_length(r: Round, n: usize, t: usize, k: usize) -> usize
+fn row_length(kind: Round, n: usize, t: usize, k: usize) -> usize
     requires { Coded n t k }
-    ensures { result ≡ row_length r n t k }
+    ensures { result ≡ row_length kind n t k }
 {
-    let i = row_index(r);
-    if 8 <= i {
-        return 0;
+    match factors(kind) {
+        Some(row) => row[0] * (k * (t + 1)) + row[1] * k + row[2] * n + row[3],
+        None => 0,
     }
-    let row = factor_row(i);
-    row[0] * (k * (t + 1)) + row[1] * k + row[2] * n + row[3]
 }
 
 // Whether rows 1 to 3 of the refusal table let the settings pass.
@@ -62,25 +42,24 @@ fn in_settings(n: usize, t: usize, k: usize) -> bool
     settings::lengths_refusal(n, t, k) == 0
 }
 
-// The length of a block; 0 outside the settings.
-// Shut out: k × (t + 2); k outside the settings.
-pub fn block_length(n: usize, t: usize, k: usize) -> usize
-    ensures { result ≡ block_size n t k }
-{
-    if in_settings(n, t, k) {
-        return k * (t + 1);
-    }
-    0
-}
-
 // The length of a message of a kind of round; 0 outside the settings.
 fn kind_length(kind: Round, n: usize, t: usize, k: usize) -> usize
     ensures { result ≡ kind_length kind n t k }
 {
     if in_settings(n, t, k) {
-        return row_length(kind, n, t, k);
+        row_length(kind, n, t, k)
+    } else {
+        0
     }
-    0
+}
+
+// The length of a block; 0 outside the settings.
+// Shut out: k × (t + 2); k outside the settings.
+#[tactic(auto, unfolding(crate::specs::Length::block_size, crate::specs::Length::kind_length, crate::specs::Length::row_length))]
+pub fn block_length(n: usize, t: usize, k: usize) -> usize
+    ensures { result ≡ block_size n t k }
+{
+    kind_length(Round::Block, n, t, k)
 }
 
 // The layout of the slots of a kind of round in the run `run`; messages of length 0 outside the settings.
@@ -114,9 +93,10 @@ pub fn outbox_length(n: usize, t: usize, k: usize, c: usize) -> usize
 {
     let len = message_length(n, t, k, c);
     if len == 0 {
-        return 0;
+        0
+    } else {
+        n * (slot::HEADER + len)
     }
-    n * (slot::HEADER + len)
 }
 
 // The length of the inbox that call c is lent: n slots; 0 for the first call and outside the settings and calls.
@@ -124,8 +104,5 @@ pub fn outbox_length(n: usize, t: usize, k: usize, c: usize) -> usize
 pub fn inbox_length(n: usize, t: usize, k: usize, c: usize) -> usize
     ensures { result ≡ inbox_length n t k c }
 {
-    if c == 0 {
-        return outbox_length(n, t, k, 0);
-    }
-    outbox_length(n, t, k, c - 1)
+    outbox_length(n, t, k, c.saturating_sub(1))
 }

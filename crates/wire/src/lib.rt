@@ -5,7 +5,7 @@
 mod length;
 mod slot;
 
-ghost use Rattle.std.specs.Prelude.{◌≡◌, cond};
+ghost use Rattle.std.specs.Prelude.{◌≡◌, ◌+◌, ◌*◌, ◌≤◌, cond};
 ghost use Rattle.settings.specs.Refusal.{outside};
 ghost use Rattle.wire.specs.Round.{round_count, call_count, phase_round, last_round, round_kind, phase_call, last_call, call_kind, phase_of};
 
@@ -46,145 +46,118 @@ pub enum Call {
     Outside,
 }
 
+// 3t and some more; 0 for a t outside 1 .. 5.
+fn steps(t: usize, more: usize) -> usize
+    requires { more ≤ 9 }
+    ensures { result ≡ cond (outside 1 5 t) 0 (3 * t + more) }
+{
+    match t {
+        1..=5 => 3 * t + more,
+        _ => 0,
+    }
+}
+
 // How many rounds a run has; 0 for a t outside 1 .. 5.
 // Shut out: 3t + 9; an answer for t 6.
+#[tactic(auto, unfolding(crate::specs::Round::round_count))]
 pub fn rounds(t: usize) -> usize
     ensures { result ≡ cond (outside 1 5 t) 0 (round_count t) }
 {
-    if t < 1 {
-        return 0;
-    }
-    if 5 < t {
-        return 0;
-    }
-    3 * t + 8
+    steps(t, 8)
 }
 
 // How many calls a run has; 0 for a t outside 1 .. 5.
 // Shut out: 3t + 8; no answer for t 1.
+#[tactic(auto, unfolding(crate::specs::Round::call_count))]
 pub fn calls(t: usize) -> usize
     ensures { result ≡ cond (outside 1 5 t) 0 (call_count t) }
 {
-    if t < 1 {
-        return 0;
-    }
-    if 5 < t {
-        return 0;
-    }
-    3 * t + 9
+    steps(t, 9)
 }
 
 // The kind of round c.
 // Shut out: the vote a round too short; the remainder by 2.
+#[tactic(auto, unfolding(crate::specs::Round::round_kind))]
 pub fn round_kind(t: usize, c: usize) -> Round
     ensures { result ≡ round_kind t c }
 {
-    if c == 0 {
-        return Round::Outside;
+    match c {
+        0 => Round::Outside,
+        1 => Round::Block,
+        2 => Round::Pieces,
+        3 => Round::Marks,
+        _ if (c - 4) / 3 <= t => phase_round(c % 3),
+        _ => last_round(c - 3 * t),
     }
-    if c == 1 {
-        return Round::Block;
-    }
-    if c == 2 {
-        return Round::Pieces;
-    }
-    if c == 3 {
-        return Round::Marks;
-    }
-    if (c - 4) / 3 <= t {
-        return phase_round(c % 3);
-    }
-    last_round(c - 3 * t)
 }
 
 // The kind of a round of the vote, by its remainder.
 fn phase_round(m: usize) -> Round
     ensures { result ≡ phase_round m }
 {
-    if m == 1 {
-        return Round::Matrix;
+    match m {
+        1 => Round::Matrix,
+        2 => Round::Seen,
+        _ => Round::King,
     }
-    if m == 2 {
-        return Round::Seen;
-    }
-    Round::King
 }
 
 // The kind of a round after the vote, without its 3t.
 fn last_round(m: usize) -> Round
     ensures { result ≡ last_round m }
 {
-    if m == 7 {
-        return Round::Forward;
+    match m {
+        7 => Round::Forward,
+        8 => Round::Rebuild,
+        _ => Round::Outside,
     }
-    if m == 8 {
-        return Round::Rebuild;
-    }
-    Round::Outside
 }
 
 // The kind of call c.
 // Shut out: call 5 taken for call 4; 2t for 3t after the vote.
+#[tactic(auto, unfolding(crate::specs::Round::call_kind))]
 pub fn call_kind(t: usize, c: usize) -> Call
     ensures { result ≡ call_kind t c }
 {
-    if c == 0 {
-        return Call::Outside;
+    match c {
+        0 => Call::Outside,
+        1 => Call::Send,
+        2 => Call::Receive,
+        3 => Call::Compare,
+        4 => Call::Collect,
+        _ if (c - 4) / 3 <= t => phase_call(c % 3),
+        _ => last_call(c - 3 * t),
     }
-    if c == 1 {
-        return Call::Send;
-    }
-    if c == 2 {
-        return Call::Receive;
-    }
-    if c == 3 {
-        return Call::Compare;
-    }
-    if c == 4 {
-        return Call::Collect;
-    }
-    if (c - 4) / 3 <= t {
-        return phase_call(c % 3);
-    }
-    last_call(c - 3 * t)
 }
 
 // The kind of a call of the vote, by its remainder.
 fn phase_call(m: usize) -> Call
     ensures { result ≡ phase_call m }
 {
-    if m == 2 {
-        return Call::Tally;
+    match m {
+        2 => Call::Tally,
+        0 => Call::Hold,
+        _ => Call::Settle,
     }
-    if m == 0 {
-        return Call::Hold;
-    }
-    Call::Settle
 }
 
 // The kind of a call after the vote, without its 3t.
 fn last_call(m: usize) -> Call
     ensures { result ≡ last_call m }
 {
-    if m == 7 {
-        return Call::Core;
+    match m {
+        7 => Call::Core,
+        8 => Call::Choose,
+        9 => Call::Finish,
+        _ => Call::Outside,
     }
-    if m == 8 {
-        return Call::Choose;
-    }
-    if m == 9 {
-        return Call::Finish;
-    }
-    Call::Outside
 }
 
 // The phase of round c, which is the number of its king; 0 before the vote.
 // Shut out: half of c - 1; phase 1 at 0.
+#[tactic(auto, unfolding(crate::specs::Round::phase_of))]
 pub fn phase(c: usize) -> usize
     ensures { result ≡ phase_of c }
 {
-    if c == 0 {
-        return 0;
-    }
-    (c - 1) / 3
+    c.saturating_sub(1) / 3
 }

@@ -1,9 +1,10 @@
 // The slots of inboxes and outboxes (document 01, 'The house'; document 02, U11): what stands in a slot beside its message is known here alone. Every
 // function is total: no number or length makes a sum or a product overflow.
-ghost use Rattle.std.specs.Prelude.{◌≡◌, ◌*◌, ◌≤◌, eqb, length, replicate};
-ghost use Rattle.wire.specs.Slot.{layout_with, header, width, is_present, message_of, offset_of, bytes, written, slots, to_all, put_slot, relayed, copied};
+ghost use Rattle.std.specs.Prelude.{◌≡◌, ◌*◌, ◌≤◌, false, eqb, length, replicate, MatchOption};
+ghost use Rattle.wire.specs.Slot.{layout_with, header, width, holds, is_present, message_of, offset_of, bytes, written, slots, to_all, put_slot, relayed, copied, IsSlot, HasNone, IsMessage};
 
 use lists::{high, low, word};
+use std::ops::Range;
 
 // What a slot of the run with the number `run` is: a header, which carries that number, and then a message of `length` bytes.
 #[derive(Clone, Copy)]
@@ -39,31 +40,40 @@ fn is_present(slot: &[u8], layout: Layout) -> bool
     word(slot[1], slot[2]) == layout.run
 }
 
-// Where in an inbox the message of slot j starts; 0 where there is none: the slot is absent or of another run, j is 0, or the inbox does not hold
-// the slot whole.
+// Where in a box slot j is; None where the box does not hold it whole.
+#[tactic(auto, unfolding(crate::specs::Slot::width))]
+fn slot_in(slots: &[u8], layout: Layout, j: usize) -> Option<Range<usize>>
+    ensures { MatchOption result (holds slots.now layout j ≡ false) (λ s. IsSlot slots.now layout j s.start s.end) }
+{
+    let w = HEADER.checked_add(layout.length)?;
+    let start = j.checked_sub(1)?.checked_mul(w)?;
+    let end = start.checked_add(w)?;
+    if slots.len() < end {
+        return None;
+    }
+    Some(start..end)
+}
+
+// Where in an inbox the message of slot j is; None where there is none: the slot is absent or of another run, or the inbox does not hold it whole.
+fn message_in(inbox: &[u8], layout: Layout, j: usize) -> Option<Range<usize>>
+    ensures { MatchOption result (HasNone inbox.now layout j) (λ m. IsMessage inbox.now layout j m.start m.end) }
+{
+    let Range { start, end } = slot_in(inbox, layout, j)?;
+    if !is_present(&inbox[start..end], layout) {
+        return None;
+    }
+    Some(start + HEADER..end)
+}
+
+// Where in an inbox the message of slot j starts; 0 where there is none, as the C interface has it.
 // Shut out: must-fail/absent_as_present; must-fail/slot_off_by_one.
 pub fn offset(inbox: &[u8], layout: Layout, j: usize) -> usize
     ensures { result ≡ offset_of inbox.now layout j }
 {
-    if j == 0 {
-        return 0;
+    match message_in(inbox, layout, j) {
+        Some(m) => m.start,
+        None => 0,
     }
-    if inbox.len() < HEADER {
-        return 0;
-    }
-    if inbox.len() - HEADER < layout.length {
-        return 0;
-    }
-    let w = HEADER + layout.length;
-    if inbox.len() / w < j {
-        return 0;
-    }
-    let start = (j - 1) * w;
-    let end = start + w;
-    if !is_present(&inbox[start..end], layout) {
-        return 0;
-    }
-    start + HEADER
 }
 
 // The message of slot j of an inbox, as that part of the inbox; the empty part where there is none.
@@ -71,11 +81,10 @@ pub fn offset(inbox: &[u8], layout: Layout, j: usize) -> usize
 pub fn message(inbox: &[u8], layout: Layout, j: usize) -> &[u8]
     ensures { result.now ≡ message_of inbox.now layout j }
 {
-    let start = offset(inbox, layout, j);
-    if start == 0 {
-        return &inbox[..0];
+    match message_in(inbox, layout, j) {
+        Some(m) => &inbox[m],
+        None => &[],
     }
-    &inbox[start..start + layout.length]
 }
 
 // Silence: every byte 00.
@@ -83,9 +92,7 @@ pub fn message(inbox: &[u8], layout: Layout, j: usize) -> &[u8]
 pub fn silence(outbox: &mut [u8])
     ensures { outbox.new ≡ replicate (length outbox.old) 0 }
 {
-    for i in 0..outbox.len() {
-        outbox[i] = 0;
-    }
+    outbox.fill(0);
 }
 
 // Copies the bytes of src to the front of dst, as far as both reach; the rest of dst stays.
@@ -93,17 +100,12 @@ pub fn silence(outbox: &mut [u8])
 pub fn copy(dst: &mut [u8], src: &[u8])
     ensures { dst.new ≡ copied src.now dst.old }
 {
-    let mut i: usize = 0;
-    while i < src.len() {
-        if i >= dst.len() {
-            return;
-        }
-        dst[i] = src[i];
-        i += 1;
-    }
+    let n = dst.len().min(src.len());
+    dst[..n].copy_from_slice(&src[..n]);
 }
 
 // A slot with a message: 01, the run number, low byte first, and the message.
+#[tactic(auto, unfolding(crate::specs::Slot::width))]
 fn put_slot(slot: &mut [u8], layout: Layout, m: &[u8])
     requires { (length slot.old ≡ width layout) × (length m.now ≡ layout.length) }
     ensures { slot.new ≡ written layout (bytes m.now) }
@@ -111,7 +113,7 @@ fn put_slot(slot: &mut [u8], layout: Layout, m: &[u8])
     slot[0] = PRESENT;
     slot[1] = low(layout.run);
     slot[2] = high(layout.run);
-    copy(&mut slot[HEADER..], m);
+    slot[HEADER..].copy_from_slice(m);
 }
 
 // A message for one: writes slot j of an outbox. Nothing is written where the outbox does not hold the slot whole or m is not of the layout's
@@ -120,19 +122,12 @@ fn put_slot(slot: &mut [u8], layout: Layout, m: &[u8])
 pub fn send_one(outbox: &mut [u8], layout: Layout, j: usize, m: &[u8])
     ensures { outbox.new ≡ put_slot outbox.old layout j m.now }
 {
-    if j == 0 {
-        return;
-    }
     if m.len() != layout.length {
         return;
     }
-    let w = HEADER + layout.length;
-    if outbox.len() / w < j {
-        return;
+    if let Some(slot) = slot_in(outbox, layout, j) {
+        put_slot(&mut outbox[slot], layout, m);
     }
-    let a = (j - 1) * w;
-    let e = a + w;
-    put_slot(&mut outbox[a..e], layout, m);
 }
 
 // A slot passed on byte for byte: slot j of `dst` becomes slot i of `src`. Nothing is written where either box does not hold its slot whole.
@@ -140,30 +135,13 @@ pub fn send_one(outbox: &mut [u8], layout: Layout, j: usize, m: &[u8])
 pub fn relay(dst: &mut [u8], layout: Layout, j: usize, src: &[u8], i: usize)
     ensures { dst.new ≡ relayed dst.old layout j src.now i }
 {
-    if j == 0 {
+    let Some(to) = slot_in(dst, layout, j) else {
         return;
-    }
-    if i == 0 {
+    };
+    let Some(from) = slot_in(src, layout, i) else {
         return;
-    }
-    if src.len() < HEADER {
-        return;
-    }
-    if src.len() - HEADER < layout.length {
-        return;
-    }
-    let w = HEADER + layout.length;
-    if dst.len() / w < j {
-        return;
-    }
-    if src.len() / w < i {
-        return;
-    }
-    let a = (j - 1) * w;
-    let e = a + w;
-    let b = (i - 1) * w;
-    let f = b + w;
-    copy(&mut dst[a..e], &src[b..f]);
+    };
+    dst[to].copy_from_slice(&src[from]);
 }
 
 // Whether a box is exactly as long as n slots.
@@ -171,20 +149,10 @@ pub fn relay(dst: &mut [u8], layout: Layout, j: usize, src: &[u8], i: usize)
 pub fn holds_exactly(slots: &[u8], n: usize, layout: Layout) -> bool
     ensures { result ≡ eqb (length slots.now) (n * width layout) }
 {
-    if n == 0 {
-        return slots.len() == 0;
+    match slot_in(slots, layout, n) {
+        Some(last) => last.end == slots.len(),
+        None => n == 0 && slots.is_empty(),
     }
-    if slots.len() < HEADER {
-        return false;
-    }
-    if slots.len() - HEADER < layout.length {
-        return false;
-    }
-    let w = HEADER + layout.length;
-    if slots.len() % w != 0 {
-        return false;
-    }
-    slots.len() / w == n
 }
 
 // One message to all: writes the n slots of an outbox that is exactly as long. Nothing is written to any other, nor where m is not of the
@@ -206,9 +174,7 @@ fn fill_slots(outbox: &mut [u8], layout: Layout, n: usize, m: &[u8])
     requires { (length outbox.old ≡ n * width layout) × (length m.now ≡ layout.length) }
     ensures { outbox.new ≡ slots layout (λ _. bytes m.now) n }
 {
-    let mut j: usize = 0;
-    while j < n {
+    for j in 0..n {
         send_one(outbox, layout, j + 1, m);
-        j += 1;
     }
 }
