@@ -1,16 +1,10 @@
 -- The table of factors: they give the length that document 01's table of rounds has (`row_value`), which is at most 768 (`row_le`).
-use mathlib.Core.Path.{◌≡◌, refl, sym, ap, subst}
-use mathlib.Core.Bool.{Bool}
+use mathlib.Core.Path.{◌≡◌, sym, ap}
 use mathlib.Core.List.{List}
-use mathlib.Core.Logic.{⊎_elim}
-use Prim.Native.Nat.{ℕ, ◌+◌, ◌*◌, ◌<◌, ◌≤◌}
+use Prim.Native.Nat.{ℕ, ◌+◌, ◌*◌, ◌≤◌}
 use native.Mathlib.Nat.{mul-le-mul}
 use native.Mathlib.Omega.{arith}
-use lib.Dec.{T, leb, leb→le}
-use lib.ListN.{length, get_or, get_or-eq_default}
-use Rattle.lists.proofs.Tests.{lt_or_le}
-use Rattle.lists.proofs.Table.{every_at, at}
-use Rattle.settings.specs.Valid.{Coded}
+use lib.ListN.{get_or}
 use Rattle.wire.specs.declared.Round.{Round}
 use Rattle.wire.specs.declared.Round.TheVariants.{Block, Pieces, Marks, Matrix, Seen, King, Forward, Rebuild, Outside}
 use Rattle.wire.specs.Length.{block_length, row_length, factors_of}

@@ -8,6 +8,7 @@ use native.Mathlib.Omega.{arith}
 use borrow.Author.Tests.{eq-eqb, ne_eqb, eqb-true}
 use lib.Dec.{eqb}
 use Rattle.lists.proofs.Tests.{either, cond_yes, cond_no, lt_or_le, same_or_not}
+use Rattle.settings.specs.Refusal.{lengths_refusal}
 use Rattle.settings.specs.Valid.{Coded}
 use Rattle.settings.proofs.Laws.{lengths_0, 0_lengths}
 use Rattle.wire.specs.declared.Round.{Round}
@@ -32,6 +33,11 @@ settings_in_lem n t k e = lengths_0 n t k (eqb-true _ 0 e)
 pub kind_length_is : {n t k : ℕ} → Coded n t k → (r : Round) → kind_length r n t k ≡ row_length r n t k
 unfolding kind_length
 kind_length_is {n} {t} {k} v r = cond_yes (in_settings n t k) (row_length r n t k) 0 (in_settings_lem v)
+
+-- settings that are refused have no lengths
+pub kind_length_none : (n t k : ℕ) (r : Round) → (lengths_refusal n t k ≡ 0 → ⊥) → kind_length r n t k ≡ 0
+unfolding kind_length in_settings
+kind_length_none n t k r h = cond_no (in_settings n t k) (row_length r n t k) 0 (ne_eqb (lengths_refusal n t k) 0 h)
 
 pub message_length_is : {n t k : ℕ} → Coded n t k → (c : ℕ) → message_length n t k c ≡ row_length (round_kind t c) n t k
 message_length_is {n} {t} {k} v c = kind_length_is v (round_kind t c)

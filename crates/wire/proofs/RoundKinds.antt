@@ -10,7 +10,7 @@ use lib.Dec.{leb, eqb}
 use Rattle.wire.specs.declared.Round.TheVariants.{Block, Pieces, Marks, Matrix, Seen, King, Forward, Rebuild, Outside}
 use Rattle.wire.specs.declared.Call.{Call}
 use Rattle.wire.specs.declared.Call.TheVariants.{Send, Receive, Compare, Collect, Tally, Hold, Settle, Core, Choose, Finish, Outside as NoCall}
-use Rattle.wire.specs.Round.{round_count, call_count, phase_round, last_round, round_kind, phase_call, last_call, call_kind, phase_of}
+use Rattle.wire.specs.Round.{phase_round, last_round, round_kind, phase_call, last_call, call_kind, phase_of}
 use Rattle.wire.proofs.Numbers.{from_four}
 
 -- ---- kinds of rounds

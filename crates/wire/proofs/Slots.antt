@@ -3,9 +3,9 @@
 use mathlib.Core.Path.{◌≡◌, refl, sym, ap, ap₂, subst, ◌∙◌}
 use mathlib.Core.Bool.{Bool, cond, true, false, not, ◌&&◌}
 use mathlib.Core.List.{List, [], ◌∷◌, ◌++◌, append-nil}
-use mathlib.Core.Logic.{◌⊎◌, inl, inr, ⊎_elim}
+use mathlib.Core.Logic.{⊎_elim}
 use Prim.Native.Nat.{ℕ, zero, suc, ◌+◌, ◌-◌, ◌*◌, ◌/◌, ◌%◌, ◌<◌, ◌≤◌, min}
-use native.Mathlib.Nat.{zero-mul, mul-le-mul_right, le-div_iff_mul-le, div-lt_iff_lt-mul, le_of_eq}
+use native.Mathlib.Nat.{zero-mul, mul-le-mul_right, le_of_eq}
 use native.Mathlib.Omega.{arith}
 use borrow.Author.Tests.{eq-eqb, ne_eqb, le-leb, lt-leb, eqb-false, leb-true}
 use lib.Dec.{leb, eqb}
@@ -15,7 +15,7 @@ use lib.Seq.{length-take-le, take_all, take_at, drop_at, drop-drop, get_or-take}
 use Rattle.lists.proofs.Tests.{either, and_left, and_right, and_both, and_no_left, and_no_right, and_tail, cond_yes, cond_no, lt_or_le, same_or_not, true≢false}
 use Rattle.lists.specs.Join.{part}
 use Rattle.lists.proofs.Parts.{all_take, all_drop, all_zeros, next_offset, drop-take, length_put}
-use Rattle.lists.proofs.Joins.{part_take, joined_none, joined_more, joined_ext, length-joined, part_joined, all_joined, joined-zeros, part_put_same}
+use Rattle.lists.proofs.Joins.{part_take, joined_none, joined_more, length-joined, part_joined, all_joined, part_put_same}
 use Rattle.lists.proofs.Joins.{part_put_other}
 use Rattle.wire.specs.declared.slot.Layout.{Layout}
 use Rattle.wire.specs.Slot.{header, width, slot_of, holds, run_in, is_present, message_of, offset_of, Sent, silence, bytes, written, slots, to_all, put_slot}
@@ -114,9 +114,11 @@ unfolding is_present
 other_present layout slot n = and_no_right (eqb (get_or slot 0 0) 1) (eqb (run_in slot) layout.run) (ne_eqb (run_in slot) layout.run n)
 
 -- behind 01 only the run's number tells
-pub run_present : (layout : Layout) (slot : List ℕ) → get_or slot 0 0 ≡ 1 → is_present layout slot ≡ eqb (run_in slot) layout.run
-unfolding is_present
-run_present layout slot e = and_tail (eqb (get_or slot 0 0) 1) (eqb (run_in slot) layout.run) (eq-eqb (get_or slot 0 0) 1 e)
+pub run_present : (layout : Layout) (slot : List ℕ) (r : ℕ) → get_or slot 0 0 ≡ 1 → r ≡ get_or slot 1 0 + 256 * get_or slot 2 0
+    → eqb r layout.run ≡ is_present layout slot
+unfolding is_present run_in
+run_present layout slot r e is-r =
+    ap (λ (x : ℕ). eqb x layout.run) is-r ∙ sym (and_tail (eqb (get_or slot 0 0) 1) (eqb (run_in slot) layout.run) (eq-eqb (get_or slot 0 0) 1 e))
 
 -- a number in two bytes, low byte first, is read back
 run_bytes : (run : ℕ) → run % 256 + 256 * (run / 256) ≡ run

@@ -1,4 +1,5 @@
-// The lengths of messages, blocks, inboxes and outboxes, by one table of factors (document 01, 'Rounds').
+// The lengths of messages, blocks, inboxes and outboxes, by one table of factors (document 01, 'Rounds'). n, t and k stay parameters: the clauses of
+// `block_length` and the others name them.
 ghost use Rattle.std.specs.Prelude.{◌≡◌, MatchOption};
 ghost use Rattle.settings.specs.Valid.{Coded};
 ghost use Rattle.wire.specs.Length.{factors_of, row_length, in_settings, block_size, kind_length, kind_layout, round_layout, message_length, inbox_length, outbox_length};
@@ -35,21 +36,13 @@ fn row_length(kind: Round, n: usize, t: usize, k: usize) -> usize
     }
 }
 
-// Whether rows 1 to 3 of the refusal table let the settings pass.
-fn in_settings(n: usize, t: usize, k: usize) -> bool
-    ensures { result ≡ in_settings n t k }
-{
-    settings::lengths_refusal(n, t, k) == 0
-}
-
 // The length of a message of a kind of round; 0 outside the settings.
 fn kind_length(kind: Round, n: usize, t: usize, k: usize) -> usize
     ensures { result ≡ kind_length kind n t k }
 {
-    if in_settings(n, t, k) {
-        row_length(kind, n, t, k)
-    } else {
-        0
+    match settings::lengths_refusal(n, t, k) {
+        Ok(()) => row_length(kind, n, t, k),
+        Err(_) => 0,
     }
 }
 

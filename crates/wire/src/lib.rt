@@ -16,7 +16,7 @@ pub use slot::{
     Layout, copy, holds_exactly, layout_with, message, offset, relay, send_all, send_one, silence,
 };
 
-// The kinds of rounds, a row of document 01's table each. Outside: no round of the run.
+// The kinds of rounds, a row of document 01's table each. Outside: no round of the run; a case and no None, since `round_kind` of specs/ answers it.
 #[derive(Clone, Copy)]
 pub enum Round {
     Block,
@@ -30,7 +30,7 @@ pub enum Round {
     Outside,
 }
 
-// The kinds of calls. Call c reads round c - 1 and fills round c. Outside: no call of the run.
+// The kinds of calls. Call c reads round c - 1 and fills round c. Outside: no call of the run; a case and no None, since `call_kind` of specs/ answers it.
 #[derive(Clone, Copy)]
 pub enum Call {
     Send,

@@ -29,15 +29,12 @@ pub fn layout_with(run: u16, len: usize) -> Layout
 
 // Whether a slot is present: its first byte is 01, and it carries the number of the run.
 // Shut out by must-fail/absent_as_present, must-fail/high_byte_not_compared, must-fail/bytes_swapped, must-fail/other_run_read.
-#[tactic(auto, using(crate::proofs::Slots::no_present))]
+#[tactic(auto, using(crate::proofs::Slots::no_present, crate::proofs::Slots::run_present))]
 fn is_present(slot: &[u8], layout: Layout) -> bool
     requires { header ≤ length slot.now }
     ensures { result ≡ is_present layout slot.now }
 {
-    if slot[0] != PRESENT {
-        return false;
-    }
-    word(slot[1], slot[2]) == layout.run
+    slot[0] == PRESENT && word(slot[1], slot[2]) == layout.run
 }
 
 // Where in a box slot j is; None where the box does not hold it whole.
@@ -161,10 +158,7 @@ pub fn holds_exactly(slots: &[u8], n: usize, layout: Layout) -> bool
 pub fn send_all(outbox: &mut [u8], layout: Layout, n: usize, m: &[u8])
     ensures { outbox.new ≡ to_all layout n m.now outbox.old }
 {
-    if m.len() != layout.length {
-        return;
-    }
-    if holds_exactly(outbox, n, layout) {
+    if m.len() == layout.length && holds_exactly(outbox, n, layout) {
         fill_slots(outbox, layout, n, m);
     }
 }

@@ -1,17 +1,16 @@
 -- `wire::kind_length` meets its contract.
-use Rattle.std.proofs.Common.{sym, ◌∙◌}
-use Rattle.lists.proofs.Tests.{cond_yes, cond_no}
-use Rattle.wire.specs.Length.{kind_length}
-use Rattle.wire.proofs.Lengths.{settings_in_lem}
+use Rattle.std.proofs.Common.{sym, ◌∙◌, arith}
+use Rattle.settings.proofs.Laws.{lengths_0, row_least}
+use Rattle.wire.proofs.Lengths.{kind_length_is, kind_length_none}
 use Rattle.wire.proofs.length.kind_length.Goals as goal
 
 pub row_length-requires : goal.row_length-requires
-row_length-requires c = settings_in_lem _ _ _ (sym c.in_settings.ensures ∙ c.if-in_settings.true)
+row_length-requires c = lengths_0 _ _ _ (sym c.in-Ok.ensures)
 
-pub returns-then-in_settings : goal.returns-then-in_settings
-unfolding kind_length
-returns-then-in_settings c = c.row_length.ensures ∙ sym (cond_yes _ _ 0 (sym c.in_settings.ensures ∙ c.if-in_settings.true))
+pub returns-in-Ok : goal.returns-in-Ok
+returns-in-Ok c = c.row_length.ensures ∙ sym (kind_length_is (lengths_0 _ _ _ (sym c.in-Ok.ensures)) c.args.kind)
 
-pub returns-else-in_settings : goal.returns-else-in_settings
-unfolding kind_length
-returns-else-in_settings c = sym (cond_no _ _ 0 (sym c.in_settings.ensures ∙ c.if-in_settings.false))
+pub returns-in-Err : goal.returns-in-Err
+returns-in-Err c =
+    let a = c.args in
+    sym (kind_length_none a.n a.t a.k a.kind (λ e. omega (arith, row_least c.in-Err.field-0, c.in-Err.ensures)))

@@ -1,5 +1,5 @@
 -- `wire::outbox_length` meets its contract.
-use Rattle.std.proofs.Common.{◌≡◌, ℕ, ◌+◌, ◌*◌, ◌≤◌, arith, sym, ap, ◌∙◌}
+use Rattle.std.proofs.Common.{ℕ, ◌+◌, ◌*◌, ◌≤◌, arith, sym, ap, ◌∙◌}
 use Rattle.lists.proofs.Tests.{cond_yes, cond_no}
 use lib.Dec.{eqb}
 use borrow.Author.Tests.{eq-eqb, ne_eqb}

@@ -1,5 +1,5 @@
 -- `wire::slot::put_slot` meets its contract.
-use Rattle.std.proofs.Common.{◌≡◌, ap, ap₂, ◌∙◌, List, ℕ, ◌++◌, ◌-◌, length, take, drop, set}
+use Rattle.std.proofs.Common.{◌≡◌, ap₂, ◌∙◌, List, ℕ, ◌++◌, ◌-◌, length, take, drop, set}
 use Rattle.wire.specs.Slot.{header}
 use Rattle.wire.proofs.Slots.{with_header, put_head}
 use Rattle.wire.proofs.slot.put_slot.Goals as goal

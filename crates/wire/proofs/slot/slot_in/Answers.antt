@@ -1,5 +1,5 @@
 -- `wire::slot::slot_in` meets its contract: where a product or a sum overflows, or the slot ends past the box, the box does not hold it.
-use Rattle.std.proofs.Common.{◌≡◌, ap₂, ◌∙◌, arith, ◌*◌, ◌-◌, ℕ}
+use Rattle.std.proofs.Common.{ap₂, ◌∙◌, arith, ◌*◌, ℕ}
 use Rattle.wire.specs.Slot.{width}
 use Rattle.wire.proofs.Slots.{not_within, slot_is_in}
 use Rattle.wire.proofs.slot.slot_in.Goals as goal
