@@ -6,8 +6,8 @@
 --     matching_first     `matching_of n adj` is that (`MatchingFirst`)
 --     same_graph         only who are neighbours below n counts
 --     matching_half      2 × the length of a matching is at most n
---     count-pairs, pair_at_index   an answer has as many pairs as it counts; what stands at an index is one of them
---     pairs_none, pairs-suc        its pairs one by one
+--     reverse-more       a list of pairs backwards grows at the front
+--     each_reverse       what each of these pairs passes, what stands at an index of the list passes
 --   Of its pairs, where adj goes both ways
 --     pair_at            a pair of M is a pair below n that are not neighbours
 --     matched_in, matched_of, matched_lt, ends_of, end_small, end_large   the matched are the ends of the pairs
@@ -21,7 +21,7 @@ pub use Rattle.matching.proofs.Sets.{in_set, set_in, some_in}
 pub use Rattle.matching.proofs.One.{one_matching, one_answer, same_graph}
 pub use Rattle.matching.proofs.First.{matching_first}
 pub use Rattle.matching.proofs.Sizes.{matching_half}
-pub use Rattle.matching.proofs.Stored.{count-pairs, pair_at_index, pairs_none, pairs-suc}
+pub use Rattle.matching.proofs.Stored.{reverse-more, each_reverse}
 pub use Rattle.matching.proofs.Augment.{Among, each_among, any_in, any_of, pair_at, matched_none, matched-cons, matched_in, matched_of, matched_lt}
 pub use Rattle.matching.proofs.Augment.{ends_of, end_small, end_large, no_free_pair, no_augmenting, pigeonhole}
 pub use Rattle.matching.proofs.Pairs.{one_each, each_map}

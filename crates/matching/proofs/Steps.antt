@@ -1,21 +1,23 @@
 -- The loops of the search, each by a record that its turns keep: `Growing` (a component), `Halving` (components one by one),
 -- `Shrinking` (members taken out), and the search itself, `Trying` (partners one by one).
-use mathlib.Core.Path.{◌≡◌, refl, sym, ap, ap₂, subst, ◌∙◌}
+use mathlib.Core.Path.{◌≡◌, sym, ap, subst, ◌∙◌}
 use mathlib.Core.Logic.{⊎_elim}
 use mathlib.Core.List.{List, [], ◌∷◌}
-use mathlib.Core.Bool.{Bool, true, false}
+use mathlib.Core.Bool.{true, false}
+use Rattle.std.specs.Prelude.{Option, Some, None}
 use Prim.Native.Nat.{ℕ, suc, ◌+◌, ◌-◌, ◌*◌, ◌/◌, ◌^◌, ◌≤◌, ◌<◌}
 use native.Mathlib.Omega.{arith}
-use lib.ListN.{length, get_or, set, replicate}
+use lib.ListN.{length, get_or, set}
 use Rattle.lists.specs.Sum.{count}
 use Rattle.lists.proofs.Tests.{true≢false, bool_ext, same_or_not}
-use Rattle.lists.proofs.Sums.{count_le}
+use Rattle.lists.proofs.Sums.{count_le, below_suc}
 use Rattle.bitset.specs.Set.{member, size_of, inserted, removed, intersection, difference, union, lowest_of}
 use Rattle.bitset.proofs.Laws.{size_le, size_below, size_remove, insert_lt, remove_lt, lowest_member, lowest_least, lowest_some, none_in_0}
 use Rattle.bitset.proofs.Laws.{intersection_lt, difference_lt}
 use Rattle.graph.specs.Pairs.{Pair}
-use Rattle.matching.specs.Steps.{In, Edge, Symmetric, Joined, Within, AtMost, NoneOfSize, FirstOfSize, Closed, Searched, Largest}
-use Rattle.matching.specs.Answer.{ends, stored}
+use Rattle.matching.specs.Steps.{In, Edge, Symmetric, Joined, Within, AtMost, NoneOfSize, FirstOfSize, Closed, Found, Searched, Largest}
+use Rattle.matching.specs.Answer.{slots, stored}
+use Rattle.matching.specs.declared.Matching.{Matching}
 use Rattle.matching.proofs.Sets.{in_lt, not_in, in_intersection, intersection_in, difference_in, in_union, union_left, union_right, in_remove}
 use Rattle.matching.proofs.Sets.{remove_in, in_single, single_in, difference_fewer}
 use Rattle.matching.proofs.Pairs.{widen, each_map, two_each}
@@ -160,54 +162,41 @@ module _ (graph : List ℕ) (s : ℕ) where
   unfolding AtMost NoneOfSize
   shrink_short left x k h g a l N m e = omega (arith, g.bound h a N m)
 
--- ---- the search for k pairs within s: of the partners of the least member v those that are not left are tried
-pub record Trying (graph : List ℕ) (s k v rest left : ℕ) : Type 0 where
+-- ---- the search for k pairs within s: of the partners of the least member v those below w are tried
+pub record Trying (graph : List ℕ) (s k v rest partners w : ℕ) : Type 0 where
   pub has : In s v
   pub least : (x : ℕ) → In s x → v ≤ x
   pub low : v < 16
   pub rest_is : rest ≡ removed s v
-  pub left_partner : (x : ℕ) → In left x → Edge graph v x × In rest x
-  pub left_small : left < 2 ^ 16
+  pub partners_are : partners ≡ intersection (get_or graph v 0) rest
   pub some : 1 ≤ k
   pub few : k ≤ 8
-  pub tried : (x : ℕ) → (In left x → ⊥) → v < x → In s x → Edge graph v x → NoneOfSize (Joined (Edge graph) (Minus (Minus (In s) v) x)) (k - 1)
+  pub tried : (x : ℕ) → x < w → v < x → In s x → Edge graph v x → NoneOfSize (Joined (Edge graph) (Minus (Minus (In s) v) x)) (k - 1)
 
--- the three ways out before the search
-pub searched_zero : (graph : List ℕ) (s k : ℕ) (ok : Bool) (a b : List ℕ) → k ≡ 0 → (ok ≡ true) × (a ≡ ends (λ p. p.0) []) × (b ≡ ends (λ p. p.1) [])
-    → Searched graph s k ok a b
-searched_zero graph s k ok a b e r =
-    record {
-      found = λ _. ([], subst (λ (x : ℕ). FirstOfSize (Within graph s) x []) (sym e) (first_zero (Within graph s)), r.1, r.2);
-      none = λ f. absurd (true≢false (sym r.0 ∙ f));
-    }
-
-pub searched_none : (graph : List ℕ) (s k : ℕ) (ok : Bool) (a b : List ℕ) → ok ≡ false → NoneOfSize (Within graph s) k → Searched graph s k ok a b
-searched_none graph s k ok a b e n = record { found = λ f. absurd (true≢false (sym f ∙ e)); none = λ _. n }
+-- the ways out before the search
+pub found_zero : (graph : List ℕ) (s k : ℕ) (m : Matching) → k ≡ 0 → m ≡ stored [] → Found graph s k m
+found_zero graph s k m e em = ([], subst (λ (x : ℕ). FirstOfSize (Within graph s) x []) (sym e) (first_zero (Within graph s)), em)
 
 pub none_in_empty : (graph : List ℕ) (s k : ℕ) → s ≡ 0 → (k ≡ 0 → ⊥) → NoneOfSize (Within graph s) k
 none_in_empty graph s k e n =
     subst (NoneOfSize (Within graph s)) (one_more k (omega arith)) (none_empty (Edge graph) (In s) (k - 1) (λ x a. none_in_0 x (subst (λ (z : ℕ). In z x) e a)))
 
-pub try_start : (graph : List ℕ) (s k v rest left : ℕ) → s < 2 ^ 16 → (s ≡ 0 → ⊥) → (k ≡ 0 → ⊥) → k ≤ 8 → v ≡ lowest_of s → rest ≡ removed s v
-    → left ≡ intersection (get_or graph v 0) rest → Trying graph s k v rest left
-try_start graph s k v rest left hs ns nk hk ev er el =
+pub try_start : (graph : List ℕ) (s k v rest partners : ℕ) → s < 2 ^ 16 → (s ≡ 0 → ⊥) → (k ≡ 0 → ⊥) → k ≤ 8 → v ≡ lowest_of s → rest ≡ removed s v
+    → partners ≡ intersection (get_or graph v 0) rest → Trying graph s k v rest partners 0
+try_start graph s k v rest partners hs ns nk hk ev er ep =
     let low = lowest_in s hs (omega arith) in
     record {
       has = subst (In s) (sym ev) low.1;
       least = λ x a. omega (arith, lowest_least s x a);
       low = omega (arith, low.0);
       rest_is = er;
-      left_partner = λ x a. in_intersection (get_or graph v 0) rest x (subst (λ (z : ℕ). In z x) el a);
-      left_small = subst (λ (z : ℕ). z < 2 ^ 16) (sym el) (intersection_lt (get_or graph v 0) rest);
+      partners_are = ep;
       some = omega arith;
       few = hk;
-      tried = λ x n g a e.
-          let l = in_lt s x hs a in
-          absurd (n (subst (λ (z : ℕ). In z x) (sym el)
-          (intersection_in (get_or graph v 0) rest x l e (subst (λ (z : ℕ). In z x) (sym er) (remove_in s v x l a (λ q. omega arith))))));
+      tried = λ x l g a e. absurd (omega arith);
     }
 
-module _ (graph : List ℕ) (s k v rest left : ℕ) (hs : s < 2 ^ 16) (g : Trying graph s k v rest left) where
+module _ (graph : List ℕ) (s k v rest partners w : ℕ) (hs : s < 2 ^ 16) (g : Trying graph s k v rest partners w) where
   rest_in : (x : ℕ) → In s x → (x ≡ v → ⊥) → In rest x
   rest_in x a n = subst (λ (z : ℕ). In z x) (sym g.rest_is) (remove_in s v x (in_lt s x hs a) a n)
 
@@ -215,56 +204,72 @@ module _ (graph : List ℕ) (s k v rest left : ℕ) (hs : s < 2 ^ 16) (g : Tryin
   in_rest x a = in_remove s v x (subst (λ (z : ℕ). In z x) g.rest_is a)
 
   -- all partners are tried
-  pub try_drop : (ok : Bool) (a b : List ℕ) → left ≡ 0 → Searched graph rest k ok a b → Searched graph s k ok a b
-  try_drop ok a b z q =
-      record {
-        found = λ e. let m = q.found e in (m.0, drop m.0 m.1, m.2, m.3);
-        none = λ e. gone (q.none e);
-      }
-    where
-      all : (x : ℕ) → v < x → In s v → In s x → Edge graph v x → NoneOfSize (Joined (Edge graph) (Minus (Minus (In s) v) x)) (k - 1)
-      all x b _ a e = g.tried x (λ h. none_in_0 x (subst (λ (y : ℕ). In y x) z h)) b a e
+  module _ (end : 16 ≤ w) where
+    all : (x : ℕ) → v < x → In s v → In s x → Edge graph v x → NoneOfSize (Joined (Edge graph) (Minus (Minus (In s) v) x)) (k - 1)
+    all x b _ a e = g.tried x (omega (arith, in_lt s x hs a)) b a e
 
-      out : (p : Pair) → Within graph rest p → Joined (Edge graph) (Minus (In s) v) p
-      out = joined-map (Edge graph) (In rest) (Minus (In s) v) in_rest
+    out : (p : Pair) → Within graph rest p → Joined (Edge graph) (Minus (In s) v) p
+    out = joined-map (Edge graph) (In rest) (Minus (In s) v) in_rest
 
-      back : (p : Pair) → Joined (Edge graph) (Minus (In s) v) p → Within graph rest p
-      back = joined-map (Edge graph) (Minus (In s) v) (In rest) (λ x a. rest_in x a.0 a.1)
+    back : (p : Pair) → Joined (Edge graph) (Minus (In s) v) p → Within graph rest p
+    back = joined-map (Edge graph) (Minus (In s) v) (In rest) (λ x a. rest_in x a.0 a.1)
 
-      drop : (M : List Pair) → FirstOfSize (Within graph rest) k M → FirstOfSize (Within graph s) k M
-      drop M r =
-          subst (λ (x : ℕ). FirstOfSize (Within graph rest) x M → FirstOfSize (Within graph s) x M) (one_more k g.some)
-          (λ z. step_drop (Edge graph) (In s) v g.least (k - 1) all M
-          (same_first (Within graph rest) (Joined (Edge graph) (Minus (In s) v)) out back (suc (k - 1)) M z)) r
+    drop : (M : List Pair) → FirstOfSize (Within graph rest) k M → FirstOfSize (Within graph s) k M
+    drop M r =
+        subst (λ (x : ℕ). FirstOfSize (Within graph rest) x M → FirstOfSize (Within graph s) x M) (one_more k g.some)
+        (λ z. step_drop (Edge graph) (In s) v g.least (k - 1) all M
+        (same_first (Within graph rest) (Joined (Edge graph) (Minus (In s) v)) out back (suc (k - 1)) M z)) r
 
-      gone : NoneOfSize (Within graph rest) k → NoneOfSize (Within graph s) k
-      gone r =
-          subst (λ (x : ℕ). NoneOfSize (Within graph rest) x → NoneOfSize (Within graph s) x) (one_more k g.some)
-          (λ z. step_none (Edge graph) (In s) v g.least (k - 1) all
-          (same_none (Within graph rest) (Joined (Edge graph) (Minus (In s) v)) out back (suc (k - 1)) z)) r
+    gone : NoneOfSize (Within graph rest) k → NoneOfSize (Within graph s) k
+    gone r =
+        subst (λ (x : ℕ). NoneOfSize (Within graph rest) x → NoneOfSize (Within graph s) x) (one_more k g.some)
+        (λ z. step_none (Edge graph) (In s) v g.least (k - 1) all
+        (same_none (Within graph rest) (Joined (Edge graph) (Minus (In s) v)) out back (suc (k - 1)) z)) r
+
+    pub try_drop : (r : Option Matching) → Searched graph rest k r → Searched graph s k r
+    try_drop None q = gone q
+    try_drop (Some m) q = (q.0, drop q.0 q.1, q.2)
 
   -- the set is smaller at each call
   pub try_rest_less : size_of rest < size_of s
   try_rest_less = omega (arith, size_remove s v g.low g.has, ap size_of g.rest_is)
 
-  -- the next partner, the least that is left
-  module _ (w : ℕ) (p : 0 < left) (ew : w ≡ lowest_of left) where
-    pub try_low : w < 16
-    try_low = omega (arith, (lowest_in left g.left_small p).0)
+  -- one more is tried
+  pub try_next : (member partners w ≡ true → NoneOfSize (Joined (Edge graph) (Minus (Minus (In s) v) w)) (k - 1)) → Trying graph s k v rest partners (w + 1)
+  try_next h =
+      record {
+        has = g.has;
+        least = g.least;
+        low = g.low;
+        rest_is = g.rest_is;
+        partners_are = g.partners_are;
+        some = g.some;
+        few = g.few;
+        tried = λ x l b a e. ⊎_elim
+            (λ i. subst (λ (y : ℕ). NoneOfSize (Joined (Edge graph) (Minus (Minus (In s) v) y)) (k - 1)) (sym i) (h (subst (In partners) i (partner x b a e))))
+            (λ u. g.tried x u b a e)
+            (below_suc (below x l));
+      }
+    where
+      below : (x : ℕ) → x < w + 1 → x < suc w
+      below x l = omega arith
 
-    w_left : In left w
-    w_left = subst (In left) (sym ew) (lowest_in left g.left_small p).1
+      partner : (x : ℕ) → v < x → In s x → Edge graph v x → In partners x
+      partner x b a e =
+          subst (λ (z : ℕ). In z x) (sym g.partners_are)
+          (intersection_in (get_or graph v 0) rest x (in_lt s x hs a) e (rest_in x a (λ q. omega arith)))
 
-    w_rest : In rest w
-    w_rest = (g.left_partner w w_left).1
+  pub try_skip : member partners w ≡ false → Trying graph s k v rest partners (w + 1)
+  try_skip f = try_next (λ t. absurd (true≢false (sym t ∙ f)))
 
-    -- fewer are left
-    pub try_fewer : (left' : ℕ) → left' ≡ removed left w → size_of left' < size_of left
-    try_fewer left' el = omega (arith, size_remove left w try_low w_left, ap size_of el)
+  -- w is a partner
+  module _ (is : member partners w ≡ true) where
+    both : Edge graph v w × In rest w
+    both = in_intersection (get_or graph v 0) rest w (subst (λ (z : ℕ). In z w) g.partners_are is)
 
     module _ (r : ℕ) (er : r ≡ removed rest w) where
       pub try_less : size_of r < size_of s
-      try_less = omega (arith, size_remove rest w try_low w_rest, ap size_of er, try_rest_less)
+      try_less = omega (arith, size_remove rest w (in_lt s w hs (in_rest w both.1).0) both.1, ap size_of er, try_rest_less)
 
       -- who is left without v and w
       to : (p : Pair) → Within graph r p → Joined (Edge graph) (Minus (Minus (In s) v) w) p
@@ -277,48 +282,33 @@ module _ (graph : List ℕ) (s k v rest left : ℕ) (hs : s < 2 ^ 16) (g : Tryin
           joined-map (Edge graph) (Minus (Minus (In s) v) w) (In r)
           (λ x a. subst (λ (z : ℕ). In z x) (sym er) (remove_in rest w x (in_lt s x hs a.0.0) (rest_in x a.0.0 a.0.1) a.1))
 
-      module _ (ok : Bool) (a b : List ℕ) (q : Searched graph r (k - 1) ok a b) where
-        -- with w the others have too few pairs
-        pub try_fail : (left' : ℕ) → left' ≡ removed left w → ok ≡ false → Trying graph s k v rest left'
-        try_fail left' el f =
-            record {
-              has = g.has;
-              least = g.least;
-              low = g.low;
-              rest_is = g.rest_is;
-              left_partner = λ x h. g.left_partner x (in_remove left w x (subst (λ (z : ℕ). In z x) el h)).0;
-              left_small = subst (λ (z : ℕ). z < 2 ^ 16) (sym el) (remove_lt left w);
-              some = g.some;
-              few = g.few;
-              tried = λ x n l c e. ⊎_elim
-                  (λ i. subst (λ (y : ℕ). NoneOfSize (Joined (Edge graph) (Minus (Minus (In s) v) y)) (k - 1)) (sym i)
-                  (same_none (Within graph r) (Joined (Edge graph) (Minus (Minus (In s) v) w)) to from (k - 1) (q.none f)))
-                  (λ i. g.tried x (λ h. n (subst (λ (z : ℕ). In z x) (sym el) (remove_in left w x (in_lt left x g.left_small h) h i))) l c e)
-                  (same_or_not x w);
-            }
+      -- with w the others have too few pairs
+      pub try_fail : NoneOfSize (Within graph r) (k - 1) → Trying graph s k v rest partners (w + 1)
+      try_fail q = try_next (λ _. same_none (Within graph r) (Joined (Edge graph) (Minus (Minus (In s) v) w)) to from (k - 1) q)
 
-        -- with w the others have k - 1 pairs
-        pub try_found : ok ≡ true → (ok' : Bool) (a' b' : List ℕ) → (ok' ≡ true) × (a' ≡ set a (k - 1) v) × (b' ≡ set b (k - 1) w)
-            → Searched graph s k ok' a' b'
-        unfolding ends
-        try_found f ok' a' b' e =
-            let m = q.found f in
-            let size : length m.0 ≡ k - 1 = m.1.size in
-            let sw = in_rest w w_rest in
-            let first : FirstOfSize (Within graph s) (suc (k - 1)) ((v, w) ∷ m.0) =
-            step_found (Edge graph) (In s) v g.least (k - 1) w m.0 g.has sw.0 (omega (arith, g.least w sw.0, sw.1))
-            (g.left_partner w w_left).0
-            (λ x l. g.tried x (λ h. omega (arith, lowest_least left x h)))
-            (same_first (Within graph r) (Joined (Edge graph) (Minus (Minus (In s) v) w)) to from (k - 1) m.0 m.1) in
-            record {
-              found = λ _. (
-                (v, w) ∷ m.0,
-                subst (λ (x : ℕ). FirstOfSize (Within graph s) x ((v, w) ∷ m.0)) (one_more k g.some) first,
-                e.1 ∙ ap₂ (λ (l : List ℕ) (i : ℕ). set l i v) m.2 (sym size),
-                e.2 ∙ ap₂ (λ (l : List ℕ) (i : ℕ). set l i w) m.3 (sym size),
-              );
-              none = λ z. absurd (true≢false (sym e.0 ∙ z));
-            }
+      -- with w the others have k - 1 pairs
+      module _ (m : Matching) (q : Found graph r (k - 1) m) where
+        pub found-count : m.count ≡ k - 1
+        unfolding stored
+        found-count = ap (λ (x : Matching). x.count) q.2 ∙ q.1.size
+
+        pub try_found : (m' : Matching) → (m'.count ≡ m.count + 1) × (m'.pairs ≡ set m.pairs m.count (v, w)) → Found graph s k m'
+        unfolding stored slots
+        try_found m' e =
+            let sw = in_rest w both.1 in
+            let first : FirstOfSize (Within graph s) (suc (k - 1)) ((v, w) ∷ q.0) =
+            step_found (Edge graph) (In s) v g.least (k - 1) w q.0 g.has sw.0 (omega (arith, g.least w sw.0, sw.1)) both.0
+            (λ x l. g.tried x l)
+            (same_first (Within graph r) (Joined (Edge graph) (Minus (Minus (In s) v) w)) to from (k - 1) q.0 q.1) in (
+              (v, w) ∷ q.0,
+              subst (λ (x : ℕ). FirstOfSize (Within graph s) x ((v, w) ∷ q.0)) (one_more k g.some) first,
+              (let ec : m'.count ≡ suc (length q.0) = e.0 ∙ ap (λ (x : Matching). x.count + 1) q.2 ∙ plus-one (length q.0) in
+                  let ep : m'.pairs ≡ set (slots q.0) (length q.0) (v, w) = e.1 ∙ ap (λ (x : Matching). set x.pairs x.count (v, w)) q.2 in
+                  λ i. record { count = ec i; pairs = ep i }),
+            )
+          where
+            plus-one : (b : ℕ) → b + 1 ≡ suc b
+            plus-one b = omega arith
 
 -- ---- sizes from the largest down
 pub at_most_8 : (graph : List ℕ) (s : ℕ) → s < 2 ^ 16 → AtMost (Within graph s) 8
@@ -328,23 +318,20 @@ at_most_8 graph s h N m =
     two_each 16 (member s) N m.1 (each_map (λ p j. (in_lt s p.0 h j.0, in_lt s p.1 h j.1, j.0, j.1, λ e. omega (arith, j.2))) N m.0) in
     omega (arith, count_le 16 (member s))
 
-pub at_most_less : (graph : List ℕ) (s k : ℕ) (ok : Bool) (a b : List ℕ) → 0 < k → AtMost (Within graph s) k → Searched graph s k ok a b → ok ≡ false
-    → AtMost (Within graph s) (k - 1)
-at_most_less graph s k ok a b p h q e =
+pub at_most_less : (graph : List ℕ) (s k : ℕ) → 0 < k → AtMost (Within graph s) k → NoneOfSize (Within graph s) k → AtMost (Within graph s) (k - 1)
+at_most_less graph s k p h q =
     let i = sym (one_more k (omega arith)) in
-    fewer (Within graph s) (k - 1) (subst (AtMost (Within graph s)) i h) (subst (NoneOfSize (Within graph s)) i (q.none e))
+    fewer (Within graph s) (k - 1) (subst (AtMost (Within graph s)) i h) (subst (NoneOfSize (Within graph s)) i q)
 
-pub largest-found : (graph : List ℕ) (s k : ℕ) (ok : Bool) (a b : List ℕ) → AtMost (Within graph s) k → Searched graph s k ok a b → ok ≡ true
-    → Largest graph s (record { count = k; small = a; large = b })
-unfolding AtMost stored
-largest-found graph s k ok a b h q e =
-    let m = q.found e in
-    let f = m.1 in (
-      m.0,
+pub largest-found : (graph : List ℕ) (s k : ℕ) (m : Matching) → AtMost (Within graph s) k → Found graph s k m → Largest graph s m
+unfolding AtMost
+largest-found graph s k m h q =
+    let f = q.1 in (
+      q.0,
       record { matches = f.matches; largest = λ N n. omega (arith, h N n, f.size); first = λ N n l. f.first N n (l ∙ f.size) },
-      λ i. record { count = sym f.size i; small = m.2 i; large = m.3 i },
+      q.2,
     )
 
-pub largest_none : (graph : List ℕ) (s : ℕ) → AtMost (Within graph s) 0 → Largest graph s (record { count = 0; small = replicate 8 0; large = replicate 8 0 })
-unfolding AtMost stored ends
-largest_none graph s h = ([], record { matches = (tt, tt); largest = h; first = λ N n l. tt }, refl)
+pub largest_none : (graph : List ℕ) (s : ℕ) (m : Matching) → AtMost (Within graph s) 0 → m ≡ stored [] → Largest graph s m
+unfolding AtMost
+largest_none graph s m h e = ([], record { matches = (tt, tt); largest = h; first = λ N n l. tt }, e)

@@ -1,65 +1,48 @@
--- What is answered of a matching holds its pairs (`pairs-stored`), and what stands at an index is one of them (`pair_at_index`).
-use mathlib.Core.Path.{◌≡◌, refl, ap, ap₂, ◌∙◌}
-use mathlib.Core.List.{List, [], ◌∷◌}
-use Prim.Native.Nat.{ℕ, zero, suc, ◌≤◌, ◌<◌}
+-- What is answered of a matching holds its pairs (`pairs-stored`). Of a list of pairs backwards: it grows at the front (`reverse-more`), and what
+-- each of its pairs passes, what stands at an index of the list passes (`each_reverse`).
+use mathlib.Core.Path.{◌≡◌, refl, sym, ap, subst, ◌∙◌}
+use mathlib.Core.List.{List, [], ◌∷◌, ◌++◌}
+use Prim.Native.Nat.{ℕ, zero, suc, ◌+◌, ◌-◌, ◌≤◌, ◌<◌}
 use native.Mathlib.Omega.{arith}
-use lib.ListN.{length, get_or, set, length-set}
-use lib.Seq.{get_or-set_same, get_or-set_other}
+use native.Mathlib.Numerals.{add-one}
+use lib.ListN.{length, get_or, set, take, length-set}
+use Rattle.std.specs.Prelude.{reverse}
+use Rattle.std.proofs.lemmas.List.{reverse-append, reverse-reverse, length-reverse, get_or-reverse}
+use Rattle.std.proofs.Math.Seq.{take-suc, take-suc-set}
 use Rattle.graph.specs.Pairs.{Pair}
-use Rattle.matching.specs.Answer.{ends, stored, pairs, pairs_of}
-use Rattle.matching.specs.declared.Matching.{Matching}
-use Rattle.matching.proofs.Augment.{Among}
-use Rattle.lists.proofs.Sums.{below_suc}
-use mathlib.Core.Logic.{inl, inr, ⊎_elim}
+use Rattle.matching.specs.Matching.{Each}
+use Rattle.matching.specs.Answer.{slots, stored, pairs_of}
 
-pub length-ends : (f : Pair → ℕ) (M : List Pair) → length (ends f M) ≡ 8
-unfolding ends
-length-ends f [] = refl
-length-ends f (p ∷ M) = length-set (ends f M) (length M) (f p) ∙ length-ends f M
+length-slots : (M : List Pair) → length (slots M) ≡ 8
+unfolding slots
+length-slots [] = refl
+length-slots (p ∷ M) = length-set (slots M) (length M) p ∙ length-slots M
 
--- a store at k leaves the first k pairs
-pairs_set : (a b : List ℕ) (k v w j : ℕ) → j ≤ k → pairs (set a k v) (set b k w) j ≡ pairs a b j
-unfolding pairs
-pairs_set a b k v w zero h = refl
-pairs_set a b k v w (suc j) h =
-    ap₂ (λ (p : Pair) (l : List Pair). p ∷ l)
-    (ap₂ (λ (x y : ℕ). (x, y)) (get_or-set_other a k j v 0 (λ e. omega arith)) (get_or-set_other b k j w 0 (λ e. omega arith)))
-    (pairs_set a b k v w j (omega arith))
-
-pairs-ends : (M : List Pair) → length M ≤ 8 → pairs (ends (λ p. p.0) M) (ends (λ p. p.1) M) (length M) ≡ M
-unfolding pairs ends
-pairs-ends [] h = refl
-pairs-ends (p ∷ M) h =
-    ap₂ (λ (q : Pair) (l : List Pair). q ∷ l)
-    (ap₂ (λ (x y : ℕ). (x, y)) (get_or-set_same (ends (λ p. p.0) M) (length M) p.0 0 (omega (arith, length-ends (λ p. p.0) M)))
-    (get_or-set_same (ends (λ p. p.1) M) (length M) p.1 0 (omega (arith, length-ends (λ p. p.1) M))))
-    (pairs_set (ends (λ p. p.0) M) (ends (λ p. p.1) M) (length M) p.0 p.1 (length M) (omega arith) ∙ pairs-ends M (omega arith))
+slots-pairs : (M : List Pair) → length M ≤ 8 → reverse (take (length M) (slots M)) ≡ M
+unfolding slots
+slots-pairs [] h = refl
+slots-pairs (p ∷ M) h =
+    ap reverse (take-suc-set (slots M) (length M) p (omega (arith, length-slots M)))
+    ∙ reverse-append (take (length M) (slots M)) (p ∷ [])
+    ∙ ap (λ (l : List Pair). p ∷ l) (slots-pairs M (omega arith))
 
 pub pairs-stored : (M : List Pair) → length M ≤ 8 → pairs_of (stored M) ≡ M
 unfolding stored
-pairs-stored M h = pairs-ends M h
+pairs-stored M h = slots-pairs M h
 
-length_pairs : (a b : List ℕ) (k : ℕ) → length (pairs a b k) ≡ k
-unfolding pairs
-length_pairs a b zero = refl
-length_pairs a b (suc k) = ap suc (length_pairs a b k)
+pub reverse-more : (ps : List Pair) (k : ℕ) → k < length ps → reverse (take (k + 1) ps) ≡ get_or ps k (0, 0) ∷ reverse (take k ps)
+reverse-more ps k h =
+    ap (λ (i : ℕ). reverse (take i ps)) (add-one k) ∙ ap reverse (take-suc ps k (0, 0) h) ∙ reverse-append (take k ps) (get_or ps k (0, 0) ∷ [])
 
-pub count-pairs : (m : Matching) → length (pairs_of m) ≡ m.count
-count-pairs m = length_pairs m.small m.large m.count
+each_at : (P : Pair → Type 0) (M : List Pair) (i : ℕ) → Each P M → i < length M → P (get_or M i (0, 0))
+each_at P [] i h l = absurd (omega arith)
+each_at P (p ∷ M) zero h l = h.0
+each_at P (p ∷ M) (suc i) h l = each_at P M i h.1 (omega arith)
 
-pub pairs_none : (a b : List ℕ) → pairs a b 0 ≡ []
-unfolding pairs
-pairs_none a b = refl
-
-pub pairs-suc : (a b : List ℕ) (k : ℕ) → pairs a b (suc k) ≡ (get_or a k 0, get_or b k 0) ∷ pairs a b k
-unfolding pairs
-pairs-suc a b k = refl
-
--- what stands at one index is a pair
-among_pairs : (a b : List ℕ) (k i : ℕ) → i < k → Among (get_or a i 0, get_or b i 0) (pairs a b k)
-unfolding pairs
-among_pairs a b zero i h = absurd (omega arith)
-among_pairs a b (suc k) i h = ⊎_elim (λ e. inl (ap (λ (j : ℕ). (get_or a j 0, get_or b j 0)) e)) (λ l. inr (among_pairs a b k i l)) (below_suc h)
-
-pub pair_at_index : (m : Matching) (i : ℕ) → i < m.count → Among (get_or m.small i 0, get_or m.large i 0) (pairs_of m)
-pair_at_index m = among_pairs m.small m.large m.count
+pub each_reverse : (P : Pair → Type 0) (ps : List Pair) (k : ℕ) → Each P (reverse ps) → k < length ps → P (get_or ps k (0, 0))
+each_reverse P ps k h l =
+    let same : length (reverse ps) ≡ length ps = length-reverse ps in
+    let less : k < length (reverse ps) = omega arith in
+    let e : get_or ps k (0, 0) ≡ get_or (reverse ps) (length (reverse ps) - 1 - k) (0, 0) =
+    ap (λ (xs : List Pair). get_or xs k (0, 0)) (sym (reverse-reverse ps)) ∙ get_or-reverse (reverse ps) k (0, 0) less in
+    subst P (sym e) (each_at P (reverse ps) (length (reverse ps) - 1 - k) h (omega arith))

@@ -10,15 +10,16 @@
 --   NoneOfSize P k     none has exactly k
 --   FirstOfSize P k M  M is the first in dictionary order of those that have k
 --   Closed graph s c   c is a part of s, and nobody in it has a partner in s that is outside
---   Searched ..        what a search for k pairs within s answers
+--   Found graph s k m  m is the first matching of k pairs within s
+--   Searched ..        what a search for k pairs within s answers: none, or the first one
 --   Largest graph s r  r is the first largest matching within s
-use Rattle.std.specs.Prelude.{◌≡◌, List, Bool, true, false, ℕ, ◌≤◌, ◌<◌, length, get_or}
+use Rattle.std.specs.Prelude.{◌≡◌, List, Bool, true, ℕ, ◌≤◌, ◌<◌, length, get_or, Option, MatchOption}
 use Rattle.lists.specs.Fill.{tabulate}
 use Rattle.bitset.specs.Set.{member}
 use Rattle.graph.specs.Neighbour.{missing}
 use Rattle.graph.specs.Pairs.{Pair}
 use Rattle.matching.specs.Matching.{IsMatching, NotAfter, FirstLargest}
-use Rattle.matching.specs.Answer.{ends, stored}
+use Rattle.matching.specs.Answer.{stored}
 use Rattle.matching.specs.declared.Matching.{Matching}
 
 unfoldable pub complement : ℕ → (ℕ → ℕ → Bool) → List ℕ
@@ -54,9 +55,11 @@ pub record Closed (graph : List ℕ) (s c : ℕ) : Type 0 where
   pub part : (x : ℕ) → In c x → In s x
   pub shut : (x y : ℕ) → In c x → In s y → Edge graph x y → In c y
 
-pub record Searched (graph : List ℕ) (s k : ℕ) (ok : Bool) (a b : List ℕ) : Type 0 where
-  pub found : ok ≡ true → (M : List Pair) × FirstOfSize (Within graph s) k M × (a ≡ ends (λ p. p.0) M) × (b ≡ ends (λ p. p.1) M)
-  pub none : ok ≡ false → NoneOfSize (Within graph s) k
+abbrev pub Found : List ℕ → ℕ → ℕ → Matching → Type 0
+Found graph s k m = (M : List Pair) × FirstOfSize (Within graph s) k M × (m ≡ stored M)
+
+abbrev pub Searched : List ℕ → ℕ → ℕ → Option Matching → Type 0
+Searched graph s k r = MatchOption r (NoneOfSize (Within graph s) k) (Found graph s k)
 
 abbrev pub Largest : List ℕ → ℕ → Matching → Type 0
 Largest graph s r = (M : List Pair) × FirstLargest (Within graph s) M × (r ≡ stored M)

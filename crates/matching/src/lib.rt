@@ -2,23 +2,58 @@
 // (document 02, U9), of which the search makes its rows once. Index i stands for controller i + 1.
 #![tactic(auto)]
 
-ghost use Rattle.std.specs.Prelude.{◌≡◌, true, [], ◌<◌, ◌≤◌, min, set};
+ghost use Rattle.std.specs.Prelude.{◌≡◌, true, [], ◌+◌, ◌<◌, ◌≤◌, min, set, take};
 ghost use Rattle.graph.specs.Bits.{adjacent};
-ghost use Rattle.matching.specs.Answer.{ends, IsFirstLargest};
+ghost use Rattle.matching.specs.Answer.{stored, IsFirstLargest};
 ghost use Rattle.matching.specs.Steps.{complement, In, Symmetric, Within, AtMost, NoneOfSize, Closed, Searched, Largest};
 
 use bitset::{below, difference, insert, intersection, lowest, member, remove, size, union};
 use graph::missing_row;
 
+// A matching: its pairs, each the smaller end first, the first pair last; zeros after them.
+#[derive(Clone, Copy, PartialEq, Eq)]
+pub struct Matching {
+    count: usize,
+    pairs: [(u8, u8); 8],
+}
+
+impl Matching {
+    // No pair.
+    fn empty() -> Matching
+        ensures { result ≡ stored [] }
+    {
+        Matching {
+            count: 0,
+            pairs: [(0, 0); 8],
+        }
+    }
+
+    // With the pair (v, w), as its first.
+    fn with(mut self, v: usize, w: usize) -> Matching
+        requires { (self.count < 8) × (v < 256) × (w < 256) }
+        ensures { (result.count ≡ self.count + 1) × (result.pairs ≡ set self.pairs self.count (v, w)) }
+    {
+        self.pairs[self.count] = (v as u8, w as u8);
+        self.count += 1;
+        self
+    }
+
+    // The pairs, the first one last.
+    // Shut out: one pair fewer; all eight places.
+    pub fn pairs(&self) -> &[(u8, u8)]
+        ensures { result.now ≡ take self.now.count self.now.pairs }
+    {
+        &self.pairs[..self.count.min(8)]
+    }
+}
+
 // The rows that the search works on: row i has those with whom i makes a missing pair below n.
 fn complement(bits: [u8; 15], n: usize) -> [u16; 16]
     ensures { result ≡ complement (min n 16) (adjacent bits) }
 {
-    let mut graph = [0u16; 16];
-    let mut i: usize = 0;
-    while i < 16 {
-        graph[i] = missing_row(bits, n, i);
-        i += 1;
+    let mut graph = [0; 16];
+    for (i, row) in graph.iter_mut().enumerate() {
+        *row = missing_row(bits, n, i);
     }
     graph
 }
@@ -31,6 +66,7 @@ fn component(graph: &[u16; 16], s: u16, v: usize) -> u16
     let mut c = insert(0, v);
     let mut unseen = s;
     let mut next = c;
+    // No `for` over members: each turn adds to those that are left.
     while 0 < next {
         let x = lowest(next);
         unseen = remove(unseen, x);
@@ -47,6 +83,7 @@ fn halves(graph: &[u16; 16], s: u16) -> usize
 {
     let mut left = s;
     let mut sum: usize = 0;
+    // No `for` over members: each turn takes a whole component of those that are left.
     while 0 < left {
         let c = component(graph, left, lowest(left));
         left = difference(left, c);
@@ -55,154 +92,90 @@ fn halves(graph: &[u16; 16], s: u16) -> usize
     sum
 }
 
-// Whether the set p has a member, and fewer than q has where q has one.
-fn is_fewer(p: u16, q: u16) -> bool {
-    if p == 0 {
-        return false;
-    }
-    if q == 0 {
-        return true;
-    }
-    size(p) < size(q)
-}
-
-// A partner within s of the member of s that has the fewest there; 16 where nobody has one.
-fn partner_of_fewest(graph: &[u16; 16], s: u16) -> usize {
-    let mut best: u16 = 0;
-    let mut i: usize = 0;
-    while i < 16 {
-        if member(s, i) {
-            let partners = intersection(graph[i], s);
-            if is_fewer(partners, best) {
-                best = partners;
-            }
+// Of the members of s that have partners within s, the one whose number of them wins against those of all before it.
+fn champion<F: Fn(usize, usize) -> bool>(graph: &[u16; 16], s: u16, wins: F) -> Option<usize>
+    requires { F.IsAlwaysCallable wins }
+{
+    let mut best = None;
+    let mut most: usize = 0;
+    for (i, row) in graph.iter().enumerate() {
+        let partners = size(intersection(*row, s));
+        if member(s, i) && 0 < partners && (most == 0 || wins(partners, most)) {
+            best = Some(i);
+            most = partners;
         }
-        i += 1;
     }
-    lowest(best)
+    best
 }
 
-// The member of s that has the most partners within s; 16 where nobody has one.
-fn with_most(graph: &[u16; 16], s: u16) -> usize {
-    let mut best: u16 = 0;
-    let mut at: usize = 16;
-    let mut i: usize = 0;
-    while i < 16 {
-        if member(s, i) {
-            let partners = intersection(graph[i], s);
-            if size(best) < size(partners) {
-                best = partners;
-                at = i;
-            }
-        }
-        i += 1;
-    }
-    at
+// The member of s that has the most partners within s.
+fn with_most(graph: &[u16; 16], s: u16) -> Option<usize> {
+    champion(graph, s, |partners, most| most < partners)
 }
 
-// Whom to take out of s, by one of two rules. Every answer is right for `falls_short`; these two make it find most of the sets
-// that have too few pairs.
-fn hub(graph: &[u16; 16], s: u16, most: bool) -> usize {
-    if most {
-        return with_most(graph, s);
-    }
-    partner_of_fewest(graph, s)
+// A partner within s of the member of s that has the fewest there.
+fn partner_of_fewest(graph: &[u16; 16], s: u16) -> Option<usize> {
+    let i = champion(graph, s, |partners, fewest| partners < fewest)?;
+    let row = graph.get(i)?;
+    Some(lowest(intersection(*row, s)))
 }
 
-// Whether x members of s, for some x below k, can be taken out so that the others have fewer than k - x pairs, by one of the rules
-// for whom to take out. Then no matching within s has k pairs (the Tutte-Berge bound).
-fn falls_short(graph: &[u16; 16], s: u16, k: usize, most: bool) -> bool
-    requires { Symmetric graph.now × (k ≤ 8) }
+// Whether x members of s, for some x below k, can be taken out so that the others have fewer than k - x pairs; `hub` is the rule for whom
+// to take out. Then no matching within s has k pairs (the Tutte-Berge bound).
+fn falls_short<F: Fn(&[u16; 16], u16) -> Option<usize>>(
+    graph: &[u16; 16],
+    s: u16,
+    k: usize,
+    hub: F,
+) -> bool
+    requires symmetric { Symmetric graph.now }
+    requires few { k ≤ 8 }
+    requires callable { F.IsAlwaysCallable hub }
     ensures { result ≡ true → NoneOfSize (Within graph.now s) k }
 {
     let mut left = s;
-    let mut x: usize = 0;
-    while x < k {
+    for x in 0..k {
         if halves(graph, left) + x < k {
             return true;
         }
-        left = remove(left, hub(graph, left, most));
-        x += 1;
+        match hub(graph, left) {
+            Some(y) => left = remove(left, y),
+            None => return false,
+        }
     }
     false
 }
 
-// The same by either rule.
+// The same by two rules. Every rule is right; these two find most of the sets that have too few pairs.
 fn is_hopeless(graph: &[u16; 16], s: u16, k: usize) -> bool
     requires { Symmetric graph.now × (k ≤ 8) }
     ensures { result ≡ true → NoneOfSize (Within graph.now s) k }
 {
-    if falls_short(graph, s, k, true) {
-        return true;
-    }
-    falls_short(graph, s, k, false)
-}
-
-// What a search for a matching finds: its pairs, the first one last.
-#[derive(Clone, Copy)]
-struct Search {
-    pub ok: bool,
-    pub small: [u8; 8],
-    pub large: [u8; 8],
-}
-
-// The matching with one pair more, as its first.
-fn with_pair(f: Search, at: usize, v: usize, w: usize) -> Search
-    requires { (at < 8) × (v < 256) × (w < 256) }
-    ensures { (result.ok ≡ true) × (result.small ≡ set f.small at v) × (result.large ≡ set f.large at w) }
-{
-    let mut r = f;
-    r.ok = true;
-    r.small[at] = v as u8;
-    r.large[at] = w as u8;
-    r
-}
-
-// No pair.
-fn no_pair(ok: bool) -> Search
-    ensures { (result.ok ≡ ok) × (result.small ≡ ends (λ p. p.0) []) × (result.large ≡ ends (λ p. p.1) []) }
-{
-    Search {
-        ok,
-        small: [0u8; 8],
-        large: [0u8; 8],
-    }
+    falls_short(graph, s, k, with_most) || falls_short(graph, s, k, partner_of_fewest)
 }
 
 // The first matching of k pairs within the remaining controllers s, if there is one.
-fn first_of_size(graph: &[u16; 16], s: u16, k: usize) -> Search
+fn first_of_size(graph: &[u16; 16], s: u16, k: usize) -> Option<Matching>
     requires { Symmetric graph.now × (k ≤ 8) }
-    ensures { Searched graph.now s k result.ok result.small result.large }
+    ensures { Searched graph.now s k result }
 {
     if k == 0 {
-        return no_pair(true);
+        return Some(Matching::empty());
     }
-    if s == 0 {
-        return no_pair(false);
-    }
-    if is_hopeless(graph, s, k) {
-        return no_pair(false);
+    if s == 0 || is_hopeless(graph, s, k) {
+        return None;
     }
     let v = lowest(s);
     let rest = remove(s, v);
-    let mut left = intersection(graph[v], rest);
-    while 0 < left {
-        let w = lowest(left);
-        left = remove(left, w);
-        let r = first_of_size(graph, remove(rest, w), k - 1);
-        if r.ok {
-            return with_pair(r, k - 1, v, w);
+    let partners = intersection(graph[v], rest);
+    for w in 0..16 {
+        if member(partners, w) {
+            if let Some(m) = first_of_size(graph, remove(rest, w), k - 1) {
+                return Some(m.with(v, w));
+            }
         }
     }
     first_of_size(graph, rest, k)
-}
-
-// A matching: its pairs, each the smaller end first, the first pair last; zeros after them.
-#[derive(Clone, Copy)]
-pub struct Matching {
-    pub count: usize,
-    pub small: [u8; 8],
-    pub large: [u8; 8],
 }
 
 // The first largest matching within s.
@@ -210,25 +183,12 @@ fn first_largest(graph: &[u16; 16], s: u16) -> Matching
     requires { Symmetric graph.now }
     ensures { Largest graph.now s result }
 {
-    let mut k: usize = 8;
-    while 0 < k {
-        let f = first_of_size(graph, s, k);
-        if f.ok {
-            let small = f.small;
-            let large = f.large;
-            return Matching {
-                count: k,
-                small,
-                large,
-            };
+    for k in (1..9).rev() {
+        if let Some(m) = first_of_size(graph, s, k) {
+            return m;
         }
-        k -= 1;
     }
-    Matching {
-        count: 0,
-        small: [0u8; 8],
-        large: [0u8; 8],
-    }
+    Matching::empty()
 }
 
 // Of the largest matchings of the missing pairs below n, of 16 at most, the first in dictionary order. No two lists of pairs are that

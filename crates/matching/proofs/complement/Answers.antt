@@ -11,32 +11,14 @@ use Prim.Native.Nat.{min}
 use Rattle.matching.proofs.complement.Goals as goal
 
 pub loop-i-init : goal.loop-i-init
-loop-i-init c = (omega arith, sym (filled_none _ _))
-
-pub missing_row-requires : goal.missing_row-requires
-missing_row-requires c = tt
-
-pub offset_bounds-graph-i : goal.offset_bounds-graph-i
-offset_bounds-graph-i c = omega arith
-
-pub bounds-graph-i : goal.bounds-graph-i
-bounds-graph-i c = omega arith
-
-pub overflow_add-i : goal.overflow_add-i
-overflow_add-i c = omega arith
-
-pub loop-i-smaller : goal.loop-i-smaller
-loop-i-smaller c = omega arith
+loop-i-init c = sym (filled_none _ _)
 
 pub loop-i-preserved : goal.loop-i-preserved
 loop-i-preserved c =
-    let A = c.args in (
-      omega arith,
-      fill_more (missing (min A.n 16) (adjacent A.bits)) c.loop-i.i (replicate 16 0) c.loop-i.graph c.missing_row.result (omega arith)
-          c.loop-i.invariant.1
-          (c.missing_row.ensures ∙ missing_16 A.bits A.n c.loop-i.i),
-    )
+    let A = c.args in
+    fill_more (missing (min A.n 16) (adjacent A.bits)) c.loop-i.i (replicate 16 0) c.loop-i.row-items c.missing_row.result (omega arith) c.loop-i.invariant
+    (c.missing_row.ensures ∙ missing_16 A.bits A.n c.loop-i.i)
 
 pub returns : goal.returns
 unfolding complement
-returns c = fill_end _ _ _ _ c.loop-i.invariant.1 (omega arith)
+returns c = fill_end _ _ _ _ c.loop-i.invariant (omega arith)

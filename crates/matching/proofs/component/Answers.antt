@@ -4,32 +4,14 @@ use Prim.Native.Nat.{◌<◌}
 use native.Mathlib.Omega.{arith}
 use Rattle.matching.proofs.component.Goals as goal
 
-pub insert-c-requires : goal.insert-c-requires
-insert-c-requires c = tt
-
 pub loop-next-init : goal.loop-next-init
 loop-next-init c = grow_start _ _ _ c.ranges.s.fits _ c.requires c.insert-c.ensures
-
-pub lowest-x-requires : goal.lowest-x-requires
-lowest-x-requires c = tt
-
-pub remove-unseen-requires : goal.remove-unseen-requires
-remove-unseen-requires c = tt
 
 pub offset_bounds-graph-x : goal.offset_bounds-graph-x
 offset_bounds-graph-x c = omega (arith, (let low : c.lowest-x.result < 16 = omega (arith, c.lowest-x.ensures, (lowest_in c.loop-next.next c.loop-next.invariant.next_small c.loop-next-test.true).0) in low))
 
 pub bounds-graph-x : goal.bounds-graph-x
 bounds-graph-x c = omega (arith, (let low : c.lowest-x.result < 16 = omega (arith, c.lowest-x.ensures, (lowest_in c.loop-next.next c.loop-next.invariant.next_small c.loop-next-test.true).0) in low))
-
-pub intersection-requires : goal.intersection-requires
-intersection-requires c = tt
-
-pub union-c-requires : goal.union-c-requires
-union-c-requires c = tt
-
-pub intersection-next-requires : goal.intersection-next-requires
-intersection-next-requires c = tt
 
 pub loop-next-smaller : goal.loop-next-smaller
 loop-next-smaller c =

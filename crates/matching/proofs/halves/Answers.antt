@@ -11,18 +11,9 @@ use Rattle.matching.proofs.halves.Goals as goal
 pub loop-left-init : goal.loop-left-init
 loop-left-init c = halve_start _ c.requires _ c.ranges.s.fits
 
-pub lowest-requires : goal.lowest-requires
-lowest-requires c = tt
-
 pub component-c-requires : goal.component-c-requires
 component-c-requires c =
     subst (In c.loop-left.left) (sym c.lowest.ensures) (lowest_in c.loop-left.left c.loop-left.invariant.small c.loop-left-test.true).1
-
-pub difference-left-requires : goal.difference-left-requires
-difference-left-requires c = tt
-
-pub size-requires : goal.size-requires
-size-requires c = tt
 
 pub overflow_add-sum : goal.overflow_add-sum
 overflow_add-sum c =

@@ -1,9 +1,0 @@
--- `matching::with_most` is safe and ends.
-use Prim.Native.Nat.{◌-◌}
-use Rattle.matching.proofs.with_most.Given as goal
-
-abbrev pub invariant-loop-i : goal.invariant-loop-i
-invariant-loop-i l = Unit {0}
-
-abbrev pub decreases-loop-i : goal.decreases-loop-i
-decreases-loop-i l = 16 - l.i
