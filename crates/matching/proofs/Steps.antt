@@ -12,7 +12,7 @@ use Rattle.lists.specs.Sum.{count}
 use Rattle.lists.proofs.Tests.{true≢false, bool_ext, same_or_not}
 use Rattle.lists.proofs.Sums.{count_le, below_suc}
 use Rattle.bitset.specs.Set.{member, size_of, inserted, removed, intersection, difference, union, lowest_of}
-use Rattle.bitset.proofs.Laws.{size_le, size_below, size_remove, insert_lt, remove_lt, lowest_member, lowest_least, lowest_some, none_in_0}
+use Rattle.bitset.proofs.Laws.{size_le, size_below, size_remove, insert_lt, remove_lt, lowest_member, lowest_least, none_in_0}
 use Rattle.bitset.proofs.Laws.{intersection_lt, difference_lt}
 use Rattle.graph.specs.Pairs.{Pair}
 use Rattle.matching.specs.Steps.{In, Edge, Symmetric, Joined, Within, AtMost, NoneOfSize, FirstOfSize, Closed, Found, Searched, Largest}
@@ -30,9 +30,12 @@ one_more k h = omega arith
 plus-zero : (b : ℕ) → b ≡ b + 0
 plus-zero b = omega arith
 
--- a set that is not empty has its least member
-pub lowest_in : (s : ℕ) → s < 2 ^ 16 → 0 < s → (lowest_of s < 16) × In s (lowest_of s)
-lowest_in s h p = let l = lowest_some s h p in (l, lowest_member s l)
+-- x is the least member of s
+abbrev pub Least : ℕ → ℕ → Type 0
+Least s x = (x ≡ lowest_of s) × (x < 16)
+
+pub least_in : (s x : ℕ) → Least s x → In s x
+least_in s x l = subst (In s) (sym l.0) (lowest_member s (omega (arith, l.0, l.1)))
 
 -- ---- a component: c is reached, the partners of those outside `unseen` are in it
 pub record Growing (graph : List ℕ) (s v c unseen next : ℕ) : Type 0 where
@@ -57,10 +60,10 @@ module _ (graph : List ℕ) (s v : ℕ) (hs : s < 2 ^ 16) where
         next_small = subst (λ (z : ℕ). z < 2 ^ 16) (sym e) (insert_lt 0 v);
       }
 
-  pub grow_more : (c unseen next x d c' unseen' next' : ℕ) → Growing graph s v c unseen next → 0 < next → x ≡ lowest_of next → unseen' ≡ removed unseen x
+  pub grow_more : (c unseen next x d c' unseen' next' : ℕ) → Growing graph s v c unseen next → Least next x → unseen' ≡ removed unseen x
       → d ≡ intersection (get_or graph x 0) s → c' ≡ union c d → next' ≡ intersection c' unseen' → Growing graph s v c' unseen' next'
-  grow_more c unseen next x d c' unseen' next' g p ex eu ed ec en =
-      let low : In c x = subst (In c) (sym ex) (g.next_out (lowest_of next) (lowest_in next g.next_small p).1).0 in
+  grow_more c unseen next x d c' unseen' next' g l eu ed ec en =
+      let low : In c x = (g.next_out x (least_in next x l)).0 in
       let grown : (y : ℕ) → In c y → In c' y = λ y a. subst (λ (z : ℕ). In z y) (sym ec) (union_left c d y (in_lt s y hs (g.part y a)) a) in
       let part : (y : ℕ) → In c' y → In s y = λ y a. ⊎_elim (g.part y) (λ b. (in_intersection (get_or graph x 0) s y (subst (λ (z : ℕ). In z y) ed b)).1)
       (in_union c d y (subst (λ (z : ℕ). In z y) ec a)) in
@@ -77,12 +80,9 @@ module _ (graph : List ℕ) (s v : ℕ) (hs : s < 2 ^ 16) where
         next_small = subst (λ (z : ℕ). z < 2 ^ 16) (sym en) (intersection_lt c' unseen');
       }
 
-  pub grow_less : (c unseen next x unseen' : ℕ) → Growing graph s v c unseen next → 0 < next → x ≡ lowest_of next → unseen' ≡ removed unseen x
+  pub grow_less : (c unseen next x unseen' : ℕ) → Growing graph s v c unseen next → Least next x → unseen' ≡ removed unseen x
       → size_of unseen' < size_of unseen
-  grow_less c unseen next x unseen' g p ex eu =
-      let low = lowest_in next g.next_small p in
-      let u : In unseen x = subst (In unseen) (sym ex) (g.next_out (lowest_of next) low.1).1 in
-      omega (arith, size_remove unseen x (omega (arith, low.0)) u, ap size_of eu)
+  grow_less c unseen next x unseen' g l eu = omega (arith, size_remove unseen x l.1 (g.next_out x (least_in next x l)).1, ap size_of eu)
 
   pub grow_done : (c unseen next : ℕ) → Growing graph s v c unseen next → next ≡ 0 → Closed graph s c
   grow_done c unseen next g e =
@@ -101,9 +101,9 @@ module _ (graph : List ℕ) (both : Symmetric graph) (s : ℕ) where
   pub halve_start : s < 2 ^ 16 → Halving graph s s 0
   halve_start h = record { bound = λ b a. subst (AtMost (Within graph s)) (plus-zero b) a; small = h; fits = omega (arith, size_le s) }
 
-  module _ (left sum c : ℕ) (g : Halving graph s left sum) (p : 0 < left) (has : In c (lowest_of left)) (q : Closed graph left c) (hc : c < 2 ^ 16) where
+  module _ (left sum v c : ℕ) (g : Halving graph s left sum) (l : Least left v) (has : In c v) (q : Closed graph left c) (hc : c < 2 ^ 16) where
     pub halve_less : size_of (difference left c) < size_of left
-    halve_less = difference_fewer left c (lowest_of left) g.small (lowest_in left g.small p).1 has
+    halve_less = difference_fewer left c v g.small (least_in left v l) has
 
     -- the component, then the rest
     part_bound : (b : ℕ) → AtMost (Within graph (difference left c)) b → AtMost (Within graph left) (b + size_of c / 2)
@@ -181,14 +181,13 @@ pub none_in_empty : (graph : List ℕ) (s k : ℕ) → s ≡ 0 → (k ≡ 0 → 
 none_in_empty graph s k e n =
     subst (NoneOfSize (Within graph s)) (one_more k (omega arith)) (none_empty (Edge graph) (In s) (k - 1) (λ x a. none_in_0 x (subst (λ (z : ℕ). In z x) e a)))
 
-pub try_start : (graph : List ℕ) (s k v rest partners : ℕ) → s < 2 ^ 16 → (s ≡ 0 → ⊥) → (k ≡ 0 → ⊥) → k ≤ 8 → v ≡ lowest_of s → rest ≡ removed s v
+pub try_start : (graph : List ℕ) (s k v rest partners : ℕ) → Least s v → (k ≡ 0 → ⊥) → k ≤ 8 → rest ≡ removed s v
     → partners ≡ intersection (get_or graph v 0) rest → Trying graph s k v rest partners 0
-try_start graph s k v rest partners hs ns nk hk ev er ep =
-    let low = lowest_in s hs (omega arith) in
+try_start graph s k v rest partners l nk hk er ep =
     record {
-      has = subst (In s) (sym ev) low.1;
-      least = λ x a. omega (arith, lowest_least s x a);
-      low = omega (arith, low.0);
+      has = least_in s v l;
+      least = λ x a. omega (arith, l.0, lowest_least s x a);
+      low = l.1;
       rest_is = er;
       partners_are = ep;
       some = omega arith;

@@ -66,9 +66,7 @@ fn component(graph: &[u16; 16], s: u16, v: usize) -> u16
     let mut c = insert(0, v);
     let mut unseen = s;
     let mut next = c;
-    // No `for` over members: each turn adds to those that are left.
-    while 0 < next {
-        let x = lowest(next);
+    while let Some(x) = lowest(next) {
         unseen = remove(unseen, x);
         c = union(c, intersection(graph[x], s));
         next = intersection(c, unseen);
@@ -83,9 +81,8 @@ fn halves(graph: &[u16; 16], s: u16) -> usize
 {
     let mut left = s;
     let mut sum: usize = 0;
-    // No `for` over members: each turn takes a whole component of those that are left.
-    while 0 < left {
-        let c = component(graph, left, lowest(left));
+    while let Some(v) = lowest(left) {
+        let c = component(graph, left, v);
         left = difference(left, c);
         sum += size(c) / 2;
     }
@@ -117,7 +114,7 @@ fn with_most(graph: &[u16; 16], s: u16) -> Option<usize> {
 fn partner_of_fewest(graph: &[u16; 16], s: u16) -> Option<usize> {
     let i = champion(graph, s, |partners, fewest| partners < fewest)?;
     let row = graph.get(i)?;
-    Some(lowest(intersection(*row, s)))
+    lowest(intersection(*row, s))
 }
 
 // Whether x members of s, for some x below k, can be taken out so that the others have fewer than k - x pairs; `hub` is the rule for whom
@@ -162,10 +159,10 @@ fn first_of_size(graph: &[u16; 16], s: u16, k: usize) -> Option<Matching>
     if k == 0 {
         return Some(Matching::empty());
     }
-    if s == 0 || is_hopeless(graph, s, k) {
+    let v = lowest(s)?;
+    if is_hopeless(graph, s, k) {
         return None;
     }
-    let v = lowest(s);
     let rest = remove(s, v);
     let partners = intersection(graph[v], rest);
     for w in 0..16 {

@@ -1,29 +1,19 @@
 -- `first_of_size` meets its contract.
-use mathlib.Core.Path.{sym, ◌∙◌}
+use mathlib.Core.Path.{sym, subst, ◌∙◌}
 use native.Mathlib.Omega.{arith}
-use Rattle.matching.proofs.Steps.{none_in_empty, lowest_in, try_start, try_fail, try_skip, try_found, found-count, try_drop}
+use Rattle.matching.specs.Steps.{Searched}
+use Rattle.matching.proofs.Steps.{none_in_empty, try_start, try_fail, try_skip, try_found, found-count, try_drop}
 use Rattle.matching.proofs.Steps.{try_rest_less, try_less}
 use Rattle.matching.proofs.+first_of_size.Goals as goal
-use Rattle.matching.proofs.+first_of_size.Goals.{then-s-eq0-via-then-s-eq0, then-s-eq0-via-else-s-eq0+then-is_hopeless}
 use Rattle.matching.proofs.+first_of_size.Goals.{then-member+in_default, else-member}
 
-pub returns-then-s-eq0 : goal.returns-then-s-eq0
-returns-then-s-eq0 t c =
-    elim c.then-s-eq0.branch [
-      | then-s-eq0-via-then-s-eq0 w ↦ none_in_empty _ _ _ w.if-s-eq0.true c.if-k-eq0.false
-      | then-s-eq0-via-else-s-eq0+then-is_hopeless w ↦ w.is_hopeless.ensures w.if-is_hopeless.true
-    ]
-
-pub offset_bounds-graph-v : goal.offset_bounds-graph-v
-offset_bounds-graph-v t c = record { fits = omega (arith, c.lowest-v.ensures, (lowest_in c.args.s c.ranges.s.fits (omega (arith, c.if-s-eq0.false))).0) }
-
-pub bounds-graph-v : goal.bounds-graph-v
-bounds-graph-v t c = omega (arith, c.lowest-v.ensures, (lowest_in c.args.s c.ranges.s.fits (omega (arith, c.if-s-eq0.false))).0)
+pub returns-in_err-v : goal.returns-in_err-v
+returns-in_err-v t c =
+    subst (Searched _ _ _) (sym c.from_residual.ensures) (none_in_empty c.args.graph.now c.args.s c.args.k c.in_err-v.ensures c.if-k-eq0.false)
 
 pub loop-w-init : goal.loop-w-init
 loop-w-init t c =
-    try_start _ _ _ _ _ _ c.ranges.s.fits c.if-s-eq0.false c.if-k-eq0.false c.requires.1 c.lowest-v.ensures c.remove-rest.ensures
-    c.intersection-partners.ensures
+    try_start _ _ _ _ _ _ c.in_ok-v.ensures c.if-k-eq0.false c.requires.1 c.remove-rest.ensures c.intersection-partners.ensures
 
 pub first_of_size-requires : goal.first_of_size-requires
 first_of_size-requires t c = (

@@ -3,8 +3,8 @@ use Rattle.matching.proofs.Steps.{Growing}
 use Rattle.bitset.specs.Set.{size_of}
 use Rattle.matching.proofs.component.Given as goal
 
-abbrev pub invariant-loop-next : goal.invariant-loop-next
-invariant-loop-next l = Growing l.graph l.s l.v l.c l.unseen l.next
+abbrev pub invariant-loop-x : goal.invariant-loop-x
+invariant-loop-x l = Growing l.graph l.s l.v l.c l.unseen l.next
 
-abbrev pub decreases-loop-next : goal.decreases-loop-next
-decreases-loop-next l = size_of l.unseen
+abbrev pub decreases-loop-x : goal.decreases-loop-x
+decreases-loop-x l = size_of l.unseen
