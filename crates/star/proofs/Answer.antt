@@ -4,20 +4,19 @@ use mathlib.Core.List.{List}
 use mathlib.Core.Bool.{Bool, true, false}
 use Prim.Native.Nat.{ℕ, ◌≤◌, ◌<◌, min}
 use native.Mathlib.Omega.{arith}
-use lib.ListN.{get_or}
 use Rattle.lists.proofs.Tests.{cond_yes, cond_no}
 use Rattle.settings.specs.Valid.{Quorum}
-use Rattle.settings.proofs.Laws.{star_0, 0_star}
+use Rattle.settings.specs.Number.{row_of}
+use Rattle.settings.specs.declared.Refusal.{Refusal}
+use Rattle.settings.proofs.Laws.{star_0, 0_star, row_least}
 use Rattle.graph.specs.Pairs.{Pair}
 use Rattle.graph.specs.Bits.{adjacent}
-use Rattle.graph.proofs.Laws.{adjacent_sym}
 use Rattle.matching.specs.Matching.{Each, FirstLargest, Missing}
 use Rattle.matching.specs.declared.Matching.{Matching}
 use Rattle.matching.specs.Answer.{pairs_of, IsFirstLargest}
-use Rattle.matching.proofs.Laws.{matching_half, count-pairs, pair_at_index, pair_at, each_map}
-use Rattle.star.specs.declared.Sets.{Sets}
-use Rattle.star.specs.Star.{sets_from, no_sets, is_large, star_with, refusal_for, IsStar}
-use Rattle.star.specs.Steps.{Ends}
+use Rattle.matching.proofs.Laws.{each_map}
+use Rattle.star.specs.Star.{Star, sets_from, no_sets, is_large, star_with, refusal_for, IsStar}
+use Rattle.star.specs.Steps.{Below}
 
 module _ (n t : ℕ) where
   pub refusal_0 : refusal_for n t ≡ 0 → Quorum n t
@@ -36,36 +35,24 @@ module _ (bits : List ℕ) (n t : ℕ) where
   abbrev adj : ℕ → ℕ → Bool
   adj = adjacent bits
 
-  pub refused : (r : Sets) (number : ℕ) → number ≡ refusal_for n t → (number ≡ 0 → ⊥) → r ≡ no_sets number → IsStar n t adj r
-  refused r number e ne h = record { refused = λ _. h ∙ ap no_sets e; carried = λ z. absurd (ne (e ∙ z)) }
+  pub refused : (r : Refusal) → row_of r ≡ refusal_for n t → IsStar n t adj (no_sets (row_of r))
+  refused r e = record { refused = λ _. ap no_sets e; carried = λ z. absurd (omega (arith, row_least r, e, z)) }
 
   module _ (taken : refusal_for n t ≡ 0) (most : n ≤ 16) (m : Matching) (largest : IsFirstLargest (min n 16) adj m) where
     big : FirstLargest (Missing n adj) (pairs_of m)
     big = let same : min n 16 ≡ n = omega arith in subst (λ (x : ℕ). FirstLargest (Missing x adj) (pairs_of m)) same largest.first_largest
 
-    at : (i : ℕ) → i < m.count → (get_or m.small i 0 < n) × (get_or m.large i 0 < n)
-    at i l = let a = pair_at n adj (adjacent_sym bits) (pairs_of m) big _ (pair_at_index m i l) in (omega (arith, a.0, a.1), a.1)
+    pub below : Below n (pairs_of m)
+    below = ends-below n adj (pairs_of m) big
 
-    pub ends : Ends n m
-    ends =
-        record {
-          few = omega (arith, count-pairs m, matching_half n adj (pairs_of m) big.matches);
-          small = λ i l. (at i l).0;
-          large = λ i l. (at i l).1;
-        }
-
-    carry : (r : Sets) → r ≡ star_with n t adj (pairs_of m) → IsStar n t adj r
+    carry : (r : Star) → r ≡ star_with n t adj (pairs_of m) → IsStar n t adj r
     carry r e = record { refused = λ z. absurd (z taken); carried = λ _. (pairs_of m, big, e) }
 
-    pub answered : (s : Sets) → s ≡ sets_from n t adj (pairs_of m) → is_large n t s ≡ true → IsStar n t adj s
+    pub answered : (s : Star) → s ≡ sets_from n t adj (pairs_of m) → is_large n t s ≡ true → IsStar n t adj s
     answered s e y =
-        let S = sets_from n t adj (pairs_of m) in carry s (e ∙ sym (cond_yes (is_large n t S) S (no_sets 0) (subst (λ (x : Sets). is_large n t x ≡ true) e y)))
+        let S = sets_from n t adj (pairs_of m) in carry s (e ∙ sym (cond_yes (is_large n t S) S (no_sets 0) (subst (λ (x : Star). is_large n t x ≡ true) e y)))
 
-    pub not-large : (s r : Sets) → s ≡ sets_from n t adj (pairs_of m) → is_large n t s ≡ false → r ≡ no_sets 0 → IsStar n t adj r
+    pub not-large : (s r : Star) → s ≡ sets_from n t adj (pairs_of m) → is_large n t s ≡ false → r ≡ no_sets 0 → IsStar n t adj r
     not-large s r e y h =
         let S = sets_from n t adj (pairs_of m) in
-        carry r (h ∙ sym (cond_no (is_large n t S) S (no_sets 0) (subst (λ (x : Sets). is_large n t x ≡ false) e y)))
-
--- indices below n are below 16
-pub ends_16 : (n : ℕ) (m : Matching) → n ≤ 16 → Ends n m → Ends 16 m
-ends_16 n m most e = record { few = e.few; small = λ i l. omega (arith, e.small i l); large = λ i l. omega (arith, e.large i l) }
+        carry r (h ∙ sym (cond_no (is_large n t S) S (no_sets 0) (subst (λ (x : Star). is_large n t x ≡ false) e y)))

@@ -20,8 +20,7 @@ use Rattle.graph.specs.Pairs.{Pair}
 use Rattle.graph.proofs.Laws.{neighbour_sym, neighbour_self}
 use Rattle.matching.specs.First.{matching_of}
 use Rattle.matching.proofs.Laws.{matching_first}
-use Rattle.star.specs.declared.Sets.{Sets}
-use Rattle.star.specs.Star.{set_C, set_D, set_F, set_e, sets_from, no_sets, is_large, star_from, refusal_for, star_of, found}
+use Rattle.star.specs.Star.{Star, set_C, set_D, set_F, set_e, sets_from, no_sets, is_large, star_from, refusal_for, star_of, found}
 use Rattle.star.proofs.Parts.{c_lt, at_least_lt}
 use Rattle.star.proofs.Answer.{refusal_0, 0_refusal}
 use Rattle.star.proofs.Core as core
@@ -44,11 +43,11 @@ unfolding set_e
 e_lt_set n t adj M = at_least_lt n adj (set_F n t adj M) (2 * t + 1)
 
 module _ (rows : List ℕ) (n t : ℕ) where
-  abbrev S : Sets
+  abbrev S : Star
   S = sets_from n t (neighbour rows) (matching_of n (neighbour rows))
 
   -- what holds of large sets, where the settings are valid, and of empty ones
-  by_cases : (P : Sets → Type 0) → (Quorum n t → is_large n t S ≡ true → P S) → ((r : ℕ) → P (no_sets r)) → P (star_of rows n t)
+  by_cases : (P : Star → Type 0) → (Quorum n t → is_large n t S ≡ true → P S) → ((r : ℕ) → P (no_sets r)) → P (star_of rows n t)
   unfolding star_of star_from
   by_cases P large none = valid (eqb (refusal_for n t) 0) refl
     where
@@ -133,7 +132,7 @@ module _ (rows : List ℕ) (n t : ℕ) where
   found-valid = by_cases (λ s. found s ≡ true → Quorum n t) (λ q _ _. q) (λ r h. absurd (not_none r h))
 
   -- the sizes, as counts of the indices below n
-  sizes : (s : Sets) → Quorum n t → s.c < 2 ^ n → s.d < 2 ^ n → s.f < 2 ^ n → s.e < 2 ^ n → is_large n t s ≡ true
+  sizes : (s : Star) → Quorum n t → s.c < 2 ^ n → s.d < 2 ^ n → s.f < 2 ^ n → s.e < 2 ^ n → is_large n t s ≡ true
       → (n ≤ count n (member s.c) + 2 * t) × (n ≤ count n (member s.d) + t) × (2 * t + 1 ≤ count n (member s.f)) × (2 * t + 1 ≤ count n
       (member s.e))
   unfolding is_large
@@ -251,13 +250,13 @@ module _ (rows : List ℕ) (n t : ℕ) where
     pub clique_core : (x : ℕ) → x < n → H x ≡ true → member (star_of rows n t).e x ≡ true
     unfolding sets_from
     clique_core x l h =
-        ap (λ (s : Sets). member s.e x) is_S ∙ core.clique_in_E n t adj (neighbour_sym rows) (neighbour_self rows) M (matching_first n adj) H clique many
+        ap (λ (s : Star). member s.e x) is_S ∙ core.clique_in_E n t adj (neighbour_sym rows) (neighbour_self rows) M (matching_first n adj) H clique many
         q.t_most x l h
 
     pub clique_f : (x : ℕ) → x < n → H x ≡ true → member (star_of rows n t).f x ≡ true
     unfolding sets_from
     clique_f x l h =
-        ap (λ (s : Sets). member s.f x) is_S ∙ core.clique_in_F n t adj (neighbour_sym rows) (neighbour_self rows) M (matching_first n adj) H clique many
+        ap (λ (s : Star). member s.f x) is_S ∙ core.clique_in_F n t adj (neighbour_sym rows) (neighbour_self rows) M (matching_first n adj) H clique many
         q.t_most x l h
 
   -- ---- the correct, of whom at most t of the n are lacking

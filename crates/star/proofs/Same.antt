@@ -17,8 +17,7 @@ use Rattle.graph.proofs.Laws.{neighbour_sym, neighbour_self, neighbour_same, adj
 use Rattle.matching.specs.Matching.{Missing}
 use Rattle.matching.specs.First.{matching_of}
 use Rattle.matching.proofs.Laws.{one_matching, matching_first, same_graph}
-use Rattle.star.specs.declared.Sets.{Sets}
-use Rattle.star.specs.Star.{no_sets, is_large, star_with, refusal_for, IsStar, star_from, star_for, star_of, star_of_bits, StarIsOne, StarOfBits}
+use Rattle.star.specs.Star.{Star, no_sets, is_large, star_with, refusal_for, IsStar, star_from, star_for, star_of, star_of_bits, StarIsOne, StarOfBits}
 use Rattle.star.proofs.Parts.{sets_same}
 use Rattle.star.proofs.Answer.{refusal_0, ends-below}
 
@@ -48,17 +47,17 @@ star_is_one n t adj s = (to, from)
           );
         }
 
-pub star_of_lem : (rows : List ℕ) (n t : ℕ) (s : Sets) → IsStar n t (neighbour rows) s → s ≡ star_of rows n t
+pub star_of_lem : (rows : List ℕ) (n t : ℕ) (s : Star) → IsStar n t (neighbour rows) s → s ≡ star_of rows n t
 unfolding star_of
 star_of_lem rows n t s = (star_is_one n t (neighbour rows) s).0
 
-pub star_of-pairs : (bits : List ℕ) (n t : ℕ) (s : Sets) → IsStar n t (adjacent bits) s → s ≡ star_of_bits bits n t
+pub star_of-pairs : (bits : List ℕ) (n t : ℕ) (s : Star) → IsStar n t (adjacent bits) s → s ≡ star_of_bits bits n t
 unfolding star_of_bits
 star_of-pairs bits n t s = (star_is_one n t (adjacent bits) s).0
 
 -- ---- only who are neighbours below n counts, and that only where the settings are valid
 module _ (n t : ℕ) (adj nadj : ℕ → ℕ → Bool) (same : Quorum n t → (i j : ℕ) → i < n → j < n → adj i j ≡ nadj i j) where
-  pub same_is_star : (s : Sets) → IsStar n t adj s → IsStar n t nadj s
+  pub same_is_star : (s : Star) → IsStar n t adj s → IsStar n t nadj s
   same_is_star s r =
       record {
         refused = r.refused;
@@ -67,7 +66,7 @@ module _ (n t : ℕ) (adj nadj : ℕ → ℕ → Bool) (same : Quorum n t → (i
             let e = same (refusal_0 n t z) in (
               m.0,
               same_graph n adj nadj e m.0 m.1,
-              m.2 ∙ ap (λ (x : Sets). cond (is_large n t x) x (no_sets 0)) (sets_same n adj nadj e t m.0 (ends-below n adj m.0 m.1)),
+              m.2 ∙ ap (λ (x : Star). cond (is_large n t x) x (no_sets 0)) (sets_same n adj nadj e t m.0 (ends-below n adj m.0 m.1)),
             );
       }
 
@@ -91,7 +90,7 @@ same_bits a b n t same = same_for n t (adjacent a) (adjacent b) (λ q. adjacent_
 bits_say : (rows : List ℕ) (n t : ℕ) → Quorum n t → (i j : ℕ) → i < n → j < n → adjacent (bits_of n (neighbour rows)) i j ≡ neighbour rows i j
 bits_say rows n t q = adjacent_of n (neighbour rows) (neighbour_self rows) (neighbour_sym rows) q.n_most
 
-pub bits_star : (rows : List ℕ) (n t : ℕ) (bits : List ℕ) (s : Sets) → bits ≡ bits_of n (neighbour rows) → IsStar n t (adjacent bits) s
+pub bits_star : (rows : List ℕ) (n t : ℕ) (bits : List ℕ) (s : Star) → bits ≡ bits_of n (neighbour rows) → IsStar n t (adjacent bits) s
     → IsStar n t (neighbour rows) s
 bits_star rows n t bits s e r =
     same_is_star n t (adjacent (bits_of n (neighbour rows))) (neighbour rows) (bits_say rows n t) s (subst (λ (b : List ℕ). IsStar n t (adjacent b) s) e r)
@@ -101,4 +100,4 @@ unfolding star_of star_of_bits
 star_of_bits_lem rows n t = same_for n t (adjacent (bits_of n (neighbour rows))) (neighbour rows) (bits_say rows n t)
 
 pub core_of_bits : (rows : List ℕ) (n t : ℕ) → (star_of_bits (bits_of n (neighbour rows)) n t).e ≡ (star_of rows n t).e
-core_of_bits rows n t = ap (λ (s : Sets). s.e) (star_of_bits_lem rows n t)
+core_of_bits rows n t = ap (λ (s : Star). s.e) (star_of_bits_lem rows n t)

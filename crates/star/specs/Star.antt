@@ -7,6 +7,7 @@
 --   at_least n adj s k   those with at least k neighbours in the set s
 --   set_F n t adj M      F: those with at least t + 1 neighbours in C
 --   set_e n t adj M      E: those with at least 2t + 1 neighbours in F
+--   Star                 the number of a refusal, or 0, and the four sets
 --   sets_from n t adj M  the four sets
 --   no_sets r            four empty sets, with the refusal's number
 --   is_large n t s       C has at least n - 2t members, D at least n - t, F and E at least 2t + 1
@@ -15,6 +16,9 @@
 --   IsStar n t adj s     s is the star of the graph: refused, the number and no sets; else the star with the matching that, of the largest ones, is the
 --                        first in dictionary order (`FirstLargest`)
 --   found s              the core is found: E is not empty
+-- What the code answers, as such a record; no two answers are the same one:
+--   four s               four sets
+--   sets_of r            the sets, or the refusal and no sets
 -- The star as a function, for callers that need one:
 --   star_from n t adj      the star with `matching_of n adj`
 --   star_for n t adj       the star of the graph
@@ -22,10 +26,12 @@
 --   star_of_bits bits n t  of the graph of any 120 bits (document 02, U9)
 --   StarIsOne              the relation holds of what the function answers and of nothing else (proofs/Same: `star_is_one`)
 --   StarOfBits             the star of the bits of the rows is the star of the rows (proofs/Same: `star_of_bits_lem`)
-use Rattle.std.specs.Prelude.{◌≡◌, List, Bool, cond, not, ◌&&◌, ℕ, ◌+◌, ◌-◌, ◌*◌, eqb, ltb, leb}
+use Rattle.std.specs.Prelude.{◌≡◌, List, Bool, cond, not, ◌&&◌, ℕ, ◌+◌, ◌-◌, ◌*◌, eqb, ltb, leb, Result, Ok, Err}
 use Rattle.lists.specs.Sum.{count}
 use Rattle.bitset.specs.Set.{member, set_of, size_of}
 use Rattle.settings.specs.Refusal.{star_refusal}
+use Rattle.settings.specs.Number.{row_of}
+use Rattle.settings.specs.declared.Refusal.{Refusal}
 use Rattle.graph.specs.Neighbour.{neighbour}
 use Rattle.graph.specs.Pairs.{Pair}
 use Rattle.graph.specs.Bits.{bits_of, adjacent}
@@ -54,43 +60,57 @@ set_F n t adj M = at_least n adj (set_C n adj M) (t + 1)
 unfoldable pub set_e : ℕ → ℕ → (ℕ → ℕ → Bool) → List Pair → ℕ
 set_e n t adj M = at_least n adj (set_F n t adj M) (2 * t + 1)
 
-unfoldable pub sets_from : ℕ → ℕ → (ℕ → ℕ → Bool) → List Pair → Sets
+pub record Star : Type 0 where
+  pub refusal : ℕ
+  pub c : ℕ
+  pub d : ℕ
+  pub f : ℕ
+  pub e : ℕ
+
+unfoldable pub sets_from : ℕ → ℕ → (ℕ → ℕ → Bool) → List Pair → Star
 sets_from n t adj M = record { refusal = 0; c = set_C n adj M; d = set_D n adj M; f = set_F n t adj M; e = set_e n t adj M }
 
-unfoldable pub no_sets : ℕ → Sets
+unfoldable pub no_sets : ℕ → Star
 no_sets r = record { refusal = r; c = 0; d = 0; f = 0; e = 0 }
 
-unfoldable pub is_large : ℕ → ℕ → Sets → Bool
+unfoldable pub is_large : ℕ → ℕ → Star → Bool
 is_large n t s =
     leb (n - 2 * t) (size_of s.c) && (leb (n - t) (size_of s.d) && (leb (2 * t + 1) (size_of s.f) && leb (2 * t + 1) (size_of s.e)))
 
-abbrev pub star_with : ℕ → ℕ → (ℕ → ℕ → Bool) → List Pair → Sets
+abbrev pub star_with : ℕ → ℕ → (ℕ → ℕ → Bool) → List Pair → Star
 star_with n t adj M = cond (is_large n t (sets_from n t adj M)) (sets_from n t adj M) (no_sets 0)
 
 unfoldable pub refusal_for : ℕ → ℕ → ℕ
 refusal_for n t = star_refusal n t
 
-pub record IsStar (n t : ℕ) (adj : ℕ → ℕ → Bool) (s : Sets) : Type 0 where
+pub record IsStar (n t : ℕ) (adj : ℕ → ℕ → Bool) (s : Star) : Type 0 where
   pub refused : (refusal_for n t ≡ 0 → ⊥) → s ≡ no_sets (refusal_for n t)
   pub carried : refusal_for n t ≡ 0 → (M : List Pair) × FirstLargest (Missing n adj) M × (s ≡ star_with n t adj M)
 
-unfoldable pub found : Sets → Bool
+unfoldable pub found : Star → Bool
 found s = ltb 0 s.e
 
-unfoldable pub star_from : ℕ → ℕ → (ℕ → ℕ → Bool) → Sets
+abbrev pub four : Sets → Star
+four s = record { refusal = 0; c = s.c; d = s.d; f = s.f; e = s.e }
+
+abbrev pub sets_of : Result Sets Refusal → Star
+sets_of (Ok s) = four s
+sets_of (Err r) = no_sets (row_of r)
+
+unfoldable pub star_from : ℕ → ℕ → (ℕ → ℕ → Bool) → Star
 star_from n t adj = star_with n t adj (matching_of n adj)
 
-abbrev pub star_for : ℕ → ℕ → (ℕ → ℕ → Bool) → Sets
+abbrev pub star_for : ℕ → ℕ → (ℕ → ℕ → Bool) → Star
 star_for n t adj = cond (eqb (refusal_for n t) 0) (star_from n t adj) (no_sets (refusal_for n t))
 
-unfoldable pub star_of : List ℕ → ℕ → ℕ → Sets
+unfoldable pub star_of : List ℕ → ℕ → ℕ → Star
 star_of rows n t = star_for n t (neighbour rows)
 
-unfoldable pub star_of_bits : List ℕ → ℕ → ℕ → Sets
+unfoldable pub star_of_bits : List ℕ → ℕ → ℕ → Star
 star_of_bits bits n t = star_for n t (adjacent bits)
 
 abbrev pub StarIsOne : Type 0
-StarIsOne = (n t : ℕ) (adj : ℕ → ℕ → Bool) (s : Sets) → (IsStar n t adj s → s ≡ star_for n t adj) × (s ≡ star_for n t adj → IsStar n t adj s)
+StarIsOne = (n t : ℕ) (adj : ℕ → ℕ → Bool) (s : Star) → (IsStar n t adj s → s ≡ star_for n t adj) × (s ≡ star_for n t adj → IsStar n t adj s)
 
 abbrev pub StarOfBits : Type 0
 StarOfBits = (rows : List ℕ) (n t : ℕ) → star_of_bits (bits_of n (neighbour rows)) n t ≡ star_of rows n t
