@@ -5,10 +5,11 @@
 //     cargo run --release --bin star_vectors > crates/star_cases/stdout
 #![tactic(auto)]
 
-ghost use Rattle.std.specs.Prelude.{◌≤◌, ◌<◌};
+ghost use Rattle.std.specs.Prelude.{◌≤◌};
 
+use settings::Refusal;
 use star::Sets;
-use std::io;
+use std::{array, io};
 
 // 16 bits for a purpose, a graph and two controllers.
 fn draw(purpose: usize, k: usize, i: usize, j: usize) -> usize {
@@ -17,52 +18,26 @@ fn draw(purpose: usize, k: usize, i: usize, j: usize) -> usize {
 
 // The largest odd number that is at most n, or 0.
 fn odd(n: usize) -> usize {
-    if n == 0 {
-        return 0;
-    }
-    n - 1 + n % 2
-}
-
-// a - b, or 0.
-fn less(a: usize, b: usize) -> usize {
-    if a < b {
-        return 0;
-    }
-    a - b
+    n.saturating_sub(1) + n % 2
 }
 
 // An odd cycle through the first m.
 fn on_cycle(m: usize, i: usize, j: usize) -> bool {
-    if m <= j {
-        return false;
-    }
     if i == 0 {
-        return j == 1 || less(m, 1) == j;
+        return j < m && (j == 1 || j == m - 1);
     }
-    less(j, 1) == i
+    j < m && i == j.saturating_sub(1)
 }
 
 // Two odd cliques.
 fn in_cliques(n: usize, i: usize, j: usize) -> bool {
     let a = odd(n / 2);
-    if j < a {
-        return true;
-    }
-    if i < a {
-        return false;
-    }
-    less(j, a) < odd(less(n, a))
+    j < a || a <= i && j.saturating_sub(a) < odd(n.saturating_sub(a))
 }
 
 // A path of four whose middle pair comes first.
 fn on_path(i: usize, j: usize) -> bool {
-    if i / 4 != j / 4 {
-        return false;
-    }
-    if i % 4 == 0 {
-        return j % 4 != 3;
-    }
-    i % 4 == 1 && j % 4 == 3
+    i / 4 == j / 4 && (i % 4 == 0 && j % 4 != 3 || i % 4 == 1 && j % 4 == 3)
 }
 
 // Whether i and j, i the smaller, are to be no neighbours in graph k of n controllers.
@@ -73,27 +48,19 @@ fn apart(k: usize, n: usize, t: usize, i: usize, j: usize) -> bool {
         2 => on_cycle(odd(n), i, j),
         3 => in_cliques(n, i, j),
         4 => i < t && t <= j,
-        5 => i < less(n, t) && less(n, t) <= j,
+        5 => i < n.saturating_sub(t) && n.saturating_sub(t) <= j,
         6 => i / 4 < t / 2 && on_path(i, j),
         7 => on_cycle(5, i, j),
         8 => j < 6 && i / 3 == j / 3,
-        9..=15 => draw(0, k, i, j) % 8 < less(k, 8),
-        16..=19 => less(n, t) <= j && draw(0, k, i, j) % 2 == 0,
+        9..=15 => draw(0, k, i, j) % 8 < k.saturating_sub(8),
+        16..=19 => n.saturating_sub(t) <= j && draw(0, k, i, j) % 2 == 0,
         20..=23 => (cases::is_third(t, i) || cases::is_third(t, j)) && draw(0, k, i, j) % 2 == 0,
         _ => draw(0, k, i, j) % 16 == 0,
     }
 }
 
-// Whether a marks b or the other way round, for a pair that are no neighbours: neither, the smaller, or the larger.
-fn half_mark(k: usize, a: usize, b: usize, from_smaller: bool) -> bool {
-    let d = draw(100, k, a, b) % 3;
-    if from_smaller {
-        return d == 1;
-    }
-    d == 2
-}
-
-// Whether i marks j. One's own mark and all past n are at random. From 28 on, each bit is set with a chance of k - 28 in 32.
+// Whether i marks j. One's own mark and all past n are at random. Of a pair that are no neighbours neither marks the other, or the smaller
+// does, or the larger. From 28 on, each bit is set with a chance of k - 28 in 32.
 fn mark(k: usize, n: usize, t: usize, i: usize, j: usize) -> bool {
     if 28 <= k {
         return draw(300, n, i, j) % 32 < k - 28;
@@ -101,66 +68,40 @@ fn mark(k: usize, n: usize, t: usize, i: usize, j: usize) -> bool {
     if n <= i || n <= j || i == j {
         return draw(200, k, i, j) % 2 == 0;
     }
-    if i < j {
-        return !apart(k, n, t, i, j) || half_mark(k, i, j, true);
-    }
-    !apart(k, n, t, j, i) || half_mark(k, j, i, false)
+    let (a, b, side) = if i < j { (i, j, 1) } else { (j, i, 2) };
+    !apart(k, n, t, a, b) || draw(100, k, a, b) % 3 == side
 }
 
 // 16 bits of kind k: whether i marks each.
 fn row(k: usize, n: usize, t: usize, i: usize) -> u16 {
-    let mut r: u16 = 0;
-    let mut j: usize = 0;
-    while j < 16 {
-        if mark(k, n, t, i, j) {
-            r = bitset::insert(r, j);
-        }
-        j += 1;
-    }
-    r
+    (0..16)
+        .filter(|j| mark(k, n, t, i, *j))
+        .fold(0, |r, j| bitset::insert(r, j))
 }
 
 fn rows(k: usize, n: usize, t: usize) -> [u16; 16] {
-    let mut r = [0u16; 16];
-    let mut i: usize = 0;
-    while i < 16 {
-        r[i] = row(k, n, t, i);
-        i += 1;
-    }
-    r
+    array::from_fn(|i| row(k, n, t, i))
 }
 
-// Byte i of the bits of kind k: the low eight of row i.
-fn bits_byte(k: usize, n: usize, i: usize) -> u8 {
-    let r = row(k, n, 0, i);
-    (r % 256) as u8
-}
-
-// The 120 bits of kind k.
+// The 120 bits of kind k: the low eight of each row.
 fn bits(k: usize, n: usize) -> [u8; 15] {
-    let mut r = [0u8; 15];
-    let mut i: usize = 0;
-    while i < 15 {
-        r[i] = bits_byte(k, n, i);
-        i += 1;
-    }
-    r
+    array::from_fn(|i| row(k, n, 0, i).to_le_bytes()[0])
 }
 
-fn print_star(rt: &impl Print, k: usize, n: usize, t: usize, s: Sets) -> io::Result<()> {
+fn print_star(
+    rt: &impl Print,
+    k: usize,
+    n: usize,
+    t: usize,
+    star: Result<Sets, Refusal>,
+) -> io::Result<()> {
+    let answer = match star {
+        Ok(s) => [0, s.c, s.d, s.f, s.e],
+        Err(r) => [u16::from(u8::from(r)), 0, 0, 0, 0],
+    };
     cases::decimal(rt, n)?;
     cases::numbers(rt, b"", &[t, k])?;
-    cases::numbers(
-        rt,
-        b":",
-        &[
-            s.refusal as usize,
-            s.c as usize,
-            s.d as usize,
-            s.f as usize,
-            s.e as usize,
-        ],
-    )?;
+    cases::numbers(rt, b":", &answer)?;
     cases::newline(rt)
 }
 
@@ -181,10 +122,8 @@ fn print_bits(rt: &impl Print, k: usize, n: usize, t: usize) -> io::Result<()> {
 
 // The 28 graphs of n controllers of which at most t are faulty, and the nine chances.
 fn kinds(rt: &impl Print, n: usize, t: usize) -> io::Result<()> {
-    let mut k: usize = 0;
-    while k < 37 {
+    for k in 0..37 {
         play(rt, k, n, t)?;
-        k += 1;
     }
     Ok(())
 }
@@ -202,37 +141,36 @@ fn play_size(rt: &impl Print, n: usize, t: usize) -> io::Result<()>
     Ok(())
 }
 
-// n from 4 to 16, t from 1 to 5.
-fn play_at(rt: &impl Print, x: usize) -> io::Result<()>
-    requires { x < 65 }
-{
-    play_size(rt, 4 + x / 5, 1 + x % 5)
-}
-
 fn sizes(rt: &impl Print) -> io::Result<()> {
-    let mut x: usize = 0;
-    while x < 65 {
-        play_at(rt, x)?;
-        x += 1;
+    for n in 4..17 {
+        for t in 1..6 {
+            play_size(rt, n, t)?;
+        }
     }
     Ok(())
 }
 
-// Settings that are refused or just taken.
+// Settings that are refused or just taken, each with its kind before it.
+const EDGES: [(usize, usize, usize); 13] = [
+    (0, 3, 1),
+    (0, 3, 0),
+    (0, 17, 5),
+    (0, 0, 0),
+    (0, 4, 0),
+    (0, 4, 2),
+    (0, 7, 2),
+    (0, 16, 6),
+    (0, 16, 5),
+    (28, 3, 0),
+    (28, 17, 5),
+    (28, 4, 2),
+    (28, 16, 6),
+];
+
 fn edges(rt: &impl Print) -> io::Result<()> {
-    play(rt, 0, 3, 1)?;
-    play(rt, 0, 3, 0)?;
-    play(rt, 0, 17, 5)?;
-    play(rt, 0, 0, 0)?;
-    play(rt, 0, 4, 0)?;
-    play(rt, 0, 4, 2)?;
-    play(rt, 0, 7, 2)?;
-    play(rt, 0, 16, 6)?;
-    play(rt, 0, 16, 5)?;
-    play(rt, 28, 3, 0)?;
-    play(rt, 28, 17, 5)?;
-    play(rt, 28, 4, 2)?;
-    play(rt, 28, 16, 6)?;
+    for (k, n, t) in EDGES {
+        play(rt, k, n, t)?;
+    }
     print_bits(rt, 1, 17, 1)
 }
 

@@ -1,9 +1,0 @@
--- `star_cases::row` is safe and ends.
-use Prim.Native.Nat.{◌-◌}
-use Rattle.star_cases.proofs.row.Given as goal
-
-abbrev pub invariant-loop-j : goal.invariant-loop-j
-invariant-loop-j l = Unit {0}
-
-abbrev pub decreases-loop-j : goal.decreases-loop-j
-decreases-loop-j l = 16 - l.j
