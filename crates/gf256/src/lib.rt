@@ -3,7 +3,7 @@
 // proofs/Laws.antt; each table is read by one function here and seen by nobody else. Loops over many elements use no table.
 #![tactic(auto)]
 
-ghost use Rattle.std.specs.Prelude.{◌≡◌, ◌/◌, min, length, get_or};
+ghost use Rattle.std.specs.Prelude.{◌≡◌, ℕ, ◌/◌, ◌<◌, length, get_or};
 ghost use Rattle.lists.specs.Fill.{tabulate, filled};
 ghost use Rattle.gf256.specs.Field.{gadd, gmul, gpow, ginv, glog};
 
@@ -47,6 +47,7 @@ const EXPONENTS: [u8; 256] = *b"\
 
 // The sum, which is also the difference.
 // Shut out: a | b; a ^ a.
+#[tactic(auto, unfolding(crate::specs::Field::gadd))]
 pub fn add(a: u8, b: u8) -> u8
     ensures { result ≡ gadd a b }
 {
@@ -58,10 +59,7 @@ pub fn add(a: u8, b: u8) -> u8
 pub fn power(e: u8) -> u8
     ensures { result ≡ gpow 2 e }
 {
-    if e == 255 {
-        return 1;
-    }
-    POWERS[e as usize]
+    if e == 255 { 1 } else { POWERS[e as usize] }
 }
 
 // The exponent of `a`: `power` of it is `a`. That of 00 is 00, and so is that of 01.
@@ -77,17 +75,15 @@ pub fn log(a: u8) -> u8
 pub fn mul(a: u8, b: u8) -> u8
     ensures { result ≡ gmul a b }
 {
-    if a == 0 {
-        return 0;
-    }
-    if b == 0 {
+    if a == 0 || b == 0 {
         return 0;
     }
     let e = log(a) as u16 + log(b) as u16;
     if e < 255 {
-        return power(e as u8);
+        power(e as u8)
+    } else {
+        power((e - 255) as u8)
     }
-    power((e - 255) as u8)
 }
 
 // The inverse; that of 00 is 00.
@@ -95,10 +91,7 @@ pub fn mul(a: u8, b: u8) -> u8
 pub fn inv(a: u8) -> u8
     ensures { result ≡ ginv a }
 {
-    if a == 0 {
-        return 0;
-    }
-    power(255 - log(a))
+    if a == 0 { 0 } else { power(255 - log(a)) }
 }
 
 // 02 times a: the bits move up by one, and 1d is added for the one that falls out.
@@ -120,24 +113,11 @@ fn bitwise_step(half: u8, a: u8, b: u8) -> u8
 fn bitwise_product(a: u8, b: u8) -> u8
     ensures { result ≡ gmul a b }
 {
-    let p = bitwise_step(0, a >> 7, b);
-    let p = bitwise_step(p, a >> 6, b);
-    let p = bitwise_step(p, a >> 5, b);
-    let p = bitwise_step(p, a >> 4, b);
-    let p = bitwise_step(p, a >> 3, b);
-    let p = bitwise_step(p, a >> 2, b);
-    let p = bitwise_step(p, a >> 1, b);
-    bitwise_step(p, a, b)
-}
-
-// The lesser of two lengths.
-fn least(a: usize, b: usize) -> usize
-    ensures { result ≡ min a b }
-{
-    if a < b {
-        return a;
+    let mut p = 0;
+    for k in (0..8u8).rev() {
+        p = bitwise_step(p, a >> k, b);
     }
-    b
+    p
 }
 
 // Multiplies every element of p by a.
@@ -145,10 +125,18 @@ fn least(a: usize, b: usize) -> usize
 pub fn scale(p: &mut [u8], a: u8)
     ensures { p.new ≡ tabulate (λ i. gmul a (get_or p.old i 0)) (length p.old) }
 {
-    let mut i: usize = 0;
-    while i < p.len() {
-        p[i] = bitwise_product(a, p[i]);
-        i += 1;
+    for x in p.iter_mut() {
+        *x = bitwise_product(a, *x);
+    }
+}
+
+// Makes each element of p what f says of it and of that of q, as far as both reach.
+fn update<F: Fn(u8, u8) -> u8>(p: &mut [u8], q: &[u8], f: F)
+    requires { F.IsAlwaysCallable f }
+    ensures { (g : ℕ → ℕ → ℕ) → ((x y r : ℕ) → x < 256 → y < 256 → F.post f x y r → r ≡ g x y) → p.new ≡ filled (λ i. g (get_or p.old i 0) (get_or q.now i 0)) (length q.now) p.old }
+{
+    for i in 0..p.len().min(q.len()) {
+        p[i] = f(p[i], q[i]);
     }
 }
 
@@ -156,12 +144,7 @@ pub fn scale(p: &mut [u8], a: u8)
 fn add_all(p: &mut [u8], q: &[u8])
     ensures { p.new ≡ filled (λ i. gadd (get_or p.old i 0) (get_or q.now i 0)) (length q.now) p.old }
 {
-    let end = least(p.len(), q.len());
-    let mut i: usize = 0;
-    while i < end {
-        p[i] = add(p[i], q[i]);
-        i += 1;
-    }
+    update(p, q, add);
 }
 
 // Adds b times q to p, element by element, as far as both reach.
@@ -169,12 +152,7 @@ fn add_all(p: &mut [u8], q: &[u8])
 pub fn add_multiple(p: &mut [u8], b: u8, q: &[u8])
     ensures { p.new ≡ filled (λ i. gadd (get_or p.old i 0) (gmul b (get_or q.now i 0))) (length q.now) p.old }
 {
-    let end = least(p.len(), q.len());
-    let mut i: usize = 0;
-    while i < end {
-        p[i] = add(p[i], bitwise_product(b, q[i]));
-        i += 1;
-    }
+    update(p, q, |x, y| add(x, bitwise_product(b, y)));
 }
 
 // A step of Horner's rule for one polynomial at many points: each element of p times its point of xs, and the coefficient c added, as far as both
@@ -183,12 +161,7 @@ pub fn add_multiple(p: &mut [u8], b: u8, q: &[u8])
 pub fn horner_at_points(p: &mut [u8], xs: &[u8], c: u8)
     ensures { p.new ≡ filled (λ i. gadd c (gmul (get_or xs.now i 0) (get_or p.old i 0))) (length xs.now) p.old }
 {
-    let end = least(p.len(), xs.len());
-    let mut i: usize = 0;
-    while i < end {
-        p[i] = add(c, bitwise_product(xs[i], p[i]));
-        i += 1;
-    }
+    update(p, xs, |y, x| add(c, bitwise_product(x, y)));
 }
 
 // A step of Horner's rule for many polynomials at one point: each element of p times x, and its coefficient of cs added; one that cs has not is 00.

@@ -1,43 +1,7 @@
 -- `add_all` meets its contract.
-use mathlib.Core.Path.{refl, sym, ◌∙◌}
-use native.Mathlib.Omega.{arith}
-use lib.ListN.{length, get_or, length-set}
-use Rattle.lists.proofs.Fills.{filled_none, fill_own, fill_least}
+use borrow.Author.Rules.{rules}
 use Rattle.gf256.specs.Field.{gadd}
 use Rattle.gf256.proofs.add_all.Goals as goal
 
-pub loop-i-init : goal.loop-i-init
-loop-i-init c = (omega arith, refl, sym (filled_none _ _))
-
-pub bounds-p-i : goal.bounds-p-i
-bounds-p-i c = omega (arith, c.least-end.ensures)
-
-pub bounds-q-i : goal.bounds-q-i
-bounds-q-i c = omega (arith, c.least-end.ensures)
-
-pub bounds-p-i-in-loop-i : goal.bounds-p-i-in-loop-i
-bounds-p-i-in-loop-i c = omega (arith, c.least-end.ensures)
-
-pub loop-i-smaller : goal.loop-i-smaller
-loop-i-smaller c = omega arith
-
-pub loop-i-preserved : goal.loop-i-preserved
-loop-i-preserved c =
-    let n = c.least-end in
-    let a = c.args in
-    let l = c.loop-i in (
-      omega arith,
-      length-set l.p l.i c.add.result ∙ l.invariant.1,
-      fill_own (λ j x. gadd x (get_or a.q.now j 0)) 0 l.i a.p.now l.p c.add.result (omega (arith, n.ensures)) l.invariant.2 c.add.ensures,
-    )
-
-pub shape_of-p : goal.shape_of-p
-shape_of-p c = c.loop-i.invariant.1
-
 pub returns : goal.returns
-returns c =
-    let n = c.least-end in
-    let a = c.args in
-    let l = c.loop-i in
-    fill_least (λ j. gadd (get_or a.p.now j 0) (get_or a.q.now j 0)) l.i (length a.q.now) a.p.now l.p l.invariant.2
-    (omega (arith, n.ensures))
+returns c = c.update.ensures gadd (λ x y r hx hy h. search rules)

@@ -9,8 +9,8 @@ use Rattle.gf256.proofs.inv.Goals as goal
 pub returns-then-a-eq0 : goal.returns-then-a-eq0
 returns-then-a-eq0 c = sym (ap ginv c.if-a-eq0.true ∙ ginv-zero)
 
-pub returns : goal.returns
-returns c =
+pub returns-else-a-eq0 : goal.returns-else-a-eq0
+returns-else-a-eq0 c =
     c.power.ensures
     ∙ ap (λ x. gpow 2 (255 - x)) c.log.ensures
     ∙ sym (ginv-glog c.args.a (omega arith) (omega arith))

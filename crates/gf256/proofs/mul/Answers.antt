@@ -1,11 +1,12 @@
 -- `mul` meets its contract: the product of two powers of 02 is the power of the sum of their exponents, which counts modulo 255.
-use mathlib.Core.Path.{◌≡◌, ap, sym, ◌∙◌}
+use mathlib.Core.Path.{◌≡◌, refl, ap, sym, ◌∙◌}
 use Prim.Native.Nat.{ℕ, ◌+◌, ◌%◌, ◌<◌}
 use native.Mathlib.Omega.{arith}
 use borrow.Author.Rules.{rules}
 use Rattle.gf256.specs.Field.{gmul, gpow, glog}
 use Rattle.gf256.proofs.Laws.{gmul-zero_l, gmul-zero_r, gpow-mod, glog_lt, gmul-glog}
 use Rattle.gf256.proofs.mul.Goals as goal
+use Rattle.gf256.proofs.mul.Goals.{then-a-eq0-via-then-a-eq0, then-a-eq0-via-else-a-eq0+then-b-eq0}
 
 -- a power of 02 whose exponent is, modulo 255, the sum of the exponents of the factors, which are below 255, is their product
 product :
@@ -19,10 +20,11 @@ product a b e r p pa ha pb hb h =
     ∙ sym (gmul-glog a b pa ha pb hb)
 
 pub returns-then-a-eq0 : goal.returns-then-a-eq0
-returns-then-a-eq0 c = sym (ap (λ x. gmul x c.args.b) c.if-a-eq0.true ∙ gmul-zero_l c.args.b)
-
-pub returns-then-b-eq0 : goal.returns-then-b-eq0
-returns-then-b-eq0 c = sym (ap (gmul c.args.a) c.if-b-eq0.true ∙ gmul-zero_r c.args.a)
+returns-then-a-eq0 c =
+    elim c.then-a-eq0.branch [
+      | then-a-eq0-via-then-a-eq0 w ↦ rw (w.if-a-eq0.true, gmul-zero_l c.args.b) refl
+      | then-a-eq0-via-else-a-eq0+then-b-eq0 w ↦ rw (w.if-b-eq0.true, gmul-zero_r c.args.a) refl
+    ]
 
 pub returns-then-e-lt255 : goal.returns-then-e-lt255
 returns-then-e-lt255 c =
@@ -30,12 +32,12 @@ returns-then-e-lt255 c =
     product args.a args.b _ _ c.power.ensures (omega arith) (omega arith) (omega arith) (omega arith) (omega arith)
 
 -- exponents are below 255, so that e - 254 would fit too: must-fail/subtracts_254 is refused because of the product
-pub overflow_cast-e-3 : goal.overflow_cast-e-3
-overflow_cast-e-3 c =
+pub overflow_cast-e-else-e-lt255 : goal.overflow_cast-e-else-e-lt255
+overflow_cast-e-else-e-lt255 c =
     let args = c.args in
     search (rules, glog_lt args.a, glog_lt args.b)
 
-pub returns : goal.returns
-returns c =
+pub returns-else-e-lt255 : goal.returns-else-e-lt255
+returns-else-e-lt255 c =
     let args = c.args in
-    product args.a args.b _ _ c.power-2.ensures (omega arith) (omega arith) (omega arith) (omega arith) (omega arith)
+    product args.a args.b _ _ c.power-else-e-lt255.ensures (omega arith) (omega arith) (omega arith) (omega arith) (omega arith)

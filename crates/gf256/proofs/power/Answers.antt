@@ -9,6 +9,6 @@ use Rattle.gf256.proofs.power.Goals as goal
 pub returns-then-e-eq255 : goal.returns-then-e-eq255
 returns-then-e-eq255 c = sym (ap (gpow 2) c.if-e-eq255.true ∙ gpow-order)
 
-pub returns : goal.returns
+pub returns-else-e-eq255 : goal.returns-else-e-eq255
 unfolding gmul orbit
-returns c = get_or-orbit 255 c.args.e (search rules)
+returns-else-e-eq255 c = get_or-orbit 255 c.args.e (search rules)
