@@ -8,8 +8,9 @@ use borrow.Author.Tests.{eq-eqb, ne_eqb}
 use lib.Dec.{eqb}
 use lib.ListN.{length, take, drop, replicate, length-append, length-take, length-drop, drop_of_length-le}
 use lib.Seq.{take_at, drop_at, drop-drop, length-take-le}
+use Rattle.std.specs.Prelude.{Result, is_ok}
 use Rattle.lists.specs.Same.{same}
-use Rattle.lists.proofs.Tests.{and_no_left, and_tail, or_left, or_tail}
+use Rattle.lists.proofs.Tests.{and_tail, or_tail}
 use Rattle.lists.proofs.Sames.{no_same}
 use Rattle.wire.specs.declared.slot.Layout.{Layout}
 use Rattle.wire.specs.Slot.{message_of}
@@ -17,6 +18,9 @@ use Rattle.wire.specs.declared.Round.TheVariants.{Pieces}
 use Rattle.wire.specs.Length.{kind_length}
 use Rattle.wire.proofs.Laws.{kind_length_is, row_pieces, Sized, sized_bytes}
 use Rattle.settings.specs.Valid.{Coded}
+use Rattle.settings.specs.declared.Refusal.{Refusal}
+use Rattle.settings.specs.Number.{number_of}
+use Rattle.settings.proofs.Laws.{ok_0}
 use Rattle.reed_solomon.specs.Encode.{piece_of, Encoded, encoded, encode_of, Coding}
 use Rattle.reed_solomon.proofs.Laws.{encode_valid, length_piece}
 use Rattle.dispersal.specs.Dispersal.{two_pieces, is_marked}
@@ -27,15 +31,29 @@ pub kind_pieces : {n t k : ℕ} → Coded n t k → kind_length Pieces n t k ≡
 kind_pieces {n} {t} {k} v = kind_length_is v Pieces ∙ row_pieces n t k
 
 -- ---- pieces
--- piece j, coded into the part of m from a to e that was lent and came back as q
-pub put_piece : {n t k j : ℕ} {b : List ℕ} → Coding n t k j b → (m q : List ℕ) (a r : ℕ) → length (take (a + k - a) (drop a m)) ≡ k
-    → encoded r q ≡ encode_of n t k j b (take (a + k - a) (drop a m))
-    → take a m ++ (q ++ drop (a + k - a) (drop a m)) ≡ take a m ++ (piece_of k t b j ++ drop (a + k) m)
-put_piece {n} {t} {k} {j} {b} v m q a r l e =
-    let u : a + (a + k - a) ≡ a + k = omega arith in
-    ap₂ (λ (x y : List ℕ). take a m ++ (x ++ y))
-    (ap (λ (x : Encoded). x.piece) (e ∙ encode_valid n t k j b (take (a + k - a) (drop a m)) v.coded v.number v.size l))
-    (drop-drop (a + k - a) a m ∙ ap (λ (x : ℕ). drop x m) u)
+-- coding within the settings is carried out
+module _ {n t k j : ℕ} {b : List ℕ} (v : Coding n t k j b) (r : Result Unit Refusal) (p q : List ℕ) (l : length p ≡ k)
+    (e : encoded (number_of r) q ≡ encode_of n t k j b p) where
+  done : encoded (number_of r) q ≡ encoded 0 (piece_of k t b j)
+  done = e ∙ encode_valid n t k j b p v.coded v.number v.size l
+
+  pub coded_ok : is_ok r ≡ true
+  coded_ok = ok_0 r ∙ eq-eqb (number_of r) 0 (ap (λ (x : Encoded). x.number) done)
+
+  pub coded_piece : q ≡ piece_of k t b j
+  coded_piece = ap (λ (x : Encoded). x.piece) done
+
+-- the k bytes of m from a on
+module _ (a k : ℕ) (m : List ℕ) where
+  pub length-part : a + k ≤ length m → length (take (a + k - a) (drop a m)) ≡ k
+  length-part h =
+      let w : a + k - a ≤ length (drop a m) = omega (arith, length-drop a m) in
+      omega (arith, length-take-le (a + k - a) (drop a m) w)
+
+  pub put_piece : (q p : List ℕ) → q ≡ p → take a m ++ (q ++ drop (a + k - a) (drop a m)) ≡ take a m ++ (p ++ drop (a + k) m)
+  put_piece q p e =
+      let u : a + (a + k - a) ≡ a + k = omega arith in
+      ap₂ (λ (x y : List ℕ). take a m ++ (x ++ y)) e (drop-drop (a + k - a) a m ∙ ap (λ (x : ℕ). drop x m) u)
 
 -- the piece p at the front of m
 pub first_piece : (k : ℕ) (p m m' : List ℕ) → length p ≡ k → m' ≡ take 0 m ++ (p ++ drop (0 + k) m) → take k m' ≡ p
@@ -67,19 +85,8 @@ pub short_message : (k : ℕ) (message m : List ℕ) → length message < k → 
 short_message k message m l e =
     no_same (take k message) (drop k m) (λ q. omega (arith, length-take k message, length-drop k m))
 
--- the cases of a mark
 module _ (k t own : ℕ) (inbox : List ℕ) (layout : Layout) (b : List ℕ) (j : ℕ) where
-  pub marked_own : j ≡ own → is_marked k t own inbox layout b j ≡ true
-  unfolding is_marked
-  marked_own e = or_left (eqb j own) _ (eq-eqb j own e)
-
   module _ (other : j ≡ own → ⊥) where
-    pub marked_absent : length (message_of inbox layout j) ≡ 0 → is_marked k t own inbox layout b j ≡ false
-    unfolding is_marked
-    marked_absent e =
-        or_tail (eqb j own) _ (ne_eqb j own other)
-        ∙ and_no_left (not (eqb (length (message_of inbox layout j)) 0)) _ (ap not (eq-eqb (length (message_of inbox layout j)) 0 e))
-
     -- m has the own piece, then piece j
     pub marked_present : (m : List ℕ) → (length (message_of inbox layout j) ≡ 0 → ⊥) → m ≡ piece_of k t b own ++ piece_of k t b j
         → (same (take k (message_of inbox layout j)) (drop k m) && same (drop k (message_of inbox layout j)) (take k m)) ≡ is_marked k t own inbox layout b j

@@ -5,32 +5,29 @@ ghost use Rattle.std.specs.Prelude.{◌≡◌, ◌&&◌, ◌++◌, ◌+◌, ◌*
 ghost use Rattle.lists.specs.Same.{same};
 ghost use Rattle.bitset.specs.Set.{set_of};
 ghost use Rattle.wire.specs.Slot.{width, slots};
+ghost use Rattle.settings.specs.Valid.{Numbered};
 ghost use Rattle.reed_solomon.specs.Encode.{piece_of, Coding};
 ghost use Rattle.dispersal.specs.Dispersal.{sent_block, received_block, two_pieces, sent_pieces, is_marked, marks_of, sent_marks};
 
+use settings::Settings;
 use wire::{Layout, Round};
 
 // Call 1: the sender's block to all; silence from everyone else, and so from all without a sender.
 // Shut out: everyone but the sender sends; as many slots as the own number; must-fail/no_sender_all_send.
-pub fn send_block(
-    layout: Layout,
-    n: usize,
-    own: usize,
-    sender: usize,
-    block: &[u8],
-    outbox: &mut [u8],
-)
-    ensures { outbox.new ≡ sent_block layout n own sender block.now outbox.old }
+#[tactic(auto, unfolding(crate::specs::Dispersal::sent_block))]
+pub fn send_block(layout: Layout, s: Settings, own: usize, block: &[u8], outbox: &mut [u8])
+    ensures { outbox.new ≡ sent_block layout s.n own s.sender block.now outbox.old }
 {
-    if own == sender {
-        wire::send_all(outbox, layout, n, block);
-        return;
+    if own == s.sender {
+        wire::send_all(outbox, layout, s.n, block);
+    } else {
+        wire::silence(outbox);
     }
-    wire::silence(outbox);
 }
 
 // Call 2: the block becomes the sender's message, or zeros if absent; without a sender it stays, whatever the inbox holds.
 // Shut out: the message of slot 1, whoever the sender is; the block kept where the message is absent; must-fail/no_sender_sets_zeros.
+#[tactic(auto, unfolding(crate::specs::Dispersal::received_block))]
 pub fn receive_block(inbox: &[u8], layout: Layout, sender: usize, block: &mut [u8])
     ensures { block.new ≡ received_block inbox.now layout sender block.old }
 {
@@ -38,80 +35,10 @@ pub fn receive_block(inbox: &[u8], layout: Layout, sender: usize, block: &mut [u
         return;
     }
     let m = wire::message(inbox, layout, sender);
-    if m.len() == 0 {
+    if m.is_empty() {
         wire::silence(block);
-        return;
-    }
-    wire::copy(block, m);
-}
-
-// Piece j of the block's coding, into the k bytes of m from `at` on.
-fn write_piece(n: usize, t: usize, k: usize, j: usize, block: &[u8], m: &mut [u8], at: usize)
-    requires { Coding n t k j block.now × (at + k ≤ length m.old) }
-    ensures { m.new ≡ take at m.old ++ (piece_of k t block.now j ++ drop (at + k) m.old) }
-{
-    let end = at + k;
-    reed_solomon::encode(n, t, k, j, block, &mut m[at..end]);
-}
-
-// To each j the own piece, then piece j, by way of m.
-fn fill_pieces(
-    layout: Layout,
-    n: usize,
-    t: usize,
-    k: usize,
-    own: usize,
-    block: &[u8],
-    m: &mut [u8],
-    outbox: &mut [u8],
-)
-    requires { Coding n t k own block.now × (layout.length ≡ 2 * k) × (length m.old ≡ layout.length) × (length outbox.old ≡ n * width layout) }
-    ensures { outbox.new ≡ slots layout (two_pieces k t own block.now) n }
-{
-    write_piece(n, t, k, own, block, m, 0);
-    let mut j: usize = 0;
-    while j < n {
-        j += 1;
-        write_piece(n, t, k, j, block, m, k);
-        wire::send_one(outbox, layout, j, m);
-    }
-}
-
-// The same, with bytes of its own for the message.
-fn send_both(
-    layout: Layout,
-    n: usize,
-    t: usize,
-    k: usize,
-    own: usize,
-    block: &[u8],
-    outbox: &mut [u8],
-)
-    requires { Coding n t k own block.now × (layout.length ≡ 2 * k) × (length outbox.old ≡ n * width layout) }
-    ensures { outbox.new ≡ slots layout (two_pieces k t own block.now) n }
-{
-    let mut m = [0u8; 256];
-    let len = layout.length;
-    fill_pieces(layout, n, t, k, own, block, &mut m[..len], outbox);
-}
-
-// Call 2: to each controller the own piece, then its piece of the own coding. Refused settings or lengths: nothing is written.
-// Shut out: the own piece twice; run 0, whatever is given; must-fail/outbox_untouched; must-fail/first_slot_left; must-fail/round_2_unwritten.
-pub fn send_pieces(
-    run: u16,
-    n: usize,
-    t: usize,
-    k: usize,
-    own: usize,
-    block: &[u8],
-    outbox: &mut [u8],
-)
-    ensures { outbox.new ≡ sent_pieces run n t k own block.now outbox.old }
-{
-    let layout = wire::kind_layout(run, Round::Pieces, n, t, k);
-    let fits = wire::holds_exactly(outbox, n, layout);
-    if reed_solomon::is_ready(n, t, k, own, block, fits) {
-        send_both(layout, n, t, k, own, block, outbox);
+    } else {
+        wire::copy(block, m);
     }
 }
 
@@ -120,104 +47,128 @@ fn is_swapped(message: &[u8], m: &[u8], k: usize) -> bool
     requires { length m.now ≡ 2 * k }
     ensures { result ≡ (same (take k message.now) (drop k m.now) && same (drop k message.now) (take k m.now)) }
 {
-    if message.len() < k {
-        return false;
-    }
-    if !lists::is_equal(&message[..k], &m[k..]) {
-        return false;
-    }
-    lists::is_equal(&message[k..], &m[..k])
+    k <= message.len()
+        && lists::is_equal(&message[..k], &m[k..])
+        && lists::is_equal(&message[k..], &m[..k])
 }
 
-// Whether j is marked. The own piece is the first of m; piece j is written behind it.
-fn is_marked(
+// A block as a controller codes it: into pieces of k bytes for n controllers, of which at most t are faulty; `own` is its number.
+#[derive(Clone, Copy)]
+struct Coder<'a> {
     n: usize,
     t: usize,
     k: usize,
     own: usize,
-    inbox: &[u8],
-    layout: Layout,
-    block: &[u8],
-    m: &mut [u8],
-    j: usize,
-) -> bool
-    requires { Coding n t k j block.now × (length m.old ≡ 2 * k) × (take k m.old ≡ piece_of k t block.now own) }
-    ensures { (result ≡ is_marked k t own inbox.now layout block.now j) × (take k m.new ≡ piece_of k t block.now own) }
-{
-    if j == own {
-        return true;
-    }
-    let message = wire::message(inbox, layout, j);
-    if message.len() == 0 {
-        return false;
-    }
-    write_piece(n, t, k, j, block, m, k);
-    is_swapped(message, m, k)
+    block: &'a [u8],
+    ghost ready: { Coding n t k own block.now },
 }
 
-// The set of those marked, by way of m.
-fn mark_each(
-    n: usize,
-    t: usize,
-    k: usize,
-    own: usize,
-    inbox: &[u8],
-    layout: Layout,
-    block: &[u8],
-    m: &mut [u8],
-) -> u16
-    requires { Coding n t k own block.now × (length m.old ≡ 2 * k) }
-    ensures { result ≡ set_of n (λ i. is_marked k t own inbox.now layout block.now (i + 1)) }
-{
-    write_piece(n, t, k, own, block, m, 0);
-    let mut set: u16 = 0;
-    let mut i: usize = 0;
-    while i < n {
-        let index = i;
-        i += 1;
-        if is_marked(n, t, k, own, inbox, layout, block, m, i) {
-            set = bitset::insert(set, index);
+impl<'a> Coder<'a> {
+    // Piece j of the coding, into the k bytes of m from `at` on.
+    fn write_piece(&self, j: usize, m: &mut [u8], at: usize)
+        requires { Numbered self.now.n j × (at + self.now.k ≤ length m.old) }
+        ensures { m.new ≡ take at m.old ++ (piece_of self.now.k self.now.t self.now.block.now j ++ drop (at + self.now.k) m.old) }
+    {
+        let end = at + self.k;
+        reed_solomon::encode(self.n, self.t, self.k, j, self.block, &mut m[at..end]).unwrap();
+    }
+
+    // To each j the own piece, then piece j.
+    fn send_pairs(&self, layout: Layout, outbox: &mut [u8])
+        requires { (layout.length ≡ 2 * self.now.k) × (length outbox.old ≡ self.now.n * width layout) }
+        ensures { outbox.new ≡ slots layout (two_pieces self.now.k self.now.t self.now.own self.now.block.now) self.now.n }
+    {
+        let mut pair = [0u8; 256];
+        let m = &mut pair[..layout.length];
+        self.write_piece(self.own, m, 0);
+        for j in 0..self.n {
+            self.write_piece(j + 1, m, self.k);
+            wire::send_one(outbox, layout, j + 1, m);
         }
     }
-    set
+
+    // Whether j is marked. The own piece is the first of m; piece j is written behind it.
+    #[tactic(auto, unfolding(crate::specs::Dispersal::is_marked))]
+    fn is_marked(&self, inbox: &[u8], layout: Layout, m: &mut [u8], j: usize) -> bool
+        requires { Numbered self.now.n j × (length m.old ≡ 2 * self.now.k) × (take self.now.k m.old ≡ piece_of self.now.k self.now.t self.now.block.now self.now.own) }
+        ensures { (result ≡ is_marked self.now.k self.now.t self.now.own inbox.now layout self.now.block.now j) × (take self.now.k m.new ≡ piece_of self.now.k self.now.t self.now.block.now self.now.own) }
+    {
+        if j == self.own {
+            return true;
+        }
+        let message = wire::message(inbox, layout, j);
+        if message.is_empty() {
+            return false;
+        }
+        self.write_piece(j, m, self.k);
+        is_swapped(message, m, self.k)
+    }
+
+    // The set of those marked.
+    fn marks(&self, inbox: &[u8], layout: Layout) -> u16
+        ensures { result ≡ set_of self.now.n (λ i. is_marked self.now.k self.now.t self.now.own inbox.now layout self.now.block.now (i + 1)) }
+    {
+        let mut pair = [0u8; 256];
+        let m = &mut pair[..2 * self.k];
+        self.write_piece(self.own, m, 0);
+        let mut set = 0u16;
+        for i in 0..self.n {
+            if self.is_marked(inbox, layout, m, i + 1) {
+                set = bitset::insert(set, i);
+            }
+        }
+        set
+    }
 }
 
-// The same, with bytes of its own for the pieces.
-fn mark(n: usize, t: usize, k: usize, own: usize, inbox: &[u8], layout: Layout, block: &[u8]) -> u16
-    requires { Coding n t k own block.now }
-    ensures { result ≡ set_of n (λ i. is_marked k t own inbox.now layout block.now (i + 1)) }
+// Call 2: to each controller the own piece, then its piece of the own coding. Refused settings or lengths: nothing is written.
+// Shut out: the own piece twice; run 0, whatever is given; must-fail/outbox_untouched; must-fail/first_slot_left; must-fail/round_2_unwritten.
+#[tactic(auto, unfolding(crate::specs::Dispersal::sent_pieces))]
+pub fn send_pieces(run: u16, s: Settings, own: usize, block: &[u8], outbox: &mut [u8])
+    ensures { outbox.new ≡ sent_pieces run s.n s.t s.k own block.now outbox.old }
 {
-    let mut m = [0u8; 256];
-    let pair = wire::kind_layout(layout.run, Round::Pieces, n, t, k);
-    let end = pair.length;
-    mark_each(n, t, k, own, inbox, layout, block, &mut m[..end])
+    let Settings { n, t, k, .. } = s;
+    let layout = wire::kind_layout(run, Round::Pieces, n, t, k);
+    let fits = wire::holds_exactly(outbox, n, layout);
+    if reed_solomon::is_ready(n, t, k, own, block, fits) {
+        let coder = Coder {
+            n,
+            t,
+            k,
+            own,
+            block,
+        };
+        coder.send_pairs(layout, outbox);
+    }
 }
 
 // Call 3: the set of those marked; empty where the settings or the block's length are refused.
 // Shut out: the indices one too high; the first t controllers alone; must-fail/marks_without_oneself.
-pub fn marks(
-    n: usize,
-    t: usize,
-    k: usize,
-    own: usize,
-    inbox: &[u8],
-    layout: Layout,
-    block: &[u8],
-) -> u16
-    ensures { result ≡ marks_of n t k own inbox.now layout block.now }
+#[tactic(auto, unfolding(crate::specs::Dispersal::marks_of))]
+pub fn marks(s: Settings, own: usize, inbox: &[u8], layout: Layout, block: &[u8]) -> u16
+    ensures { result ≡ marks_of s.n s.t s.k own inbox.now layout block.now }
 {
+    let Settings { n, t, k, .. } = s;
     if reed_solomon::is_ready(n, t, k, own, block, true) {
-        return mark(n, t, k, own, inbox, layout, block);
+        let coder = Coder {
+            n,
+            t,
+            k,
+            own,
+            block,
+        };
+        coder.marks(inbox, layout)
+    } else {
+        0
     }
-    0
 }
 
 // Call 3: the marks to all. An outbox whose length is not that of the slots stays as it is.
 // Shut out: bits past n sent; four slots, whatever n is; must-fail/marks_to_nobody.
+#[tactic(auto, unfolding(crate::specs::Dispersal::marks_message, crate::specs::Dispersal::sent_marks))]
 pub fn send_marks(layout: Layout, n: usize, s: u16, outbox: &mut [u8])
     ensures { outbox.new ≡ sent_marks layout n s outbox.old }
 {
-    let set = bitset::restrict(s, n);
-    let m = [lists::low(set), lists::high(set)];
+    let m = bitset::restrict(s, n).to_le_bytes();
     wire::send_all(outbox, layout, n, &m);
 }
