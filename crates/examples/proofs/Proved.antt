@@ -18,8 +18,7 @@ use Rattle.wire.specs.Slot.{layout_with, width, slot_of, holds, run_in, is_prese
 use Rattle.polynomial.specs.Polynomial.{Bytes, gsum, evaluate, horner, plus, scale, times_root}
 use Rattle.interpolation.specs.Interpolation.{wrong_by, combine, with_root, start, advance, next, run, smaller, reduced, series, candidate}
 use Rattle.reed_solomon.specs.Encode.{stripe, piece_of, encode_refusal, encode_of}
-use Rattle.reed_solomon.specs.declared.Decoded.TheVariants.{Block, Beyond}
-use Rattle.reed_solomon.specs.Decode.{has_piece, received, present_count, differing, is_named, named_of, decode_refusal}
+use Rattle.reed_solomon.specs.Decode.{Block, Beyond, has_piece, received, present_count, differing, is_named, named_of, decode_refusal}
 use Rattle.reed_solomon.specs.First.{meets}
 use Rattle.reed_solomon.specs.Steps.{points, column, differences}
 use Rattle.reed_solomon.proofs.Laws.{meets-decodes, stripe-beyond}

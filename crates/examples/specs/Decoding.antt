@@ -11,8 +11,7 @@ use Rattle.wire.specs.Length.{block_length}
 use Rattle.wire.specs.Slot.{layout_with, Sent, silence, bytes, slots}
 use Rattle.polynomial.specs.Polynomial.{Bytes}
 use Rattle.reed_solomon.specs.Encode.{piece_of}
-use Rattle.reed_solomon.specs.declared.Decoded.TheVariants.{Block}
-use Rattle.reed_solomon.specs.Decode.{present_count, is_named, named_of, decode_refusal, Answers}
+use Rattle.reed_solomon.specs.Decode.{Block, present_count, is_named, named_of, decode_refusal, Answers}
 
 abbrev pub sent : (ℕ → Bool) → (k t : ℕ) → List ℕ → ℕ → Sent
 sent silent k t B j = cond (silent j) silence (bytes (piece_of k t B j))

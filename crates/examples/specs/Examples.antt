@@ -7,9 +7,7 @@
 use Rattle.std.specs.Prelude.{◌≡◌, true, false, List, [], ◌∷◌, ℕ, ltb, replicate}
 use Rattle.gf256.specs.Field.{gmul}
 use Rattle.reed_solomon.specs.Encode.{Encoded, encoded, encode_of}
-use Rattle.reed_solomon.specs.declared.Decoded.{Decoded}
-use Rattle.reed_solomon.specs.declared.Decoded.TheVariants.{Block, Beyond}
-use Rattle.reed_solomon.specs.Decode.{Answers}
+use Rattle.reed_solomon.specs.Decode.{Decoded, Block, Beyond, Answers}
 use Rattle.phase_king.specs.Bit.{zero_seen, one_seen}
 use Rattle.star.specs.Star.{no_sets, star_of}
 use Rattle.wire.specs.declared.Round.TheVariants.{Rebuild, Outside}
