@@ -12,20 +12,30 @@ ghost use Rattle.graph.specs.Bits.{bit, bits_of, adjacent};
 use bitset::{insert, member};
 use lists::low;
 
-// Whether i and j mark each other.
-fn mark_each_other(rows: &[u16; 16], i: usize, j: usize) -> bool
-    requires { (i < 16) × (j < 16) }
-    ensures { result ≡ (member (get_or rows.now i 0) j && member (get_or rows.now j 0) i) }
-{
-    member(rows[i], j) && member(rows[j], i)
+// Two different indices below 16, the smaller first.
+#[derive(Clone, Copy)]
+struct Pair {
+    small: usize,
+    large: usize,
+    ghost order: { small < large },
+    ghost below: { large < 16 },
 }
 
-// Whether i and j, j the larger, are a missing pair.
-fn is_missing(rows: &[u16; 16], n: usize, i: usize, j: usize) -> bool
-    requires { (i < j) × (j < 16) }
-    ensures { result ≡ (ltb j n && not (neighbour rows.now i j)) }
-{
-    j < n && !mark_each_other(rows, i, j)
+impl Pair {
+    // The place in the order of the pairs: after those with a smaller `small`, and of those with the same one, after those with a smaller `large`.
+    fn place(self) -> usize
+        ensures { (result ≡ place self.small self.large) × (result < 120) }
+    {
+        first_place(self.small) + (self.large - self.small - 1)
+    }
+
+    // Whether both are below n and do not mark each other.
+    fn is_missing(self, rows: &[u16; 16], n: usize) -> bool
+        ensures { result ≡ (ltb self.large n && not (neighbour rows.now self.small self.large)) }
+    {
+        self.large < n
+            && !(member(rows[self.small], self.large) && member(rows[self.large], self.small))
+    }
 }
 
 // The place of the first pair whose smaller index is i: 15 + 14 + .., i summands.
@@ -34,14 +44,6 @@ fn first_place(i: usize) -> usize
     ensures { (result ≡ sum i (λ x. 15 - x)) × (result < 128) }
 {
     i * (31 - i) / 2
-}
-
-// The place of the pair (i, j).
-fn place(i: usize, j: usize) -> usize
-    requires { (i < j) × (j < 16) }
-    ensures { (result ≡ place i j) × (result < 120) }
-{
-    first_place(i) + (j - i - 1)
 }
 
 // The byte s, with bit k set where `yes` says so.
@@ -59,8 +61,9 @@ pub fn bits_of(rows: &[u16; 16], n: usize) -> [u8; 15]
     let mut bits = [0u8; 15];
     for i in 0..16 {
         for j in i + 1..16 {
-            let p = place(i, j);
-            bits[p / 8] = with_bit(bits[p / 8], p % 8, is_missing(rows, n, i, j));
+            let pair = Pair { small: i, large: j };
+            let p = pair.place();
+            bits[p / 8] = with_bit(bits[p / 8], p % 8, pair.is_missing(rows, n));
         }
     }
     bits
@@ -82,7 +85,11 @@ fn missing_digit(bits: [u8; 15], i: usize, j: usize) -> u16
     if i == j {
         0
     } else {
-        digit_at(bits, place(i.min(j), i.max(j)))
+        let pair = Pair {
+            small: i.min(j),
+            large: i.max(j),
+        };
+        digit_at(bits, pair.place())
     }
 }
 
