@@ -21,26 +21,18 @@ const MOST: usize = 22;
 fn evaluate(p: &[u8], x: u8) -> u8
     ensures { result ≡ evaluate p.now x }
 {
-    let mut r: u8 = 0;
-    let mut i: usize = 0;
-    while i < p.len() {
-        i += 1;
-        r = gf256::add(p[p.len() - i], gf256::mul(x, r));
-    }
-    r
+    p.iter().rev().fold(0, |r, c| gf256::add(*c, gf256::mul(x, r)))
 }
 
 // X + x times p, in the place of p.
 fn times_root(p: &mut [u8], x: u8)
     ensures { p.new ≡ times_root x p.old }
 {
-    let mut before: u8 = 0;
-    let mut i: usize = 0;
-    while i < p.len() {
-        let c = p[i];
-        p[i] = gf256::add(before, gf256::mul(x, c));
-        before = c;
-        i += 1;
+    let mut before = 0;
+    for c in p.iter_mut() {
+        let here = *c;
+        *c = gf256::add(before, gf256::mul(x, here));
+        before = here;
     }
 }
 
@@ -142,12 +134,10 @@ fn reduce(q: &mut [u8], e: &[u8], c: u8)
     requires { (length q.old ≡ length e.now) × (0 < length q.old) }
     ensures { q.new ≡ reduced c q.old e.now }
 {
-    let mut i: usize = 0;
-    while i + 1 < q.len() {
-        q[i] = gf256::add(q[i + 1], gf256::mul(c, e[i + 1]));
-        i += 1;
-    }
-    q[i] = 0;
+    gf256::add_multiple(q, c, e);
+    let last = q.len() - 1;
+    q.copy_within(1.., 0);
+    q[last] = 0;
 }
 
 // The first coefficients of q / e as a power series, into m.
@@ -156,12 +146,10 @@ fn divide(q: &mut [u8], e: &[u8], m: &mut [u8])
     ensures { m.new ≡ series (length m.old) q.old e.now }
 {
     let inverse = gf256::inv(e[0]);
-    let mut j: usize = 0;
-    while j < m.len() {
+    for x in m.iter_mut() {
         let c = gf256::mul(q[0], inverse);
-        m[j] = c;
+        *x = c;
         reduce(q, e, c);
-        j += 1;
     }
 }
 
@@ -215,17 +203,7 @@ fn recover(xs: &[u8], ys: &[u8], t: usize, m: &mut [u8])
 pub fn candidate(xs: &[u8], ys: &[u8], m: &mut [u8])
     ensures { m.new ≡ candidate_into xs.now ys.now m.old }
 {
-    if ys.len() != xs.len() {
-        return;
+    if ys.len() == xs.len() && !m.is_empty() && m.len() <= MOST && xs.len() <= MOST - m.len() {
+        recover(xs, ys, m.len() - 1, m);
     }
-    if m.len() == 0 {
-        return;
-    }
-    if MOST < m.len() {
-        return;
-    }
-    if MOST - m.len() < xs.len() {
-        return;
-    }
-    recover(xs, ys, m.len() - 1, m);
 }
