@@ -9,7 +9,9 @@
 --   restricted s n                               the members of s below n
 --   first n p                                    the least index below n that passes p; n where none does
 --   lowest_of s                                  the least member of s; 16 where it has none
-use Rattle.std.specs.Prelude.{Bool, cond, not, ◌&&◌, ◌||◌, ℕ, zero, suc, ◌*◌, ◌/◌, ◌%◌, ◌^◌, eqb}
+--   Selected answer n s                          s is the set of each test, of the indices below n, that says what is answered: `answer i b` says that b may
+--                                                be answered at i
+use Rattle.std.specs.Prelude.{◌≡◌, ◌<◌, Bool, cond, not, ◌&&◌, ◌||◌, ℕ, zero, suc, ◌*◌, ◌/◌, ◌%◌, ◌^◌, eqb}
 use Rattle.lists.specs.Sum.{sum, ind, count}
 
 unfoldable pub member : ℕ → ℕ → Bool
@@ -45,3 +47,6 @@ first (suc n) p = cond (p 0) 0 (suc (first n (λ i. p (suc i))))
 
 unfoldable pub lowest_of : ℕ → ℕ
 lowest_of s = first 16 (member s)
+
+abbrev pub Selected : (ℕ → Bool → Type 0) → ℕ → ℕ → Type 0
+Selected answer n s = (p : ℕ → Bool) → ((i : ℕ) (b : Bool) → i < n → answer i b → b ≡ p i) → s ≡ set_of n p

@@ -2,9 +2,9 @@
 // Every function is total: an index past 15 is in no set.
 #![tactic(auto)]
 
-ghost use Rattle.std.specs.Prelude.{◌≡◌, true, ◌*◌, ◌^◌, ◌<◌, min, MatchOption};
+ghost use Rattle.std.specs.Prelude.{◌≡◌, true, ℕ, ◌*◌, ◌^◌, ◌<◌, min, MatchOption};
 ghost use Rattle.lists.specs.Fill.{filled};
-ghost use Rattle.bitset.specs.Set.{member, set_of, size_of, inserted, removed, intersection, difference, union, restricted, lowest_of};
+ghost use Rattle.bitset.specs.Set.{member, set_of, size_of, inserted, removed, intersection, difference, union, restricted, lowest_of, Selected};
 ghost use Rattle.bitset.specs.Row.{row_of, row_byte, rows_length};
 
 use lists::word;
@@ -99,6 +99,21 @@ pub fn below(n: usize) -> u16
     ensures { result ≡ set_of (min n 16) (λ _. true) }
 {
     if n < 16 { bit(n) - 1 } else { u16::MAX }
+}
+
+// The set of the indices below n, of 16 at most, that pass the test.
+// Shut out: those that fail; must-fail/last_not_selected.
+pub fn select<F: Fn(usize) -> bool>(n: usize, test: F) -> u16
+    requires { (i : ℕ) → i < min n 16 → F.pre test i }
+    ensures { Selected (F.post test) (min n 16) result }
+{
+    let mut s: u16 = 0;
+    for i in 0..n.min(16) {
+        if test(i) {
+            s = insert(s, i);
+        }
+    }
+    s
 }
 
 // The set in row r of the message m, of the indices below n; empty where m does not hold the row whole.

@@ -38,7 +38,7 @@ pub enum Refusal {
 }
 
 // The number of the row.
-// Shut out: 0 for row 1; 7 for row 8.
+// Shut out: 0 for row 1; must-fail/number_of_another_row.
 impl From<Refusal> for u8 {
     ghost from_gives = { λ r x. x ≡ row_of r };
 
