@@ -1,16 +1,16 @@
 -- Laws of a buffer that text is appended to. The main ones: `append-padded` and `end_padded` (text behind text that is written, and zeros after
--- it), `length-appended`, and the turns of the loops that write.
+-- it), `length-appended`, `append_part` (a part that is lent), and the turn of the loop that writes two digits of each byte.
 use mathlib.Core.Path.{◌≡◌, sym, ap, ap₂, ◌∙◌}
 use mathlib.Core.List.{List, [], ◌++◌, append_assoc}
 use mathlib.Core.Logic.{⊎_elim}
 use Prim.Native.Nat.{ℕ, suc, ◌+◌, ◌-◌, ◌*◌, ◌/◌, ◌%◌, ◌≤◌, ◌<◌}
 use native.Mathlib.Nat.{sub-zero}
-use native.Mathlib.Numerals.{add-one}
 use native.Mathlib.Omega.{arith}
 use borrow.Author.Tests.{le-leb, lt-leb}
 use lib.ListN.{length, get_or, set, take, drop, replicate, length-append, length-drop}
-use lib.Seq.{take-length, take-append_seam, drop-append-add, length-take-le, paste, paste-suc}
+use lib.Seq.{take-append_seam, drop-append-add, drop-drop, length-take-le}
 use Rattle.lists.proofs.Tests.{lt_or_le, cond_yes, cond_no}
+use Rattle.lists.proofs.Parts.{copy_more, copy_all}
 use Rattle.lists.proofs.Zeros.{length-zeros, drop-zeros}
 use Rattle.text.specs.Write.{hex_byte, hexadecimal, fits, appended, end_of, padded}
 use Rattle.text.specs.Steps.{placed}
@@ -53,30 +53,30 @@ module _ (at : ℕ) (s out : List ℕ) where
       (λ (h : at + length s ≤ length out). ap length (appended-room h) ∙ length-placed h)
       (lt_or_le (length out) (at + length s))
 
--- ---- the loops that write
--- one byte more
-pub write_turn : (at : ℕ) (s out : List ℕ) (i : ℕ) → at + length s ≤ length out → i < length s
-    → set (paste out at s i) (at + i) (get_or s i 0) ≡ paste out at s (i + 1)
-write_turn at s out i h l = rw (add-one i) (paste-suc out at s i 0 (omega arith) l)
-
--- all of s
-pub write_end : (at : ℕ) (s out : List ℕ) (n : ℕ) → n ≡ length s → paste out at s n ≡ placed at s out
+-- a part of n bytes that is lent at the place `at` and comes back as s
+pub append_part : (at : ℕ) (s out : List ℕ) (n : ℕ) → n ≡ length s → at + n ≤ length out
+    → take at out ++ (s ++ drop (at + n - at) (drop at out)) ≡ appended at s out
 unfolding placed
-write_end at s out n e =
-    ap (λ (m : ℕ). paste out at s m) e
-    ∙ append_assoc (take at out) (take (length s) s) (drop (at + length s) out)
-    ∙ ap (λ (r : List ℕ). take at out ++ (r ++ drop (at + length s) out)) (take-length s)
+append_part at s out n e h =
+    let m : at + (at + n - at) ≡ at + length s = omega arith in
+    ap (λ (l : List ℕ). take at out ++ (s ++ l)) (drop-drop (at + n - at) at out ∙ ap (λ (k : ℕ). drop k out) m) ∙ sym (appended-room at s out (omega arith))
 
--- two digits of byte i
-pub hex_turn : (at : ℕ) (s out : List ℕ) (i v w : ℕ) → at + 2 * length s ≤ length out → i < length s
-    → v ≡ hex_byte (get_or s i 0 / 16) → w ≡ hex_byte (get_or s i 0 % 16)
-    → set (set (paste out at (hexadecimal s) (2 * i)) (at + 2 * i) v) (at + 2 * i + 1) w ≡ paste out at (hexadecimal s) (2 * (i + 1))
-hex_turn at s out i v w h l e f =
+-- what the code's goals need
+pub ruleset append_cases = (end_room, appended_full, end_full)
+
+-- ---- the loop that writes two digits of each byte
+pub hex_turn : (s out : List ℕ) (i v w : ℕ) → length out ≡ 2 * length s → i < length s → v ≡ hex_byte (get_or s i 0 / 16) → w ≡ hex_byte (get_or s i 0 % 16)
+    → set (set (take (2 * i) (hexadecimal s) ++ drop (2 * i) out) (2 * i) v) (2 * i + 1) w ≡ take (2 * (i + 1)) (hexadecimal s) ++ drop (2 * (i + 1)) out
+hex_turn s out i v w h l e f =
     let n = length-hexadecimal s in
-    let p : at + 2 * i + 1 ≡ at + suc (2 * i) = omega arith in
-    let q : 2 * (i + 1) ≡ suc (suc (2 * i)) = omega arith in
-    rw (p, q, e, f, ← get_or_high s i l, ← get_or_low s i l, paste-suc out at (hexadecimal s) (2 * i) 0 (omega arith) (omega arith))
-    (paste-suc out at (hexadecimal s) (suc (2 * i)) 0 (omega arith) (omega arith))
+    let p : 2 * i + 1 ≡ suc (2 * i) = omega arith in
+    let q : 2 * (i + 1) ≡ 2 * i + 1 + 1 = omega arith in
+    let r : w ≡ get_or (hexadecimal s) (2 * i + 1) 0 = f ∙ sym (get_or_low s i l) ∙ ap (λ (k : ℕ). get_or (hexadecimal s) k 0) (sym p) in
+    rw (q, e, ← get_or_high s i l, copy_more (2 * i) (hexadecimal s) out (omega arith) (omega arith), r)
+    (copy_more (2 * i + 1) (hexadecimal s) out (omega arith) (omega arith))
+
+pub hex_end : (s out : List ℕ) (n : ℕ) → length out ≡ 2 * length s → n ≡ length s → take (2 * n) (hexadecimal s) ++ drop (2 * n) out ≡ hexadecimal s
+hex_end s out n h e = copy_all (2 * n) (hexadecimal s) out (omega (arith, length-hexadecimal s)) (omega arith)
 
 -- ---- text behind text p that is written, and the rest r after it
 module _ (p s r : List ℕ) (h : length s ≤ length r) where

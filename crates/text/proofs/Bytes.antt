@@ -6,7 +6,7 @@ use mathlib.Core.List.{List, [], ◌∷◌, ◌++◌}
 use mathlib.Core.Logic.{⊎_elim}
 use Prim.Native.Nat.{ℕ, zero, suc, ◌+◌, ◌-◌, ◌*◌, ◌/◌, ◌%◌, ◌≤◌, ◌<◌, min}
 use native.Mathlib.Omega.{arith}
-use borrow.Author.Tests.{eq-eqb, ne_eqb, eqb-true, le-leb, lt-leb, leb-true}
+use borrow.Author.Tests.{ne_eqb, eqb-true, le-leb, leb-true}
 use lib.Dec.{eqb, leb}
 use lib.ListN.{length, get_or, take, drop, drop_of_length-le}
 use lib.Seq.{take_all}
@@ -14,7 +14,7 @@ use Rattle.lists.proofs.Tests.{either, lt_or_le, and_left, and_right, and_no_lef
 use Rattle.text.specs.Read.{every, is_digit, digit_of, is_hex, hex_of, is_bytes, bytes_of}
 use Rattle.text.proofs.Numbers.{digit_high}
 
--- ---- digits: the cases of the code, the range, and the value
+-- ---- digits: the tests, the range, and the value
 module _ (b : ℕ) where
   pub hex_digit : is_digit b ≡ true → is_hex b ≡ true
   unfolding is_hex
@@ -24,14 +24,8 @@ module _ (b : ℕ) where
   unfolding is_hex
   letter e = or_tail (is_digit b) (leb 0x61 b && leb b 0x66) e
 
-  pub hex_below : is_digit b ≡ false → b < 0x61 → is_hex b ≡ false
-  hex_below e l = letter e ∙ and_no_left (leb 0x61 b) (leb b 0x66) (lt-leb 0x61 b l)
-
   pub hex_from : is_digit b ≡ false → 0x61 ≤ b → is_hex b ≡ leb b 0x66
   hex_from e l = letter e ∙ and_tail (leb 0x61 b) (leb b 0x66) (le-leb 0x61 b l)
-
-  pub letter_low : is_digit b ≡ false → is_hex b ≡ true → 0x61 ≤ b
-  letter_low e h = leb-true 0x61 b (and_left (leb 0x61 b) (leb b 0x66) (sym (letter e) ∙ h))
 
   pub letter_high : is_digit b ≡ false → is_hex b ≡ true → b ≤ 0x66
   letter_high e h = leb-true b 0x66 (and_right (leb 0x61 b) (leb b 0x66) (sym (letter e) ∙ h))
@@ -100,7 +94,7 @@ bytes_lt (a ∷ []) i = omega arith
 bytes_lt (a ∷ (b ∷ f)) zero = byte_small a b
 bytes_lt (a ∷ (b ∷ f)) (suc i) = bytes_lt f i
 
--- ---- a field of whole bytes: the cases of the code
+-- ---- a field of whole bytes
 module _ (len : ℕ) (f : List ℕ) where
   pub bytes_odd : (length f % 2 ≡ 0 → ⊥) → is_bytes len f ≡ false
   unfolding is_bytes
@@ -109,10 +103,6 @@ module _ (len : ℕ) (f : List ℕ) where
   pub bytes_other : (length f / 2 ≡ len → ⊥) → is_bytes len f ≡ false
   unfolding is_bytes
   bytes_other n = and_no_left (eqb (length f) (2 * len)) (every is_hex f) (ne_eqb (length f) (2 * len) (λ e. n (omega arith)))
-
-  pub bytes_even : length f % 2 ≡ 0 → length f / 2 ≡ len → is_bytes len f ≡ every is_hex f
-  unfolding is_bytes
-  bytes_even e h = and_tail (eqb (length f) (2 * len)) (every is_hex f) (eq-eqb (length f) (2 * len) (omega arith))
 
   -- such a field has two digits for each byte, and says len bytes
   pub bytes-digits : is_bytes len f ≡ true → length f ≡ 2 * len

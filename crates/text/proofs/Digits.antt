@@ -9,8 +9,8 @@ use native.Mathlib.Numerals.{add-one}
 use native.Mathlib.Omega.{arith}
 use borrow.Author.Tests.{lt-ltb, le-ltb}
 use lib.Dec.{ltb}
-use lib.ListN.{length, get_or, set, take, drop, length-append, length-set, length-drop, drop_of_length-le}
-use lib.Seq.{drop-cons, get_or-set_same, drop-set-lt, take_all}
+use lib.ListN.{length, get_or, set, drop, length-append, length-set, drop_of_length-le}
+use lib.Seq.{drop-cons, get_or-set_same, drop-set-lt}
 use Rattle.lists.proofs.Tests.{lt_or_le, cond_yes, cond_no}
 use Rattle.text.specs.Write.{digit_byte, hex_byte, digits, decimal, hexadecimal}
 
@@ -52,10 +52,6 @@ pub digits_end : (m y v : ℕ) (b : List ℕ) → y < 10 → m < length b → v 
 digits_end m y v b l h e =
     rw (add-one m)
     (ap (λ (r : List ℕ). r ++ drop (suc m) b) (digits_one m y l) ∙ ap (λ (d : ℕ). d ∷ drop (suc m) b) (sym e) ∙ sym (drop-set b m v h))
-
--- the part that is lent is all from r on
-pub digits_part : (b : List ℕ) (r : ℕ) (d : List ℕ) → length b ≡ 20 → drop r b ≡ d → take (20 - r) (drop r b) ≡ d
-digits_part b r d e h = take_all (20 - r) (drop r b) (omega (arith, length-drop r b)) ∙ h
 
 -- the rest has a place left
 pub places_left : (m y : ℕ) → 10 ≤ y → y < 10 ^ (m + 1) → 1 ≤ m

@@ -1,18 +1,19 @@
 -- Laws of the bytes before a byte and behind it. The main ones: `before_le` and `before_take` (a front part of the list), `before_text` and
--- `behind_text` (a text, the byte and the rest, taken apart again), and the turns of the loop that looks for the byte.
+-- `behind_text` (a text, the byte and the rest, taken apart again), `until_some` and `until_none` (the place that `find` answers).
 use mathlib.Core.Path.{◌≡◌, refl, sym, ap, ◌∙◌}
-use mathlib.Core.Bool.{Bool, true, false}
+use mathlib.Core.Bool.{Bool, true, false, cond, not}
 use mathlib.Core.List.{List, [], ◌∷◌, ◌++◌}
 use mathlib.Core.Logic.{⊎_elim}
-use Prim.Native.Nat.{ℕ, suc, ◌+◌, ◌≤◌, ◌<◌}
+use Prim.Native.Nat.{ℕ, ◌+◌, ◌≤◌, ◌<◌}
 use native.Mathlib.Nat.{le_refl}
-use native.Mathlib.Numerals.{add-one}
 use native.Mathlib.Omega.{arith}
-use borrow.Author.Tests.{eq-eqb, ne_eqb}
-use lib.Dec.{eqb}
-use lib.ListN.{length, get_or, take, drop}
-use lib.Seq.{drop-cons, drop-append-add}
-use Rattle.lists.proofs.Tests.{true≢false, and_left, and_right, cond_yes, cond_no, same_or_not}
+use borrow.Author.Tests.{eq-eqb, ne_eqb, lt-ltb, le-ltb}
+use lib.Dec.{eqb, ltb}
+use lib.ListN.{length, take, drop}
+use lib.Seq.{drop-append-add, take_all}
+use Rattle.lists.proofs.Tests.{true≢false, and_left, and_right, cond_yes, cond_no, same_or_not, lt_or_le}
+use Rattle.std.specs.Prelude.{Some, None, position, nat_eq}
+use Rattle.std.specs.List.{position_or_len}
 use Rattle.text.specs.Read.{before, behind, every}
 
 -- the list starts with the byte, or with another
@@ -66,22 +67,42 @@ module _ (p : ℕ → Bool) (c : ℕ) (n : p c ≡ false) where
   unfolding behind
   behind_text s r h = ap (λ (l : List ℕ). drop (length l + 1) (s ++ (c ∷ r))) (before_text s r h) ∙ drop-append-add s (c ∷ r) 1
 
--- ---- the loop: the place is i and what stands before the byte in the rest
--- it is i where the byte stands there
-pub find_at : (c : ℕ) (l : List ℕ) (i : ℕ) → i < length l → get_or l i 0 ≡ c → i + length (before c (drop i l)) ≡ i
-find_at c l i h e =
-    omega (arith, ap (λ (r : List ℕ). length (before c r)) (drop-cons l i 0 h), ap length (before_at c (get_or l i 0) (drop (suc i) l) e))
+-- ---- the place of the byte
+-- as std says it
+front : (x : ℕ) (r : List ℕ) (n : ℕ) (b : Bool) → n ≡ length r → cond (not b) (1 + n) 0 ≡ length (cond b [] (x ∷ r))
+front x r n true e = refl
+front x r n false e = omega arith
 
--- a turn that passes another byte
-pub find_past : (c : ℕ) (l : List ℕ) (i : ℕ) → i < length l → (get_or l i 0 ≡ c → ⊥)
-    → i + length (before c (drop i l)) ≡ (i + 1) + length (before c (drop (i + 1) l))
-find_past c l i h n =
-    rw add-one
-    (omega (arith, ap (λ (r : List ℕ). length (before c r)) (drop-cons l i 0 h), ap length (before_past c (get_or l i 0) (drop (suc i) l) n)))
+length_front : (c : ℕ) (l : List ℕ) → position_or_len (λ x. nat_eq x c) l ≡ length (before c l)
+unfolding before
+length_front c [] = refl
+length_front c (x ∷ l) = front x (before c l) _ (eqb x c) (length_front c l)
 
--- the end
-pub find_end : (c : ℕ) (l : List ℕ) (i : ℕ) → length l ≤ i → i + length (before c (drop i l)) ≡ i
-find_end c l i h = omega (arith, before_le c (drop i l), lib.ListN.length-drop i l)
+-- what stands before the byte that was found; all of l where none was
+module _ (c : ℕ) (l : List ℕ) where
+  place : ℕ
+  place = length (before c l)
+
+  position_is : position (λ x. nat_eq x c) l ≡ cond (ltb place (length l)) (Some place) None
+  unfolding place
+  position_is = ap (λ (n : ℕ). cond (ltb n (length l)) (Some n) None) (length_front c l)
+
+  pub until_some : (i : ℕ) → Some i ≡ position (λ x. nat_eq x c) l → take i l ≡ before c l
+  unfolding place
+  until_some i d =
+      ⊎_elim
+      (λ (h : place < length l).
+      let q = position_is ∙ cond_yes _ _ _ (lt-ltb _ _ h) in let e : i ≡ place = cc in ap (λ (n : ℕ). take n l) e ∙ sym (before_take c l))
+      (λ (h : length l ≤ place). let q = position_is ∙ cond_no _ _ _ (le-ltb _ _ h) in let z : ◌≡◌ {A = ℕ} 0 1 = cc in absurd (omega arith))
+      (lt_or_le place (length l))
+
+  pub until_none : None ≡ position (λ x. nat_eq x c) l → l ≡ before c l
+  unfolding place
+  until_none d =
+      ⊎_elim
+      (λ (h : place < length l). let q = position_is ∙ cond_yes _ _ _ (lt-ltb _ _ h) in let z : ◌≡◌ {A = ℕ} 0 1 = cc in absurd (omega arith))
+      (λ (h : length l ≤ place). sym (before_take c l ∙ take_all place l h))
+      (lt_or_le place (length l))
 
 pub behind-drop : (c : ℕ) (l : List ℕ) → behind c l ≡ drop (length (before c l) + 1) l
 unfolding behind

@@ -6,7 +6,7 @@
 --     line_le, line_part                   a line is a part of the text
 --     yes_ended, no_ended, ended_yes       whether it ends in a newline; next_is: where the next one starts
 --     held_ended, held_short, held_next    the same of a line that the code holds
---     Named, names_said, names_none        a line of names: what the place behind it tells
+--     Named, names_said, names_none        a line of names: what the place behind it tells, or that there is none
 --     rest_le, rest_end                    what follows some commas is the end of the line
 --     NumbersFound, numbers-found          the numbers in the first fields: what the answer tells; numbers_none; numbers_range: each is in its range;
 --                                          numbers_three, numbers_four: the test, field by field

@@ -2,7 +2,7 @@
 -- `numbers_none` (what an answer tells), `numbers_range` (each field is in its range), and the turns of the loop that reads the fields.
 use mathlib.Core.Path.{◌≡◌, refl, sym, ap, ◌∙◌}
 use mathlib.Core.Bool.{true, false, ◌&&◌}
-use mathlib.Core.List.{List}
+use mathlib.Core.List.{List, [], ◌∷◌}
 use mathlib.Core.Logic.{⊎_elim}
 use Prim.Native.Nat.{ℕ, zero, suc, ◌+◌, ◌-◌, ◌*◌, ◌/◌, ◌≤◌, ◌<◌}
 use native.Mathlib.Numerals.{add-one}
@@ -16,11 +16,10 @@ use Rattle.lists.proofs.Tests.{true≢false, fails, passes, and_left, and_right,
 use Rattle.lists.proofs.Sums.{below_suc}
 use Rattle.lists.proofs.Fills.{filled_none, get_or-filled, fill_more}
 use Rattle.lists.proofs.Parts.{end_drop}
-use Rattle.text.specs.declared.Number.{Number}
-use Rattle.text.specs.declared.Number.TheVariants.{Value, Wrong}
+use Rattle.std.specs.Prelude.{Option, Some, None}
 use Rattle.text.specs.declared.lines.Numbers.{Numbers}
 use Rattle.text.specs.Read.{comma, before, behind, value_of, number_read}
-use Rattle.text.specs.Lines.{rest, field, in_range, in_ranges, is_numbers, no_numbers, numbers_in, numbers_of}
+use Rattle.text.specs.Lines.{rest, field, in_range, in_ranges, is_numbers, numbers_in, numbers_of, flat}
 use Rattle.text.proofs.Fields.{before_le, behind-drop}
 use Rattle.text.proofs.Numbers.{number_some, number_is, answer_value, answer-wrong}
 
@@ -46,14 +45,37 @@ unfolding rest
 rest_more zero l = refl
 rest_more (suc i) l = rest_more i (behind comma l)
 
+-- ---- ranges, in turn
+pub half_flat : (rs : List (ℕ × ℕ)) → length (flat rs) / 2 ≡ length rs
+half_flat [] = refl
+half_flat (r ∷ rs) = omega (arith, half_flat rs)
+
+flat_low : (rs : List (ℕ × ℕ)) (i : ℕ) → get_or (flat rs) (2 * i) 0 ≡ (get_or rs i (0, 0)).0
+flat_low [] i = refl
+flat_low (r ∷ rs) zero = refl
+flat_low (r ∷ rs) (suc i) =
+    let e : 2 * suc i ≡ suc (suc (2 * i)) = omega arith in
+    rw e (flat_low rs i)
+
+flat_high : (rs : List (ℕ × ℕ)) (i : ℕ) → get_or (flat rs) (2 * i + 1) 0 ≡ (get_or rs i (0, 0)).1
+flat_high [] i = refl
+flat_high (r ∷ rs) zero = refl
+flat_high (r ∷ rs) (suc i) =
+    let e : 2 * suc i + 1 ≡ suc (suc (2 * i + 1)) = omega arith in
+    rw e (flat_high rs i)
+
+pub read_flat : (rs : List (ℕ × ℕ)) (i : ℕ) (f : List ℕ)
+    → number_read (get_or rs i (0, 0)).0 (get_or rs i (0, 0)).1 f ≡ number_read (get_or (flat rs) (2 * i) 0) (get_or (flat rs) (2 * i + 1) 0) f
+read_flat rs i f = rw (flat_low rs i, flat_high rs i) refl
+
 -- ---- the numbers in the first fields
 module _ (rs l : List ℕ) where
   -- the answer, by the test
-  numbers_yes : is_numbers rs l ≡ true → numbers_of rs l ≡ numbers_in rs l
+  numbers_yes : is_numbers rs l ≡ true → numbers_of rs l ≡ Some (numbers_in rs l)
   unfolding numbers_of
   numbers_yes y = cond_yes _ _ _ y
 
-  numbers_no : is_numbers rs l ≡ false → numbers_of rs l ≡ no_numbers
+  numbers_no : is_numbers rs l ≡ false → numbers_of rs l ≡ None
   unfolding numbers_of
   numbers_no y = cond_no _ _ _ y
 
@@ -85,7 +107,7 @@ module _ (rs l : List ℕ) where
   numbers_four e = ap (λ (n : ℕ). leb n 4 && in_ranges rs l n) e
 
   -- too many ranges
-  pub numbers-many : 4 < length rs / 2 → no_numbers ≡ numbers_of rs l
+  pub numbers-many : 4 < length rs / 2 → None ≡ numbers_of rs l
   unfolding is_numbers
   numbers-many h = sym (numbers_no (and_no_left _ _ (lt-leb (length rs / 2) 4 h)))
 
@@ -96,14 +118,15 @@ pub record NumbersFound (rs l : List ℕ) (f : Numbers) : Type 0 where
   pub end : f.end ≡ length l - length (rest (length rs / 2) l)
   pub follows : drop f.end l ≡ rest (length rs / 2) l
 
-module _ (rs l : List ℕ) {f : Numbers} (d : f ≡ numbers_of rs l) where
-  pub numbers_none : f.found ≡ false → is_numbers rs l ≡ false
-  numbers_none w = fails _ (λ y. true≢false (sym (ap (λ (x : Numbers). x.found) (d ∙ numbers_yes rs l y)) ∙ w))
+module _ (rs l : List ℕ) where
+  pub numbers_none : None ≡ numbers_of rs l → is_numbers rs l ≡ false
+  numbers_none d = fails _ (λ y. let q = numbers_yes rs l y in let z : ◌≡◌ {A = ℕ} 0 1 = cc in omega arith)
 
-  pub numbers-found : f.found ≡ true → NumbersFound rs l f
-  numbers-found w =
-      let y = passes (is_numbers rs l) (λ z. true≢false (sym w ∙ ap (λ (x : Numbers). x.found) (d ∙ numbers_no rs l z))) in
-      let q : f ≡ numbers_in rs l = d ∙ numbers_yes rs l y in
+  pub numbers-found : {f : Numbers} → Some f ≡ numbers_of rs l → NumbersFound rs l f
+  numbers-found {f} d =
+      let y = passes (is_numbers rs l) (λ e. let n = numbers_no rs l e in let z : ◌≡◌ {A = ℕ} 0 1 = cc in omega arith) in
+      let t = numbers_yes rs l y in
+      let q : f ≡ numbers_in rs l = cc in
       record {
         numbers = y;
         value = λ i h. ap (λ (x : Numbers). get_or x.values i 0) q
@@ -125,7 +148,7 @@ sofar_start rs l = record { start = refl; ranges = refl; kept = sym (filled_none
 
 module _ {rs l values : List ℕ} {a i : ℕ} (s : Sofar rs l values a i) where
   -- x is field i, and r is what was read there
-  module _ {x : List ℕ} (e : x ≡ before comma (drop a l)) {r : Number} (d : r ≡ number_read (get_or rs (2 * i) 0) (get_or rs (2 * i + 1) 0) x) where
+  module _ {x : List ℕ} (e : x ≡ before comma (drop a l)) {r : Option ℕ} (d : r ≡ number_read (get_or rs (2 * i) 0) (get_or rs (2 * i + 1) 0) x) where
     is_field : x ≡ field i l
     unfolding field
     is_field = e ∙ ap (before comma) s.start
@@ -133,12 +156,12 @@ module _ {rs l values : List ℕ} {a i : ℕ} (s : Sofar rs l values a i) where
     answer : number_read (get_or rs (2 * i) 0) (get_or rs (2 * i + 1) 0) (field i l) ≡ r
     answer = ap (number_read (get_or rs (2 * i) 0) (get_or rs (2 * i + 1) 0)) (sym is_field) ∙ sym d
 
-    pub sofar_stop : r ≡ Wrong → i < length rs / 2 → no_numbers ≡ numbers_of rs l
+    pub sofar_stop : r ≡ None → i < length rs / 2 → None ≡ numbers_of rs l
     unfolding is_numbers
     sofar_stop u h =
         sym (numbers_no rs l (and_no_right (leb (length rs / 2) 4) _ (no_ranges rs l i (length rs / 2) h (answer-wrong _ _ _ (answer ∙ u)))))
 
-    module _ {v : ℕ} (u : r ≡ Value v) where
+    module _ {v : ℕ} (u : r ≡ Some v) where
       told : (in_range rs l i ≡ true) × (v ≡ value_of (field i l))
       told = answer_value _ _ _ v (answer ∙ u)
 
@@ -160,9 +183,9 @@ module _ {rs l values : List ℕ} {a i : ℕ} (s : Sofar rs l values a i) where
 
   -- all were read, and x follows
   pub sofar_end : i ≡ length rs / 2 → i ≤ 4 → {x : List ℕ} → x ≡ drop a l
-      → record { found = true; values = values; end = length l - length x } ≡ numbers_of rs l
+      → Some (record { values = values; end = length l - length x }) ≡ numbers_of rs l
   unfolding is_numbers
   sofar_end h g {x} e =
       let y = and_both _ _ (le-leb (length rs / 2) 4 (omega arith)) (ap (in_ranges rs l) (sym h) ∙ s.ranges) in
-      let q : record { found = true; values = values; end = length l - length x } ≡ numbers_in rs l = cc in
-      q ∙ sym (numbers_yes rs l y)
+      let q : record { values = values; end = length l - length x } ≡ numbers_in rs l = cc in
+      ap Some q ∙ sym (numbers_yes rs l y)

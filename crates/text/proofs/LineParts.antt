@@ -1,28 +1,18 @@
 -- Laws of lines. The main ones: `line_part` (a line as a part of the text), `ended_yes` and `next_is`, `names_said` and `names_none` (what the place
 -- behind a line of names tells).
 use mathlib.Core.Path.{◌≡◌, refl, sym, ap, subst, ◌∙◌}
-use mathlib.Core.Bool.{true, false, cond}
+use mathlib.Core.Bool.{true, false}
 use mathlib.Core.List.{List}
-use Prim.Native.Nat.{ℕ, ◌+◌, ◌-◌, ◌≤◌, ◌<◌}
+use Prim.Native.Nat.{ℕ, ◌+◌, ◌≤◌, ◌<◌}
 use native.Mathlib.Omega.{arith}
 use borrow.Author.Tests.{lt-ltb, le-ltb, ltb-true}
-use lib.ListN.{length, take, drop, length-drop, drop_of_length-le}
-use Rattle.lists.specs.Same.{same}
+use lib.ListN.{length, take, drop, length-drop}
+use Rattle.lists.proofs.Sames.{same_eq, eq_same}
 use Rattle.lists.proofs.Tests.{fails, passes, and_left, and_both, and_no_left, and_no_right, cond_yes, cond_no}
-use Rattle.lists.proofs.Parts.{part_rest}
 use Rattle.text.specs.Read.{newline, before}
-use Rattle.text.specs.Lines.{line_at, is_ended, next_at, is_names}
+use Rattle.std.specs.Prelude.{Some, None}
+use Rattle.text.specs.Lines.{line_at, is_ended, next_at, is_names, named_at}
 use Rattle.text.proofs.Fields.{before_le, before_take}
-
--- ---- parts, as the code lends them
-pub lent_end : (l : List ℕ) (a : ℕ) → length l ≤ a → take (length l - length l) (drop (length l) l) ≡ drop a l
-lent_end l a h = part_rest (length l) l ∙ drop_of_length-le l {i = length l} (omega arith) ∙ sym (drop_of_length-le l h)
-
-pub found_within : (c : ℕ) (l : List ℕ) (i : ℕ) → i ≡ length (before c l) → i ≤ length l
-found_within c l i e = omega (arith, before_le c l)
-
-pub lent_before : (c : ℕ) (l x : List ℕ) (i : ℕ) → x ≡ l → i ≡ length (before c x) → take i x ≡ before c l
-lent_before c l x i e d = ap (λ (y : ℕ). take y x) d ∙ sym (before_take c x) ∙ ap (before c) e
 
 -- ---- lines
 module _ (input : List ℕ) (a : ℕ) where
@@ -78,10 +68,20 @@ module _ (names input : List ℕ) (a : ℕ) where
   unfolding is_names
   named_ended y = and_left _ _ y
 
-  pub names_said : (r : ℕ) → r ≡ cond (is_names names input a) (next_at input a) 0 → (r ≡ 0 → ⊥) → Named names input a r
-  names_said r d n =
-      let y = passes (is_names names input a) (λ z. n (d ∙ cond_no _ _ _ z)) in
-      let q : r ≡ next_at input a = d ∙ cond_yes _ _ _ y in
+  -- the answer, by the test
+  named_yes : is_names names input a ≡ true → named_at names input a ≡ Some (next_at input a)
+  unfolding named_at
+  named_yes y = cond_yes _ _ _ y
+
+  named_no : is_names names input a ≡ false → named_at names input a ≡ None
+  unfolding named_at
+  named_no e = cond_no _ _ _ e
+
+  pub names_said : (r : ℕ) → Some r ≡ named_at names input a → Named names input a r
+  names_said r d =
+      let y = passes (is_names names input a) (λ e. let n = named_no e in let z : ◌≡◌ {A = ℕ} 0 1 = cc in omega arith) in
+      let t = named_yes y in
+      let q : r ≡ next_at input a = cc in
       record {
         named = y;
         next = q;
@@ -89,29 +89,28 @@ module _ (names input : List ℕ) (a : ℕ) where
         most = omega (arith, q, next_is input a, ended_yes input a (named_ended y));
       }
 
-  pub names_none : (r : ℕ) → r ≡ cond (is_names names input a) (next_at input a) 0 → r ≡ 0 → is_names names input a ≡ false
-  names_none r d z = fails _ (λ y. let q : r ≡ next_at input a = d ∙ cond_yes _ _ _ y in omega (arith, next_is input a))
+  pub names_none : None ≡ named_at names input a → is_names names input a ≡ false
+  names_none d = fails _ (λ y. let q = named_yes y in let z : ◌≡◌ {A = ℕ} 0 1 = cc in omega arith)
 
   -- the cases of the code
-  not_named : is_names names input a ≡ false → 0 ≡ cond (is_names names input a) (next_at input a) 0
-  not_named e = sym (cond_no _ _ _ e)
-
-  not-ended : is_ended input a ≡ false → 0 ≡ cond (is_names names input a) (next_at input a) 0
+  not-ended : is_ended input a ≡ false → None ≡ named_at names input a
   unfolding is_names
-  not-ended e = not_named (and_no_left _ _ e)
+  not-ended e = sym (named_no (and_no_left _ _ e))
 
-  pub names_past : length input ≤ a → 0 ≡ cond (is_names names input a) (next_at input a) 0
+  pub names_past : length input ≤ a → None ≡ named_at names input a
   names_past h = not-ended (no_ended input a (omega arith))
 
   module _ (l : List ℕ) (e : l ≡ line_at input a) where
-    pub names_short : length input ≤ a + length l → 0 ≡ cond (is_names names input a) (next_at input a) 0
+    pub names_short : length input ≤ a + length l → None ≡ named_at names input a
     names_short h = not-ended (held_short input l a e h)
 
-    pub names_same : a + length l < length input → same l names ≡ true → a + length l + 1 ≡ cond (is_names names input a) (next_at input a) 0
+    pub names_same : a + length l < length input → l ≡ names → Some (a + length l + 1) ≡ named_at names input a
     unfolding is_names
-    names_same h s =
-        held_next input l a e ∙ sym (cond_yes _ _ _ (and_both _ _ (held_ended input l a e h) (ap (λ (x : List ℕ). same x names) (sym e) ∙ s)))
+    names_same h s = ap Some (held_next input l a e) ∙ sym (named_yes (and_both _ _ (held_ended input l a e h) (eq_same _ _ (sym e ∙ s))))
 
-    pub names_other : same l names ≡ false → 0 ≡ cond (is_names names input a) (next_at input a) 0
+    pub names_other : (l ≡ names → ⊥) → None ≡ named_at names input a
     unfolding is_names
-    names_other s = not_named (and_no_right (is_ended input a) _ (ap (λ (x : List ℕ). same x names) (sym e) ∙ s))
+    names_other n = sym (named_no (and_no_right (is_ended input a) _ (fails _ (λ y. n (e ∙ same_eq _ _ y)))))
+
+-- what the code's goals need
+pub ruleset names_cases = (names_past, names_short, names_same, names_other)

@@ -4,17 +4,17 @@ use mathlib.Core.Path.{◌≡◌, refl, sym, ap, ◌∙◌}
 use mathlib.Core.Bool.{Bool, true, false, cond, not, ◌&&◌}
 use mathlib.Core.List.{List, [], ◌∷◌, ◌++◌}
 use mathlib.Core.Logic.{⊎_elim}
-use Prim.Native.Nat.{ℕ, suc, ◌+◌, ◌-◌, ◌*◌, ◌≤◌, ◌<◌}
+use Prim.Native.Nat.{ℕ, zero, suc, ◌+◌, ◌-◌, ◌*◌, ◌≤◌, ◌<◌}
 use native.Mathlib.Nat.{le_refl}
 use native.Mathlib.Numerals.{add-one}
 use native.Mathlib.Omega.{arith}
-use borrow.Author.Tests.{eq-eqb, ne_eqb, le-leb, lt-leb, leb-true}
+use borrow.Author.Tests.{ne_eqb, le-leb, lt-leb, leb-true}
 use lib.Dec.{eqb, leb}
 use lib.ListN.{length, get_or, drop}
 use lib.Seq.{drop-cons}
-use Rattle.lists.proofs.Tests.{true≢false, either, fails, and_left, and_right, and_both, and_no_left, and_no_right, and_tail, or_left, or_tail, cond_yes}
+use Rattle.lists.proofs.Tests.{true≢false, either, fails, and_left, and_right, and_both, and_no_left, and_no_right, and_tail, or_left, cond_yes}
 use Rattle.lists.proofs.Tests.{cond_no}
-use Rattle.text.specs.declared.Number.TheVariants.{Value, Wrong}
+use Rattle.std.specs.Prelude.{Some, None, IsTrue, ◌↔◌, EachIndex, slice_index}
 use Rattle.text.specs.Read.{every, is_digit, digit_of, is_number, value_from, value_of, number_in, number_read}
 use Rattle.text.specs.Steps.{headed, capped}
 
@@ -33,29 +33,32 @@ pub digit_lt : (b : ℕ) → is_digit b ≡ true → digit_of b < 10
 unfolding digit_of
 digit_lt b e = omega (arith, digit_low b e, digit_high b e)
 
--- the two tests of the code
-pub digit_below : (b : ℕ) → b < 0x30 → is_digit b ≡ false
-unfolding is_digit
-digit_below b l = and_no_left (leb 0x30 b) (leb b 0x39) (lt-leb 0x30 b l)
-
+-- from 0x30 on
 pub digit_from : (b : ℕ) → 0x30 ≤ b → is_digit b ≡ leb b 0x39
 unfolding is_digit
 digit_from b l = and_tail (leb 0x30 b) (leb b 0x39) (le-leb 0x30 b l)
 
 -- ---- a test of every byte
--- the loop that tests: a byte that fails, one that passes, the end
+-- a byte that fails
 pub every_stop : (p : ℕ → Bool) (l : List ℕ) (i : ℕ) → i < length l → p (get_or l i 0) ≡ false → every p (drop i l) ≡ false
 unfolding every
 every_stop p l i h e = ap (every p) (drop-cons l i 0 h) ∙ and_no_left (p (get_or l i 0)) (every p (drop (suc i) l)) e
 
-pub every_more : (p : ℕ → Bool) (l : List ℕ) (i : ℕ) → i < length l → p (get_or l i 0) ≡ true → every p (drop i l) ≡ every p (drop (i + 1) l)
+-- the test of each by its index
+every_of : (p : ℕ → Bool) (l : List ℕ) → ((i : ℕ) → i < length l → p (get_or l i 0) ≡ true) → every p l ≡ true
 unfolding every
-every_more p l i h e =
-    rw (add-one i) (ap (every p) (drop-cons l i 0 h) ∙ and_tail (p (get_or l i 0)) (every p (drop (suc i) l)) e)
+every_of p [] h = refl
+every_of p (x ∷ l) h = and_both (p x) (every p l) (h 0 (omega arith)) (every_of p l (λ i g. h (suc i) (omega arith)))
 
-pub every_end : (p : ℕ → Bool) (l : List ℕ) (i : ℕ) → length l ≤ i → every p (drop i l) ≡ true
+of_every : (p : ℕ → Bool) (l : List ℕ) → every p l ≡ true → (i : ℕ) → i < length l → p (get_or l i 0) ≡ true
 unfolding every
-every_end p l i h = ap (every p) (lib.ListN.drop_of_length-le l h)
+of_every p [] e i h = absurd (omega arith)
+of_every p (x ∷ l) e zero h = and_left (p x) (every p l) e
+of_every p (x ∷ l) e (suc i) h = of_every p l (and_right (p x) (every p l) e) i (omega arith)
+
+pub every_each : (p : ℕ → Bool) (l : List ℕ) (b : Bool) → IsTrue b ↔ EachIndex l (λ k. p (slice_index l k) ≡ true) → b ≡ every p l
+every_each p l true h = sym (every_of p l (h.0 refl))
+every_each p l false h = sym (fails (every p l) (λ e. true≢false (sym (h.1 (of_every p l e)))))
 
 -- both parts pass
 pub every_append : (p : ℕ → Bool) (a b : List ℕ) → every p a ≡ true → every p b ≡ true → every p (a ++ b) ≡ true
@@ -64,17 +67,7 @@ every_append p [] b e h = h
 every_append p (x ∷ a) b e h =
     and_both (p x) (every p (a ++ b)) (and_left (p x) (every p a) e) (every_append p a b (and_right (p x) (every p a) e) h)
 
--- ---- the first byte: the cases of the code
-pub headed_none : (f : List ℕ) → length f ≡ 0 → headed f ≡ false
-unfolding headed
-headed_none [] e = refl
-headed_none (d ∷ f) e = absurd (omega arith)
-
-pub headed-zero : (f : List ℕ) → 0 < length f → get_or f 0 0 ≡ 0x30 → headed f ≡ eqb (length f) 1
-unfolding headed
-headed-zero [] l e = absurd (omega arith)
-headed-zero (d ∷ f) l e = or_tail (not (eqb d 0x30)) (eqb (length f) 0) (ap not (eq-eqb d 0x30 e)) ∙ sym (lib.Dec.eqb-suc-suc (length f) 0)
-
+-- ---- the first byte
 pub headed_other : (f : List ℕ) → 0 < length f → (get_or f 0 0 ≡ 0x30 → ⊥) → headed f ≡ true
 unfolding headed
 headed_other [] l n = absurd (omega arith)
@@ -99,28 +92,30 @@ value_grows [] x = le_refl x
 value_grows (d ∷ f) x = omega (arith, value_grows f (x * 10 + digit_of d))
 
 module _ (high : ℕ) where
+  -- the answer, by the test
+  capped_yes : (x : ℕ) (f : List ℕ) → every is_digit f ≡ true → value_from x f ≤ high → capped high x f ≡ Some (value_from x f)
+  unfolding capped
+  capped_yes x f e h = cond_yes _ _ _ (and_both _ _ e (le-leb _ high h))
+
+  capped_no : (x : ℕ) (f : List ℕ) → (every is_digit f && leb (value_from x f) high) ≡ false → capped high x f ≡ None
+  unfolding capped
+  capped_no x f e = cond_no _ _ _ e
+
   -- the loop that reads digits: the end, a byte that is no digit, a value above high
-  pub capped_end : (x : ℕ) (l : List ℕ) (i : ℕ) → length l ≤ i → x ≤ high → capped high x (drop i l) ≡ x
-  unfolding capped every value_from
-  capped_end x l i h m =
-      ap (capped high x) (lib.ListN.drop_of_length-le l h) ∙ cond_yes (leb x high) x (high + 1) (le-leb x high m)
+  pub capped_end : (x : ℕ) (l : List ℕ) (i : ℕ) → length l ≤ i → x ≤ high → capped high x (drop i l) ≡ Some x
+  unfolding every value_from
+  capped_end x l i h m = ap (capped high x) (lib.ListN.drop_of_length-le l h) ∙ capped_yes x [] refl m
 
-  pub capped_stop : (x : ℕ) (l : List ℕ) (i : ℕ) → i < length l → is_digit (get_or l i 0) ≡ false → capped high x (drop i l) ≡ high + 1
-  unfolding capped
-  capped_stop x l i h e =
-      cond_no (every is_digit (drop i l) && leb (value_from x (drop i l)) high) (value_from x (drop i l)) (high + 1)
-      (and_no_left (every is_digit (drop i l)) (leb (value_from x (drop i l)) high) (every_stop is_digit l i h e))
+  pub capped_stop : (x : ℕ) (l : List ℕ) (i : ℕ) → i < length l → is_digit (get_or l i 0) ≡ false → capped high x (drop i l) ≡ None
+  capped_stop x l i h e = capped_no x (drop i l) (and_no_left _ _ (every_stop is_digit l i h e))
 
-  pub capped_over : (x : ℕ) (f : List ℕ) → high < x → capped high x f ≡ high + 1
-  unfolding capped
-  capped_over x f h =
-      cond_no (every is_digit f && leb (value_from x f) high) (value_from x f) (high + 1)
-      (and_no_right (every is_digit f) (leb (value_from x f) high) (lt-leb (value_from x f) high (omega (arith, value_grows f x))))
+  pub capped_over : (x : ℕ) (f : List ℕ) → high < x → capped high x f ≡ None
+  capped_over x f h = capped_no x f (and_no_right _ _ (lt-leb _ high (omega (arith, value_grows f x))))
 
   capped-cons : (x d : ℕ) (f : List ℕ) → is_digit d ≡ true → capped high x (d ∷ f) ≡ capped high (x * 10 + (d - 0x30)) f
   unfolding capped every value_from digit_of
   capped-cons x d f e =
-      ap (λ (b : Bool). cond (b && leb (value_from (x * 10 + (d - 0x30)) f) high) (value_from (x * 10 + (d - 0x30)) f) (high + 1))
+      ap (λ (b : Bool). cond (b && leb (value_from (x * 10 + (d - 0x30)) f) high) (Some (value_from (x * 10 + (d - 0x30)) f)) None)
       (and_tail (is_digit d) (every is_digit f) e)
 
   -- one digit more
@@ -129,29 +124,33 @@ module _ (high : ℕ) where
   capped_more x l i h e =
       rw (add-one i) (ap (capped high x) (drop-cons l i 0 h) ∙ capped-cons x (get_or l i 0) (drop (suc i) l) e)
 
-  -- at most high: all digits, and their value
-  capped_fits : (f : List ℕ) → capped high 0 f ≤ high → (every is_digit f ≡ true) × (capped high 0 f ≡ value_of f)
-  unfolding capped value_of
-  capped_fits f h =
+  -- what an answer tells: all are digits, and their value
+  capped_some : (f : List ℕ) (v : ℕ) → Some v ≡ capped high 0 f → (every is_digit f ≡ true) × (v ≡ value_of f) × (v ≤ high)
+  unfolding value_of
+  capped_some f v d =
       ⊎_elim
-      (λ (e : (every is_digit f && leb (value_from 0 f) high) ≡ true). (
-        and_left (every is_digit f) (leb (value_from 0 f) high) e,
-        cond_yes (every is_digit f && leb (value_from 0 f) high) (value_from 0 f) (high + 1) e,
-      ))
-      (λ (e : (every is_digit f && leb (value_from 0 f) high) ≡ false).
-      absurd (omega (arith, cond_no (every is_digit f && leb (value_from 0 f) high) (value_from 0 f) (high + 1) e)))
+      (λ (e : (every is_digit f && leb (value_from 0 f) high) ≡ true).
+      let q = and_left (every is_digit f) _ e in
+      let l = leb-true (value_from 0 f) high (and_right (every is_digit f) _ e) in
+      let y = capped_yes 0 f q l in
+      let z : v ≡ value_from 0 f = cc in
+      (q, z, omega arith))
+      (λ (e : (every is_digit f && leb (value_from 0 f) high) ≡ false). let n = capped_no 0 f e in let z : ◌≡◌ {A = ℕ} 0 1 = cc in absurd (omega arith))
       (either (every is_digit f && leb (value_from 0 f) high))
+
+-- what the loop's goals need
+pub ruleset value_turns = (digit_low, digit_high, capped_end, capped_stop, capped_over, capped_more)
 
 -- ---- a number in a range
 module _ (low high : ℕ) (f : List ℕ) where
   -- the answer, by the test
-  pub number_yes : number_in low high f ≡ true → number_read low high f ≡ Value (value_of f)
+  pub number_yes : number_in low high f ≡ true → number_read low high f ≡ Some (value_of f)
   unfolding number_read
-  number_yes e = cond_yes (number_in low high f) (Value (value_of f)) Wrong e
+  number_yes e = cond_yes (number_in low high f) (Some (value_of f)) None e
 
-  pub number_no : number_in low high f ≡ false → number_read low high f ≡ Wrong
+  pub number_no : number_in low high f ≡ false → number_read low high f ≡ None
   unfolding number_read
-  number_no e = cond_no (number_in low high f) (Value (value_of f)) Wrong e
+  number_no e = cond_no (number_in low high f) (Some (value_of f)) None e
 
   -- what the test says: digits with no leading zero, and the range; and back
   pub number_is : number_in low high f ≡ true → is_number f ≡ true
@@ -173,40 +172,42 @@ module _ (low high : ℕ) (f : List ℕ) where
       (and_both (leb low (value_of f)) (leb (value_of f) high) (le-leb low (value_of f) l) (le-leb (value_of f) high h))
 
   -- the test, by the answer
-  pub answer_value : (v : ℕ) → number_read low high f ≡ Value v → (number_in low high f ≡ true) × (v ≡ value_of f)
+  pub answer_value : (v : ℕ) → number_read low high f ≡ Some v → (number_in low high f ≡ true) × (v ≡ value_of f)
   answer_value v e =
       ⊎_elim (λ (y : number_in low high f ≡ true). (y, let s = number_yes y in cc))
       (λ (y : number_in low high f ≡ false). let s = number_no y in let z : ◌≡◌ {A = ℕ} 0 1 = cc in absurd (omega arith))
       (either (number_in low high f))
 
-  pub answer-wrong : number_read low high f ≡ Wrong → number_in low high f ≡ false
+  pub answer-wrong : number_read low high f ≡ None → number_in low high f ≡ false
   answer-wrong e =
       ⊎_elim (λ (y : number_in low high f ≡ true). let s = number_yes y in let z : ◌≡◌ {A = ℕ} 0 1 = cc in absurd (omega arith))
       (λ (y : number_in low high f ≡ false). y)
       (either (number_in low high f))
 
   -- ---- the code's tests of the first byte and of the value
-  in_capped : number_in low high f ≡ true → capped high 0 f ≡ value_of f
-  unfolding capped value_of
-  in_capped e =
-      cond_yes (every is_digit f && leb (value_from 0 f) high) (value_from 0 f) (high + 1)
-      (and_both (every is_digit f) (leb (value_from 0 f) high)
-      (and_left (every is_digit f) (headed f) (sym (number-headed f) ∙ number_is e))
-      (le-leb (value_from 0 f) high (number_range e).1))
-
-  pub wrong_head : headed f ≡ false → number_read low high f ≡ Wrong
+  pub wrong_head : headed f ≡ false → number_read low high f ≡ None
   wrong_head h =
       number_no (fails (number_in low high f)
       (λ e. true≢false (sym (and_right (every is_digit f) (headed f) (sym (number-headed f) ∙ number_is e)) ∙ h)))
 
-  pub wrong_low : capped high 0 f < low → number_read low high f ≡ Wrong
-  wrong_low h = number_no (fails (number_in low high f) (λ e. omega (arith, in_capped e, (number_range e).0)))
+  pub wrong_value : None ≡ capped high 0 f → number_read low high f ≡ None
+  unfolding value_of
+  wrong_value d =
+      number_no (fails (number_in low high f)
+      (λ e.
+      let y = capped_yes high 0 f (and_left (every is_digit f) (headed f) (sym (number-headed f) ∙ number_is e)) (number_range e).1 in
+      let z : ◌≡◌ {A = ℕ} 0 1 = cc in
+      omega arith))
 
-  pub wrong_high : high < capped high 0 f → number_read low high f ≡ Wrong
-  wrong_high h = number_no (fails (number_in low high f) (λ e. omega (arith, in_capped e, (number_range e).1)))
+  module _ (v : ℕ) (d : Some v ≡ capped high 0 f) where
+    pub wrong_low : v < low → number_read low high f ≡ None
+    wrong_low h = number_no (fails (number_in low high f) (λ e. omega (arith, (capped_some high f v d).1, (number_range e).0)))
 
-  pub value_read : headed f ≡ true → low ≤ capped high 0 f → capped high 0 f ≤ high → number_read low high f ≡ Value (capped high 0 f)
-  value_read h l m =
-      let p = capped_fits high f m in
-      number_yes (number_in_lem (number-headed f ∙ and_both (every is_digit f) (headed f) p.0 h) (omega (arith, p.1)) (omega (arith, p.1)))
-      ∙ ap Value (sym p.1)
+    pub value_read : headed f ≡ true → low ≤ v → number_read low high f ≡ Some v
+    value_read h l =
+        let p = capped_some high f v d in
+        number_yes (number_in_lem (number-headed f ∙ and_both (every is_digit f) (headed f) p.0 h) (omega (arith, p.1)) (omega (arith, p.1)))
+        ∙ ap Some (sym p.1)
+
+-- what the code's goals need
+pub ruleset number_cases = (wrong_head, wrong_value, wrong_low, value_read)

@@ -9,13 +9,11 @@
 --   value_from x f          the number that the digits of x and then the digits f say
 --   value_of f              the number that decimal digits say
 --   number_in low high f    f is a number from low to high
---   number_read low high f  that number, or that f is none
+--   number_read low high f  that number; none where f is no such number
 --   is_hex b, hex_of b      a lower-case hexadecimal digit, and its value; 0 for any other byte
 --   is_bytes len f          exactly len bytes, each two lower-case hexadecimal digits
 --   bytes_of f              the bytes that hexadecimal digits say, two digits a byte, the high one first
-use Rattle.std.specs.Prelude.{Bool, true, false, cond, not, ◌&&◌, ◌||◌, List, [], ◌∷◌, ℕ, ◌+◌, ◌-◌, ◌*◌, eqb, leb, length, drop}
-use Rattle.text.specs.declared.Number.{Number}
-use Rattle.text.specs.declared.Number.TheVariants.{Value, Wrong}
+use Rattle.std.specs.Prelude.{Bool, true, false, cond, not, ◌&&◌, ◌||◌, Option, Some, None, List, [], ◌∷◌, ℕ, ◌+◌, ◌-◌, ◌*◌, eqb, leb, length, drop}
 
 abbrev pub newline : ℕ
 newline = 0x0a
@@ -54,8 +52,8 @@ value_of f = value_from 0 f
 unfoldable pub number_in : (low high : ℕ) → List ℕ → Bool
 number_in low high f = is_number f && (leb low (value_of f) && leb (value_of f) high)
 
-unfoldable pub number_read : (low high : ℕ) → List ℕ → Number
-number_read low high f = cond (number_in low high f) (Value (value_of f)) Wrong
+unfoldable pub number_read : (low high : ℕ) → List ℕ → Option ℕ
+number_read low high f = cond (number_in low high f) (Some (value_of f)) None
 
 unfoldable pub is_hex : ℕ → Bool
 is_hex b = is_digit b || (leb 0x61 b && leb b 0x66)

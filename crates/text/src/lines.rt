@@ -1,18 +1,11 @@
 // Lines of a text and fields of a line. A place past the end has an empty line and an empty field.
-ghost use Rattle.std.specs.Prelude.{◌≡◌, cond, drop};
+ghost use Rattle.std.specs.Prelude.{◌≡◌, drop};
 ghost use Rattle.text.specs.Read.{before};
-ghost use Rattle.text.specs.Lines.{line_at, next_at, is_names, no_numbers, numbers_of};
+ghost use Rattle.text.specs.Lines.{line_at, named_at, flat, numbers_of};
 
-use crate::Number;
-
-const NEWLINE: u8 = 0x0a;
-
-const COMMA: u8 = 0x2c;
-
-// The numbers in the first fields of a line, with zeros behind them, and where what follows these fields starts; zeros where they were not found.
-#[derive(Drop)]
+// The numbers in the first fields of a line, with zeros behind them, and where what follows these fields starts.
+#[derive(Clone, Copy)]
 pub struct Numbers {
-    pub found: bool,
     pub values: [usize; 4],
     pub end: usize,
 }
@@ -22,91 +15,64 @@ pub struct Numbers {
 pub fn tail(s: &[u8], at: usize) -> &[u8]
     ensures { result.now ≡ drop at s.now }
 {
-    let len = s.len();
-    if at < len {
-        return &s[at..];
-    }
-    &s[len..]
+    &s[at.min(s.len())..]
 }
 
 // What stands in s from `at` to the next byte c.
+#[tactic(auto, using(crate::proofs::Fields::until_some, crate::proofs::Fields::until_none))]
 fn until(s: &[u8], at: usize, c: u8) -> &[u8]
     ensures { result.now ≡ before c (drop at s.now) }
 {
     let rest = tail(s, at);
-    let end = crate::find(rest, c);
-    &rest[..end]
+    match crate::find(rest, c) {
+        Some(end) => &rest[..end],
+        None => rest,
+    }
 }
 
 // The line that starts at `at`, without its newline.
 // Shut out: the newline with the line; the line up to a comma.
+#[tactic(auto, unfolding(crate::specs::Lines::line_at))]
 pub fn line_at(input: &[u8], at: usize) -> &[u8]
     ensures { result.now ≡ line_at input.now at }
 {
-    until(input, at, NEWLINE)
+    until(input, at, b'\n')
 }
 
-// Where the line after a line of these names starts; 0 where the line at `at` is another, or has no newline.
+// Where the line after a line of these names starts; none where the line at `at` is another, or has no newline.
 // Shut out: names without a newline accepted; the place of the newline.
-pub fn after_names(input: &[u8], at: usize, names: &[u8]) -> usize
-    ensures { result ≡ cond (is_names names.now input.now at) (next_at input.now at) 0 }
+#[tactic(auto, using(crate::proofs::LineParts::names_cases))]
+pub fn after_names(input: &[u8], at: usize, names: &[u8]) -> Option<usize>
+    ensures { result ≡ named_at names.now input.now at }
 {
     if input.len() <= at {
-        return 0;
+        return None;
     }
     let l = line_at(input, at);
     let end = at + l.len();
-    if input.len() <= end {
-        return 0;
+    if input.len() <= end || l != names {
+        return None;
     }
-    if lists::is_equal(l, names) {
-        return end + 1;
-    }
-    0
+    Some(end + 1)
 }
 
-// The numbers in the first fields of l, each in a range of its own, and four at most. `ranges` has the lowest and the highest number of each range
-// in turn.
+// The numbers in the first fields of l, each in a range of its own, and four at most. `ranges` has the lowest and the highest number of each range.
 // Shut out: the place of the comma as the end; the first range for each field.
-pub fn read_numbers(l: &[u8], ranges: &[u32]) -> Numbers
-    ensures { result ≡ numbers_of ranges.now l.now }
+pub fn read_numbers(l: &[u8], ranges: &[(u32, u32)]) -> Option<Numbers>
+    ensures { result ≡ numbers_of (flat ranges.now) l.now }
 {
-    let count = ranges.len() / 2;
-    if 4 < count {
-        return not_found();
+    if ranges.len() > 4 {
+        return None;
     }
     let mut values = [0usize; 4];
     let mut at: usize = 0;
-    let mut i: usize = 0;
-    while i < count {
-        let f = until(l, at, COMMA);
-        let k = 2 * i;
-        match crate::read_number(f, ranges[k], ranges[k + 1]) {
-            Number::Value(x) => {
-                values[i] = x as usize;
-                at += f.len() + 1;
-                i += 1;
-            }
-            Number::Wrong => {
-                return not_found();
-            }
-        }
+    for (i, (low, high)) in ranges.iter().enumerate() {
+        let f = until(l, at, b',');
+        let x = crate::read_number(f, *low, *high)?;
+        values[i] = x as usize;
+        at += f.len() + 1;
     }
     let rest = tail(l, at);
-    Numbers {
-        found: true,
-        values,
-        end: l.len() - rest.len(),
-    }
-}
-
-// The answer to a line without these numbers.
-fn not_found() -> Numbers
-    ensures { result ≡ no_numbers }
-{
-    Numbers {
-        found: false,
-        values: [0; 4],
-        end: 0,
-    }
+    let end = l.len() - rest.len();
+    Some(Numbers { values, end })
 }

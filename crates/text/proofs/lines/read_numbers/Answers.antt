@@ -1,37 +1,31 @@
--- `read_numbers` meets its contract.
-use mathlib.Core.Path.{refl, ◌∙◌}
-use native.Mathlib.Omega.{arith}
-use Rattle.lists.proofs.Parts.{end_drop}
-use Rattle.text.proofs.LineNumbers.{numbers-many, sofar_start, sofar_stop, sofar_within, sofar_more, sofar_end}
-use borrow.Author.Rules.{rules}
+-- `lines::read_numbers` meets its contract.
+use Rattle.std.proofs.Common.{arith, ◌∙◌}
+use Rattle.text.specs.Lines.{flat}
+use Rattle.text.proofs.LineNumbers.{numbers-many, sofar_start, sofar_stop, sofar_within, sofar_more, sofar_end, half_flat, read_flat}
 use Rattle.text.proofs.lines.read_numbers.Goals as goal
 
-pub returns-then-count-gt4 : goal.returns-then-count-gt4
-returns-then-count-gt4 c =
-    let a = c.args in
-    c.not_found.ensures ∙ numbers-many a.ranges.now a.l.now c.if-count-gt4.true
+pub returns-then-ranges-gt4 : goal.returns-then-ranges-gt4
+returns-then-ranges-gt4 c = numbers-many (flat c.args.ranges.now) c.args.l.now (omega (arith, half_flat c.args.ranges.now))
 
 pub loop-i-init : goal.loop-i-init
-loop-i-init c =
-    let a = c.args in
-    (search rules, sofar_start a.ranges.now a.l.now)
+loop-i-init c = sofar_start (flat c.args.ranges.now) c.args.l.now
 
-pub overflow_add-at-in-Value : goal.overflow_add-at-in-Value
-overflow_add-at-in-Value c =
-    omega (arith, sofar_within c.loop-i.invariant.1 c.until-f.ensures c.in-Value.ensures refl)
+pub returns-in_err-x : goal.returns-in_err-x
+returns-in_err-x c =
+    let rs = c.args.ranges.now in
+    c.from_residual.ensures
+    ∙ sofar_stop c.loop-i.invariant c.until-f.ensures (c.read_number.ensures ∙ read_flat rs c.loop-i.i _) c.in_err-x.was (omega (arith, half_flat rs))
+
+pub overflow_add-at-in-loop-i : goal.overflow_add-at-in-loop-i
+overflow_add-at-in-loop-i c =
+    omega (
+      arith,
+      sofar_within c.loop-i.invariant c.until-f.ensures (c.read_number.ensures ∙ read_flat c.args.ranges.now c.loop-i.i _) c.in_ok-x.was,
+    )
 
 pub loop-i-preserved : goal.loop-i-preserved
 loop-i-preserved c =
-    (search rules, sofar_more c.loop-i.invariant.1 c.until-f.ensures c.in-Value.ensures refl (omega arith))
-
-pub returns-in-Wrong : goal.returns-in-Wrong
-returns-in-Wrong c =
-    c.not_found-in-Wrong.ensures
-    ∙ sofar_stop c.loop-i.invariant.1 c.until-f.ensures c.in-Wrong.ensures refl c.loop-i-test.true
-
-pub overflow_sub-result : goal.overflow_sub-result
-overflow_sub-result c =
-    (end_drop c.tail-rest.result.now c.args.l.now c.loop-i.at c.tail-rest.ensures).0
+    sofar_more c.loop-i.invariant c.until-f.ensures (c.read_number.ensures ∙ read_flat c.args.ranges.now c.loop-i.i _) c.in_ok-x.was (omega arith)
 
 pub returns : goal.returns
-returns c = sofar_end c.loop-i.invariant.1 (omega arith) (omega arith) c.tail-rest.ensures
+returns c = sofar_end c.loop-i.invariant (omega (arith, half_flat c.args.ranges.now)) (omega arith) c.tail-rest.ensures

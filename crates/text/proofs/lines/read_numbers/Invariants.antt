@@ -1,10 +1,7 @@
 -- `lines::read_numbers` meets its contract. The invariant says what was read before field i.
-use Prim.Native.Nat.{◌-◌, ◌≤◌}
+use Rattle.text.specs.Lines.{flat}
 use Rattle.text.proofs.LineNumbers.{Sofar}
 use Rattle.text.proofs.lines.read_numbers.Given as goal
 
 abbrev pub invariant-loop-i : goal.invariant-loop-i
-invariant-loop-i l = (l.i ≤ l.count) × Sofar l.ranges l.l l.values l.at l.i
-
-abbrev pub decreases-loop-i : goal.decreases-loop-i
-decreases-loop-i l = l.count - l.i
+invariant-loop-i l = Sofar (flat l.ranges) l.l l.values l.at l.i
