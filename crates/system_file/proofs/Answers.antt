@@ -12,11 +12,10 @@ use Rattle.text.specs.Write.{appended, padded}
 use Rattle.text.proofs.Laws.{append-behind, padded_none, append-padded}
 use Rattle.system_file.specs.declared.SystemFile.{SystemFile}
 use Rattle.settings.specs.declared.Settings.{Settings}
-use Rattle.system_file.specs.declared.Form.TheVariants.{Right as IsRight}
-use Rattle.system_file.specs.declared.messages.Lines.{Lines}
-use Rattle.system_file.specs.declared.messages.Lines.TheVariants.{Right, Wrong}
+use Rattle.std.specs.Prelude.{Ok, Err}
+use Rattle.system_file.specs.declared.FormError.{FormError}
 use Rattle.system_file.specs.Form.{Contents, Read, wrong, right}
-use Rattle.system_file.specs.Table.{is_faulty, place_of, table_size, table_of, file_of}
+use Rattle.system_file.specs.Table.{is_faulty, place_of, table_size, table_of, error_of, file_of}
 use Rattle.system_file.specs.Steps.{restored, lines_of, table_in}
 
 -- ---- the arrays
@@ -32,22 +31,17 @@ table_none = sym (tabulate_const 0 table_size)
 
 -- ---- the answer
 abbrev pub file : Settings → List ℕ → ℕ → List ℕ → SystemFile
-file σ block faulty places = record {
-  form = IsRight;
-  settings = σ;
-  block = block;
-  faulty = faulty;
-  places = places;
-}
+file σ block faulty places = record { settings = σ; block = block; faulty = faulty; places = places }
 
-pub file_right : (c : Contents) (r : Read) (faulty : ℕ) (places : List ℕ) (x : Lines) → x ≡ lines_of r → x ≡ Right faulty → places ≡ table_in r places
-    → file c.settings (padded 192 c.block) faulty places ≡ file_of (restored c r)
-file_right c (wrong line) faulty places x d e p = let z : ◌≡◌ {A = ℕ} 0 1 = cc in absurd (omega arith)
-file_right c (right b) faulty places x d e p =
+-- from what the message lines say
+pub file_right : (c : Contents) (r : Read) (faulty : ℕ) (places : List ℕ) → Ok faulty ≡ lines_of r → places ≡ table_in r places
+    → Ok (file c.settings (padded 192 c.block) faulty places) ≡ file_of (restored c r)
+file_right c (wrong line) faulty places d p = let z : ◌≡◌ {A = ℕ} 0 1 = cc in absurd (omega arith)
+file_right c (right b) faulty places d p =
     let s = set_of 16 (λ i. is_faulty b.messages (i + 1)) in
     let q : faulty ≡ s = cc in
-    ap (λ (y : ℕ). file c.settings (padded 192 c.block) y places) q ∙ ap (file c.settings (padded 192 c.block) s) p
+    ap (λ (y : ℕ). Ok (file c.settings (padded 192 c.block) y places)) q ∙ ap (λ (y : List ℕ). Ok (file c.settings (padded 192 c.block) s y)) p
 
-pub file-wrong : (c : Contents) (r : Read) (line : ℕ) (x : Lines) → x ≡ lines_of r → x ≡ Wrong line → file_of (wrong line) ≡ file_of (restored c r)
-file-wrong c (wrong l) line x d e = let q : line ≡ l = cc in ap (λ (y : ℕ). file_of (wrong y)) q
-file-wrong c (right b) line x d e = let z : ◌≡◌ {A = ℕ} 0 1 = cc in absurd (omega arith)
+pub file-wrong : (c : Contents) (r : Read) (x : FormError) → Err x ≡ lines_of r → Err x ≡ file_of (restored c r)
+file-wrong c (wrong l) x d = let q : x ≡ error_of l = cc in ap Err q
+file-wrong c (right b) x d = let z : ◌≡◌ {A = ℕ} 0 1 = cc in absurd (omega arith)

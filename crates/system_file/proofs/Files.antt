@@ -1,10 +1,10 @@
 -- Laws of a file that was read, of its messages and of the reader's answer. The main ones: `read_right` (what holds of each file that is read),
 -- `place_read` (the table says where a message starts), `said_cases` (a message has its round's length), `file_right` and `file-wrong`.
 use mathlib.Core.Path.{◌≡◌, refl, sym, ap, subst, ◌∙◌}
-use mathlib.Core.Bool.{Bool, true, false}
+use mathlib.Core.Bool.{true, false}
 use mathlib.Core.List.{List, [], ◌∷◌}
 use mathlib.Core.Logic.{◌⊎◌, inl, inr, ⊎_elim}
-use Prim.Native.Nat.{ℕ, ◌+◌, ◌-◌, ◌*◌, ◌/◌, ◌%◌, ◌≤◌, ◌<◌}
+use Prim.Native.Nat.{ℕ, zero, suc, ◌+◌, ◌-◌, ◌*◌, ◌/◌, ◌%◌, ◌≤◌, ◌<◌}
 use native.Mathlib.Omega.{arith}
 use borrow.Author.Tests.{ne_eqb, eqb-true}
 use lib.Dec.{eqb}
@@ -21,9 +21,11 @@ use Rattle.settings.specs.declared.Settings.{Settings}
 use Rattle.settings.specs.Valid.{Numbered}
 use Rattle.wire.specs.Length.{block_length, message_length}
 use Rattle.system_file.specs.Form.{Message, Contents, Read, wrong, right, settings_in, contents_of, read_of}
-use Rattle.system_file.specs.Table.{is_faulty, reaches, place_of, text_of, said_of, table_size, table_index, table_of, place_in, file_of, Properly}
-use Rattle.system_file.specs.declared.Form.{Form}
-use Rattle.system_file.specs.declared.Form.TheVariants.{Right, Wrong}
+use Rattle.system_file.specs.Table.{is_faulty, reaches, place_of, text_of, said_of, table_size, table_index, table_of, place_in, line_of, file_of, Properly}
+use Rattle.std.specs.Prelude.{Ok, Err}
+use Rattle.system_file.specs.declared.SystemFile.{SystemFile}
+use Rattle.system_file.specs.declared.FormError.{FormError}
+use Rattle.system_file.specs.declared.FormError.TheVariants.{TooLong, Line}
 use Rattle.system_file.proofs.Rows.{All, none, more, at_index, place_more, place_same, reach_parts}
 use Rattle.system_file.proofs.Places.{place_inside, place_ranges}
 use Rattle.system_file.proofs.Heads.{Settled, settings_parts, settled_stripes}
@@ -159,20 +161,11 @@ table_room input c e r f j some =
     omega (arith, p, place-room input c e r f j (λ z. some (p ∙ z)))
 
 -- ---- what the reader's answer says of the file
-is_right : Form → Bool
-is_right Right = true
-is_right (Wrong x) = false
+pub file_right : (r : Read) (f : SystemFile) → Ok f ≡ file_of r → (c : Contents) × (r ≡ right c)
+file_right (wrong x) f e = let z : ◌≡◌ {A = ℕ} 0 1 = cc in absurd (omega arith)
+file_right (right c) f e = (c, refl)
 
-line_of : Form → ℕ
-line_of Right = 0
-line_of (Wrong x) = x
-
-pub file_right : (r : Read) → (file_of r).form ≡ Right → (c : Contents) × (r ≡ right c)
-unfolding is_right
-file_right (wrong x) e = absurd (true≢false (sym (ap is_right e)))
-file_right (right c) e = (c, refl)
-
-pub file-wrong : (r : Read) (x : ℕ) → (file_of r).form ≡ Wrong x → r ≡ wrong x
-unfolding is_right line_of
-file-wrong (wrong y) x e = ap wrong (ap line_of e)
-file-wrong (right c) x e = absurd (true≢false (ap is_right e))
+pub file-wrong : (r : Read) (x : FormError) → Err x ≡ file_of r → r ≡ wrong (line_of x)
+file-wrong (wrong zero) x e = let q : x ≡ TooLong = cc in ap (λ (y : FormError). wrong (line_of y)) (sym q)
+file-wrong (wrong (suc y)) x e = let q : x ≡ Line (suc y) = cc in ap (λ (z : FormError). wrong (line_of z)) (sym q)
+file-wrong (right c) x e = let z : ◌≡◌ {A = ℕ} 0 1 = cc in absurd (omega arith)

@@ -1,16 +1,17 @@
 -- The place of a message in the table: `place_inside` says what `place_in` is within the ranges of rounds and numbers, `place_ranges` that it is 0
 -- outside.
-use mathlib.Core.Path.{◌≡◌}
+use Rattle.std.specs.Prelude.{Some, None, cond}
+use mathlib.Core.Path.{◌≡◌, refl, sym, ap, ◌∙◌}
 use mathlib.Core.Bool.{Bool, true, false, ◌&&◌}
 use mathlib.Core.List.{List}
 use mathlib.Core.Logic.{⊎_elim}
-use Prim.Native.Nat.{ℕ, ◌≤◌, ◌<◌}
+use Prim.Native.Nat.{ℕ, zero, suc, ◌≤◌, ◌<◌}
 use native.Mathlib.Omega.{arith}
 use borrow.Author.Tests.{le-leb, lt-leb}
 use lib.Dec.{leb}
 use lib.ListN.{get_or}
-use Rattle.lists.proofs.Tests.{and_both, and_no_left, and_no_right, cond_yes, cond_no, same_or_not, lt_or_le}
-use Rattle.system_file.specs.Table.{table_index, in_table, place_in}
+use Rattle.lists.proofs.Tests.{and_both, and_no_left, and_no_right, cond_yes, cond_no, fails, passes, same_or_not, lt_or_le}
+use Rattle.system_file.specs.Table.{table_index, in_table, place_in, some_place}
 
 abbrev within : ℕ → ℕ → Bool
 within most x = leb 1 x && leb x most
@@ -83,3 +84,28 @@ module _ (places : List ℕ) (r f j : ℕ) where
       ),
     ),
   )
+
+-- what the place at an index of the table says
+module _ (places : List ℕ) (r f j : ℕ) where
+  pub no_place : None ≡ cond (in_table r f j) (Some (table_index r f j)) None → None ≡ some_place (place_in places r f j)
+  unfolding place_in
+  no_place d =
+      let n = fails (in_table r f j) (λ y. let q = cond_yes (in_table r f j) (Some (table_index r f j)) None y in let z : ◌≡◌ {A = ℕ} 0 1 = cc in omega arith) in
+      ap some_place (sym (cond_no _ _ _ n))
+
+  pub place_at : (i : ℕ) → Some i ≡ cond (in_table r f j) (Some (table_index r f j)) None → get_or places i 0 ≡ place_in places r f j
+  unfolding place_in
+  place_at i d =
+      let y = passes (in_table r f j) (λ n. let q = cond_no (in_table r f j) (Some (table_index r f j)) None n in let z : ◌≡◌ {A = ℕ} 0 1 = cc in omega arith) in
+      let q = cond_yes (in_table r f j) (Some (table_index r f j)) None y in
+      let t : i ≡ table_index r f j = cc in
+      ap (λ (x : ℕ). get_or places x 0) t ∙ sym (cond_yes _ _ _ y)
+
+  pub some_at : (x i : ℕ) → Some i ≡ cond (in_table r f j) (Some (table_index r f j)) None → x ≡ get_or places i 0 → (x ≡ 0 → ⊥)
+      → Some x ≡ some_place (place_in places r f j)
+  some_at zero i d e n = absurd (n refl)
+  some_at (suc x) i d e n = ap some_place (e ∙ place_at i d)
+
+  pub none_at : (i : ℕ) → Some i ≡ cond (in_table r f j) (Some (table_index r f j)) None → get_or places i 0 ≡ 0
+      → None ≡ some_place (place_in places r f j)
+  none_at i d e = ap some_place (sym e ∙ place_at i d)

@@ -12,8 +12,8 @@ use lib.ListN.{length, get_or, take, drop, take-append-drop}
 use Rattle.lists.specs.Fill.{tabulate, filled}
 use Rattle.lists.specs.Join.{part}
 use Rattle.lists.specs.Sum.{count}
-use Rattle.lists.proofs.Tests.{true≢false, either, bool_ext, fails, and_left, and_right, and_both, and_no_left, and_tail}
-use Rattle.lists.proofs.Tests.{or_cases, or_left, or_right, or_tail, or_comm, cond_yes, cond_no, same_or_not}
+use Rattle.lists.proofs.Tests.{true≢false, either, bool_ext, fails, and_left, and_right, and_both}
+use Rattle.lists.proofs.Tests.{or_cases, or_left, or_right, or_comm, cond_yes, cond_no, same_or_not}
 use Rattle.lists.proofs.Fills.{length-tabulate, get_or-tabulate, tabulate_ext, filled_all}
 use Rattle.lists.proofs.Joins.{part_take, same_parts, get_or_part, part_given, part_tabulate, part_put_same, part_put_other}
 use Rattle.lists.proofs.Parts.{length_put}
@@ -85,10 +85,6 @@ row_to_all j to e = or_left (eqb to 0) (eqb to j) (eq-eqb to 0 e)
 pub to_one : (j : ℕ) (to : ℕ) → to ≡ j → is_to to j ≡ true
 unfolding is_to
 to_one j to e = or_right (eqb to 0) (eqb to j) (eq-eqb to j e)
-
-pub to_test : (j : ℕ) (to : ℕ) → (to ≡ 0 → ⊥) → is_to to j ≡ eqb to j
-unfolding is_to
-to_test j to n = or_tail (eqb to 0) (eqb to j) (ne_eqb to 0 n)
 
 pub to_cases : (j : ℕ) (to : ℕ) → is_to to j ≡ true → (to ≡ 0) ⊎ (to ≡ j)
 unfolding is_to
@@ -365,15 +361,6 @@ faulty_more m ms h =
     (λ i l.
     member_insert (set_of 16 q) (m.from - 1) i l ∙ ap₂ ◌||◌ (member-set 16 q i l) (from_index m.from i h)
     ∙ or_comm (is_faulty ms (i + 1)) (eqb m.from (i + 1)) ∙ sym (member-set 16 d i l))
-
--- ---- the parts of the code's tests
-pub taken_none : (x to j : ℕ) → x ≡ 0 → is_taken x to j ≡ false
-unfolding is_taken
-taken_none x to j e = and_no_left (not (eqb x 0)) (is_to to j) (ap not (eq-eqb x 0 e))
-
-pub taken_test : (x to j : ℕ) → (x ≡ 0 → ⊥) → is_taken x to j ≡ is_to to j
-unfolding is_taken
-taken_test x to j n = and_tail (not (eqb x 0)) (is_to to j) (ap not (ne_eqb x 0 n))
 
 -- a row that is filled whole
 pub row_filled : (row : List ℕ) (to p : ℕ) → length row ≡ 16 → filled (λ j. cond (is_to to (j + 1)) p (get_or row j 0)) 16 row ≡ row_with row to p

@@ -10,7 +10,7 @@
 --   row_at ps r f              the row of round r and sender f in the table ps
 --   is_new ps m                no receiver of m has a place in its row
 --   table_with ps m            the table ps with the place of m for each receiver
---   message r f to p           the message with these numbers
+--   said m                     the message that the code holds as m
 --   is_entry s input a ps      the line at byte a is ended, a message, and new
 --   entry_at, table_at         what such a line gives: its sender and the next line; the table with it
 --   bare s ms                  what a file of the settings s with the messages ms says, but the block
@@ -20,7 +20,7 @@
 --   opened s block             the settings and the block, before the first message
 --   Enters m                   m is in range for the table
 --   Started, Opened            what the readers of the message lines and of the contents ask
-use Rattle.std.specs.Prelude.{Bool, cond, not, ◌&&◌, ◌||◌, List, [], ◌∷◌, ℕ, ◌+◌, ◌-◌, ◌*◌, ◌/◌, ◌%◌, ◌≤◌, ◌<◌, eqb, ltb, length, get_or, take, drop}
+use Rattle.std.specs.Prelude.{Bool, cond, not, ◌&&◌, ◌||◌, Option, Some, None, Result, Ok, Err, List, [], ◌∷◌, ℕ, ◌+◌, ◌-◌, ◌*◌, ◌/◌, ◌%◌, ◌≤◌, ◌<◌, eqb, ltb, length, get_or, take, drop}
 use Rattle.lists.specs.Fill.{tabulate}
 use Rattle.lists.specs.Join.{part}
 use Rattle.lists.specs.Sum.{count}
@@ -30,31 +30,33 @@ use Rattle.text.specs.Lines.{line_at, is_ended, next_at, rest, field}
 use Rattle.settings.specs.Valid.{Coded}
 use Rattle.settings.specs.declared.Settings.{Settings}
 use Rattle.system_file.specs.declared.head.Head.{Head}
-use Rattle.system_file.specs.declared.head.Head.TheVariants.{Said as HeadSaid, Wrong as NoHead}
-use Rattle.system_file.specs.declared.messages.Line.{Line}
-use Rattle.system_file.specs.declared.messages.Line.TheVariants.{Said as LineSaid, Wrong as NoLine}
-use Rattle.system_file.specs.declared.messages.Entered.{Entered}
-use Rattle.system_file.specs.declared.messages.Entered.TheVariants.{Made, Wrong as NoEntry}
-use Rattle.system_file.specs.declared.messages.Lines.{Lines}
-use Rattle.system_file.specs.declared.messages.Lines.TheVariants.{Right, Wrong}
+use Rattle.system_file.specs.declared.messages.Message.{Message as Said}
+use Rattle.system_file.specs.declared.messages.Entry.{Entry}
+use Rattle.system_file.specs.declared.FormError.{FormError}
 use Rattle.system_file.specs.Form.{file_limit, is_settings, is_message, Message, message_at, Contents, Read, wrong, right, settings_in}
-use Rattle.system_file.specs.Table.{is_faulty, reaches, table_size, table_of}
+use Rattle.system_file.specs.Table.{is_faulty, reaches, table_size, table_of, error_of}
 
 -- ---- lines
-unfoldable pub head_in : List ℕ → ℕ → Head
-head_in l a = cond (is_settings l) (HeadSaid (settings_in l) (a + (length l - length (rest 4 l))) (a + length l)) NoHead
+unfoldable pub head_in : List ℕ → ℕ → Option Head
+head_in l a =
+    cond (is_settings l) (Some (record { settings = settings_in l; start = a + (length l - length (rest 4 l)); end = a + length l })) None
 
-unfoldable pub head_at : List ℕ → ℕ → Head
-head_at input a = cond (is_ended input a) (head_in (line_at input a) a) NoHead
+unfoldable pub head_at : List ℕ → ℕ → Option Head
+head_at input a = cond (is_ended input a) (head_in (line_at input a) a) None
 
-abbrev pub message_ranges : Settings → List ℕ
-message_ranges s = 1 ∷ (3 * s.t + 8) ∷ 1 ∷ s.n ∷ 0 ∷ s.n ∷ []
+abbrev pub message_ranges : Settings → List (ℕ × ℕ)
+message_ranges s = (1, 3 * s.t + 8) ∷ (1, s.n) ∷ (0, s.n) ∷ []
 
-unfoldable pub line_in : Settings → List ℕ → ℕ → Line
+unfoldable pub line_in : Settings → List ℕ → ℕ → Option Said
 line_in s l a =
     cond (is_message s l)
-    (LineSaid (value_of (field 0 l)) (value_of (field 1 l)) (value_of (field 2 l)) (a + (length l - length (rest 3 l))))
-    NoLine
+    (Some (record {
+      round = value_of (field 0 l);
+      from = value_of (field 1 l);
+      to = value_of (field 2 l);
+      place = a + (length l - length (rest 3 l));
+    }))
+    None
 
 -- ---- the table
 unfoldable pub is_to : ℕ → ℕ → Bool
@@ -78,8 +80,8 @@ is_new ps m = not (is_given (row_at ps m.round m.from) m.to)
 unfoldable pub table_with : List ℕ → Message → List ℕ
 table_with ps m = tabulate (λ x. cond (reaches m (x / 256 + 1) (x / 16 % 16 + 1) (x % 16 + 1)) m.place (get_or ps x 0)) table_size
 
-abbrev pub message : (r f to p : ℕ) → Message
-message r f to p = record { round = r; from = f; to = to; place = p }
+abbrev pub said : Said → Message
+said m = record { round = m.round; from = m.from; to = m.to; place = m.place }
 
 pub record Enters (m : Message) : Type 0 where
   pub round-least : 1 ≤ m.round
@@ -94,8 +96,8 @@ pub record Enters (m : Message) : Type 0 where
 unfoldable pub is_entry : Settings → List ℕ → ℕ → List ℕ → Bool
 is_entry s input a ps = is_ended input a && (is_message s (line_at input a) && is_new ps (message_at input a))
 
-unfoldable pub entry_at : Settings → List ℕ → ℕ → List ℕ → Entered
-entry_at s input a ps = cond (is_entry s input a ps) (Made (message_at input a).from (next_at input a)) NoEntry
+unfoldable pub entry_at : Settings → List ℕ → ℕ → List ℕ → Option Entry
+entry_at s input a ps = cond (is_entry s input a ps) (Some (record { from = (message_at input a).from; next = next_at input a })) None
 
 unfoldable pub table_at : Settings → List ℕ → ℕ → List ℕ → List ℕ
 table_at s input a ps = cond (is_entry s input a ps) (table_with ps (message_at input a)) ps
@@ -107,9 +109,9 @@ abbrev pub restored : Contents → Read → Read
 restored c (wrong line) = wrong line
 restored c (right d) = right (record { settings = c.settings; block = c.block; messages = d.messages })
 
-abbrev pub lines_of : Read → Lines
-lines_of (wrong line) = Wrong line
-lines_of (right c) = Right (set_of 16 (λ i. is_faulty c.messages (i + 1)))
+abbrev pub lines_of : Read → Result ℕ FormError
+lines_of (wrong line) = Err (error_of line)
+lines_of (right c) = Ok (set_of 16 (λ i. is_faulty c.messages (i + 1)))
 
 abbrev pub table_in : Read → List ℕ → List ℕ
 table_in (wrong line) ps = ps

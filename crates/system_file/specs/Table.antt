@@ -9,9 +9,11 @@
 --   table_of ms            the table
 --   in_table r f j         r is one of 23 rounds, f and j are among 16 controllers
 --   place_in places r f j  what a table has for (r, f, j); 0 outside
---   file_of r              the reader's answer: the settings, the block, the faulty controllers, the table; zeros for a wrong file
+--   some_place p           the place p; none for 0
+--   error_of x, line_of e  what the reader answers for the wrong line x, and back; 0: the file is too long
+--   file_of r              the reader's answer: the settings, the block, the faulty controllers, the table; or what is wrong
 --   Properly input c       what holds of each file that is read: settings, block and messages within their bounds
-use Rattle.std.specs.Prelude.{◌≡◌, Bool, true, false, cond, ◌&&◌, ◌||◌, List, [], ◌∷◌, ℕ, ◌+◌, ◌-◌, ◌*◌, ◌/◌, ◌%◌, ◌≤◌, ◌<◌, eqb, leb, length, get_or, take, drop, replicate}
+use Rattle.std.specs.Prelude.{◌≡◌, Bool, true, false, cond, ◌&&◌, ◌||◌, Option, Some, None, Result, Ok, Err, List, [], ◌∷◌, ℕ, zero, suc, ◌+◌, ◌-◌, ◌*◌, ◌/◌, ◌%◌, ◌≤◌, ◌<◌, eqb, leb, length, get_or, take, drop}
 use Rattle.lists.specs.Fill.{tabulate}
 use Rattle.bitset.specs.Set.{set_of}
 use Rattle.text.specs.Read.{bytes_of}
@@ -19,7 +21,8 @@ use Rattle.text.specs.Write.{padded}
 use Rattle.settings.specs.Valid.{Coded, Numbered}
 use Rattle.wire.specs.Length.{block_length, message_length}
 use Rattle.system_file.specs.declared.SystemFile.{SystemFile}
-use Rattle.system_file.specs.declared.Form.TheVariants.{Right, Wrong}
+use Rattle.system_file.specs.declared.FormError.{FormError}
+use Rattle.system_file.specs.declared.FormError.TheVariants.{TooLong, Line}
 use Rattle.system_file.specs.Form.{file_limit, Message, Contents, Read, wrong, right}
 
 unfoldable pub is_faulty : List Message → ℕ → Bool
@@ -54,21 +57,26 @@ in_table r f j = (leb 1 r && leb r 23) && ((leb 1 f && leb f 16) && (leb 1 j && 
 unfoldable pub place_in : List ℕ → (r f j : ℕ) → ℕ
 place_in places r f j = cond (in_table r f j) (get_or places (table_index r f j) 0) 0
 
-abbrev pub file_of : Read → SystemFile
-file_of (wrong line) = record {
-  form = Wrong line;
-  settings = record { n = 0; t = 0; k = 0; sender = 0 };
-  block = replicate 192 0;
-  faulty = 0;
-  places = replicate table_size 0;
-}
-file_of (right c) = record {
-  form = Right;
+abbrev pub some_place : ℕ → Option ℕ
+some_place zero = None
+some_place (suc p) = Some (suc p)
+
+abbrev pub error_of : ℕ → FormError
+error_of zero = TooLong
+error_of (suc x) = Line (suc x)
+
+abbrev pub line_of : FormError → ℕ
+line_of TooLong = 0
+line_of (Line x) = x
+
+abbrev pub file_of : Read → Result SystemFile FormError
+file_of (wrong line) = Err (error_of line)
+file_of (right c) = Ok (record {
   settings = c.settings;
   block = padded 192 c.block;
   faulty = set_of 16 (λ i. is_faulty c.messages (i + 1));
   places = table_of c.messages;
-}
+})
 
 pub record Properly (input : List ℕ) (c : Contents) : Type 0 where
   pub coded : Coded c.settings.n c.settings.t c.settings.k

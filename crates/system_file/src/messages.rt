@@ -5,38 +5,33 @@ ghost use Rattle.system_file.specs.Form.{read_from};
 ghost use Rattle.system_file.specs.Table.{table_size, table_of};
 ghost use Rattle.system_file.specs.Steps.{line_in, message_ranges, entry_at, table_at, bare, lines_of, table_in, Started};
 
-use crate::table;
+use crate::{FormError, table};
 use settings::Settings;
 use text::lines;
 
 // What a message line says, with the byte of the file where its message starts.
 #[derive(Clone, Copy)]
-enum Line {
-    Said {
-        round: usize,
-        from: usize,
-        to: usize,
-        place: usize,
-    },
-    Wrong,
+pub(crate) struct Message {
+    pub round: usize,
+    pub from: usize,
+    pub to: usize,
+    pub place: usize,
 }
 
 // A message line that was entered in the table: its sender, and where the next line starts.
 #[derive(Clone, Copy)]
-enum Entered {
-    Made { from: usize, next: usize },
-    Wrong,
+struct Entry {
+    from: usize,
+    next: usize,
 }
 
-// All message lines: the faulty controllers, or the first wrong line.
-#[derive(Clone, Copy)]
-pub(crate) enum Lines {
-    Right(u16),
-    Wrong(usize),
-}
-
-// The message lines from `start` on, into the table.
-pub(crate) fn read_messages(input: &[u8], start: usize, s: Settings, places: &mut [u16]) -> Lines
+// The message lines from `start` on, into the table: the faulty controllers, or the first wrong line.
+pub(crate) fn read_messages(
+    input: &[u8],
+    start: usize,
+    s: Settings,
+    places: &mut [u16],
+) -> Result<u16, FormError>
     requires started { Started input.now s start }
     requires places_value { places.old ≡ table_of [] }
     ensures value { result ≡ lines_of (read_from (length input.now) input.now (bare s []) start 4) }
@@ -46,22 +41,18 @@ pub(crate) fn read_messages(input: &[u8], start: usize, s: Settings, places: &mu
     let mut line: usize = 4;
     let mut faulty: u16 = 0;
     while at < input.len() {
-        match enter_line(input, at, s, places) {
-            Entered::Made { from, next } => {
-                faulty = bitset::insert(faulty, from - 1);
-                at = next;
-                line += 1;
-            }
-            Entered::Wrong => {
-                return Lines::Wrong(line);
-            }
-        }
+        let Some(entry) = enter_line(input, at, s, places) else {
+            return Err(FormError::Line(line));
+        };
+        faulty = bitset::insert(faulty, entry.from - 1);
+        at = entry.next;
+        line += 1;
     }
-    Lines::Right(faulty)
+    Ok(faulty)
 }
 
 // The message line at `at`, into the table.
-fn enter_line(input: &[u8], at: usize, s: Settings, places: &mut [u16]) -> Entered
+fn enter_line(input: &[u8], at: usize, s: Settings, places: &mut [u16]) -> Option<Entry>
     requires { Started input.now s at × (length places.old ≡ table_size) }
     ensures value { result ≡ entry_at s input.now at places.old }
     ensures places_after { places.new ≡ table_at s input.now at places.old }
@@ -69,58 +60,43 @@ fn enter_line(input: &[u8], at: usize, s: Settings, places: &mut [u16]) -> Enter
     let l = lines::line_at(input, at);
     let end = at + l.len();
     if input.len() <= end {
-        return Entered::Wrong;
+        return None;
     }
-    let Line::Said {
-        round,
-        from,
-        to,
-        place,
-    } = message_line(l, at, s)
-    else {
-        return Entered::Wrong;
-    };
-    if table::enter(places, round, from, to, place) {
-        return Entered::Made {
-            from,
-            next: end + 1,
-        };
+    let message = message_line(l, at, s)?;
+    if !table::enter(places, message) {
+        return None;
     }
-    Entered::Wrong
+    Some(Entry {
+        from: message.from,
+        next: end + 1,
+    })
 }
 
 // The message in a line that stands at `at`.
-fn message_line(l: &[u8], at: usize, s: Settings) -> Line
+fn message_line(l: &[u8], at: usize, s: Settings) -> Option<Message>
     requires { Coded s.n s.t s.k × (at + length l.now < 2 ^ 64) }
     ensures { result ≡ line_in s l.now at }
 {
-    let numbers = lines::read_numbers(l, &ranges(s));
-    if !numbers.found {
-        return Line::Wrong;
-    }
-    let v = numbers.values;
-    let round = v[0];
-    let from = v[1];
-    let to = v[2];
+    let numbers = lines::read_numbers(l, &ranges(s))?;
+    let [round, from, to, _] = numbers.values;
     let message = lines::tail(l, numbers.end);
     let len = wire::message_length(s.n, s.t, s.k, round);
     if !text::is_bytes(message, len) {
-        return Line::Wrong;
+        return None;
     }
-    let place = at + numbers.end;
-    Line::Said {
+    Some(Message {
         round,
         from,
         to,
-        place,
-    }
+        place: at + numbers.end,
+    })
 }
 
 // The ranges of the numbers in a message line: round, from, to.
-fn ranges(s: Settings) -> [u32; 6]
+fn ranges(s: Settings) -> [(u32, u32); 3]
     requires { Coded s.n s.t s.k }
     ensures { result ≡ message_ranges s }
 {
     let n = s.n as u32;
-    [1, 3 * s.t as u32 + 8, 1, n, 0, n]
+    [(1, 3 * s.t as u32 + 8), (1, n), (0, n)]
 }

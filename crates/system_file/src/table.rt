@@ -1,49 +1,46 @@
-// The table of places: where in the file the message of each round, sender and receiver starts.
-ghost use Rattle.std.specs.Prelude.{◌≡◌, cond, not, length};
-ghost use Rattle.system_file.specs.Table.{table_size, place_in};
-ghost use Rattle.system_file.specs.Steps.{is_to, is_taken, is_given, row_with, is_new, table_with, message, Enters};
+// The table of places: where in the file the message of each round, sender and receiver starts. A place is 0 where there is none: the table's memory is
+// fixed, and the definitions speak of it as numbers (`table_of`).
+ghost use Rattle.std.specs.Prelude.{◌≡◌, cond, not, Some, None, length};
+ghost use Rattle.system_file.specs.Table.{table_size, table_index, in_table, place_in, some_place};
+ghost use Rattle.system_file.specs.Steps.{is_to, is_taken, is_given, row_with, is_new, table_with, Enters, said};
+
+use crate::messages::Message;
 
 // How many senders the table has for a round, and how many receivers for a sender.
 const WIDTH: usize = 16;
 
-// Where the message of round r from f to j starts in the file, as the table has it; 0 for none.
+// Where the message of round r from f to j starts in the file, as the table has it.
 // Shut out: the place of the message from j to f; round 23 without messages.
-pub fn place_of(places: &[u16], r: usize, f: usize, j: usize) -> usize
-    ensures { result ≡ place_in places.now r f j }
+pub fn place_of(places: &[u16], r: usize, f: usize, j: usize) -> Option<usize>
+    ensures { result ≡ some_place (place_in places.now r f j) }
 {
-    if r == 0 {
-        return 0;
+    let at = index(r, f, j)?;
+    let place = *places.get(at)?;
+    if place == 0 {
+        return None;
     }
-    if 23 < r {
-        return 0;
+    Some(usize::from(place))
+}
+
+// The index of the place in the table; none outside.
+#[tactic(auto, unfolding(crate::specs::Table::in_table, crate::specs::Table::table_index))]
+fn index(r: usize, f: usize, j: usize) -> Option<usize>
+    ensures { result ≡ cond (in_table r f j) (Some (table_index r f j)) None }
+{
+    match (r, f, j) {
+        (1..=23, 1..=16, 1..=16) => Some((r - 1) * 256 + (f - 1) * 16 + (j - 1)),
+        _ => None,
     }
-    if f == 0 {
-        return 0;
-    }
-    if 16 < f {
-        return 0;
-    }
-    if j == 0 {
-        return 0;
-    }
-    if 16 < j {
-        return 0;
-    }
-    let at = (r - 1) * 256 + (f - 1) * 16 + (j - 1);
-    if places.len() <= at {
-        return 0;
-    }
-    places[at] as usize
 }
 
 // Enters the place of a message, unless one of its receivers has a message of this round from this sender; whether it did.
-pub(crate) fn enter(places: &mut [u16], round: usize, from: usize, to: usize, place: usize) -> bool
-    requires { Enters (message round from to place) × (length places.old ≡ table_size) }
-    ensures value { result ≡ is_new places.old (message round from to place) }
-    ensures places_after { places.new ≡ cond result (table_with places.old (message round from to place)) places.old }
+pub(crate) fn enter(places: &mut [u16], m: Message) -> bool
+    requires { Enters (said m) × (length places.old ≡ table_size) }
+    ensures value { result ≡ is_new places.old (said m) }
+    ensures places_after { places.new ≡ cond result (table_with places.old (said m)) places.old }
 {
-    let base = ((round - 1) * WIDTH + (from - 1)) * WIDTH;
-    enter_row(&mut places[base..base + WIDTH], to, place as u16)
+    let base = ((m.round - 1) * WIDTH + (m.from - 1)) * WIDTH;
+    enter_row(&mut places[base..base + WIDTH], m.to, m.place as u16)
 }
 
 // The same in the row of the round and the sender.
@@ -64,34 +61,28 @@ fn is_given(row: &[u16], to: usize) -> bool
     requires { length row.now ≡ 16 }
     ensures { result ≡ is_given row.now to }
 {
-    let mut j: usize = 0;
-    while j < row.len() {
-        if is_taken(row[j], to, j + 1) {
+    for (j, x) in row.iter().enumerate() {
+        if is_taken(*x, to, j + 1) {
             return true;
         }
-        j += 1;
     }
     false
 }
 
 // Whether x is a place, and j a receiver.
+#[tactic(auto, unfolding(crate::specs::Steps::is_taken))]
 fn is_taken(x: u16, to: usize, j: usize) -> bool
     ensures { result ≡ is_taken x to j }
 {
-    if x == 0 {
-        return false;
-    }
-    is_to(to, j)
+    x != 0 && is_to(to, j)
 }
 
 // Whether a message to `to` is for j.
+#[tactic(auto, unfolding(crate::specs::Steps::is_to))]
 fn is_to(to: usize, j: usize) -> bool
     ensures { result ≡ is_to to j }
 {
-    if to == 0 {
-        return true;
-    }
-    to == j
+    to == 0 || to == j
 }
 
 // The place in the row for each receiver.
@@ -99,19 +90,9 @@ fn fill(row: &mut [u16], to: usize, place: u16)
     requires { length row.old ≡ 16 }
     ensures { row.new ≡ row_with row.old to place }
 {
-    let mut j: usize = 0;
-    while j < row.len() {
-        row[j] = chosen(row[j], to, j + 1, place);
-        j += 1;
+    for (j, x) in row.iter_mut().enumerate() {
+        if is_to(to, j + 1) {
+            *x = place;
+        }
     }
-}
-
-// What stands for j in the row: the place where j is a receiver, or what stood there.
-fn chosen(x: u16, to: usize, j: usize, place: u16) -> u16
-    ensures { result ≡ cond (is_to to j) place x }
-{
-    if is_to(to, j) {
-        return place;
-    }
-    x
 }

@@ -3,6 +3,8 @@ use mathlib.Core.Path.{◌≡◌, sym, ap, ◌∙◌}
 use mathlib.Core.List.{List, [], ◌++◌}
 use Prim.Native.Nat.{ℕ, ◌-◌, ◌≤◌}
 use lib.ListN.{length, take, drop, replicate}
+use Rattle.std.specs.Prelude.{Ok}
+use Rattle.std.proofs.lemmas.Result.{err_from_is_err_and}
 use Rattle.text.specs.Read.{bytes_of}
 use Rattle.text.specs.Write.{padded}
 use Rattle.system_file.specs.Form.{read_from}
@@ -22,23 +24,25 @@ block_is input out start end h e = e ∙ block-padded 192 (bytes_of (take (end -
 pub read_messages-requires : goal.read_messages-requires
 read_messages-requires c = record { started = c.requires.started; places_value = table_none }
 
-pub returns-in-Right : goal.returns-in-Right
-returns-in-Right c =
+pub returns-in_err-faulty : goal.returns-in_err-faulty
+returns-in_err-faulty c =
     let a = c.args in
     let input = a.input.now in
-    let o = opened a.s (block_at input a.start a.end) in
-    let r = read_from (length input) input (bare a.s []) a.at 4 in
-    let places = c.read_messages.new.places in
-    ap (λ (x : List ℕ). file a.s x c.in-Right.faulty places) (block_is input c.read_bytes.new.out a.start a.end c.requires.fits c.read_bytes.ensures)
-    ∙ file_right o r c.in-Right.faulty places c.read_messages.result c.read_messages.ensures.value
-    c.in-Right.is c.read_messages.ensures.places_after
-    ∙ ap file_of (sym (read_bare (length input) input o a.at 4))
+    let h = a.head in
+    let o = opened h.settings (block_at input h.start h.end) in
+    let r = read_from (length input) input (bare h.settings []) a.at 4 in
+    let p = err_from_is_err_and c.from_residual.result c.from_residual.ensures.1 in
+    rw (p.1, p.2) (file-wrong o r c.in_err-faulty.field-0.0 c.in_err-faulty.ensures.value ∙ ap file_of (sym (read_bare (length input) input o a.at 4)))
 
-pub returns-in-Wrong : goal.returns-in-Wrong
-returns-in-Wrong c =
+pub returns : goal.returns
+returns c =
     let a = c.args in
     let input = a.input.now in
-    let o = opened a.s (block_at input a.start a.end) in
-    let r = read_from (length input) input (bare a.s []) a.at 4 in
-    c.wrong.ensures ∙ file-wrong o r c.in-Wrong.line c.read_messages.result c.read_messages.ensures.value c.in-Wrong.is
+    let h = a.head in
+    let o = opened h.settings (block_at input h.start h.end) in
+    let r = read_from (length input) input (bare h.settings []) a.at 4 in
+    let places = c.read_messages.new.places in
+    ap (λ (x : List ℕ). Ok (file h.settings x c.in_ok-faulty.faulty places))
+    (block_is input c.read_bytes.new.out h.start h.end c.requires.fits c.read_bytes.ensures)
+    ∙ file_right o r c.in_ok-faulty.faulty places c.in_ok-faulty.ensures.value c.read_messages.ensures.places_after
     ∙ ap file_of (sym (read_bare (length input) input o a.at 4))

@@ -1,34 +1,27 @@
 -- `settings_line` meets its contract.
 use native.Mathlib.Omega.{arith}
-use borrow.Author.Tests.{not-false}
+use mathlib.Core.Path.{refl, sym, ◌∙◌}
+use Rattle.settings.proofs.Laws.{row_least}
 use Rattle.text.proofs.Laws.{numbers-found}
-use Rattle.std.proofs.lemmas.Bool.{not_from_false, not_from_true}
-use Rattle.system_file.proofs.Heads.{ranges, no_numbers_lem, no_settings, no_block, head_yes}
+use Rattle.system_file.proofs.Heads.{ranges, no_numbers, no_settings, no_block, head_yes}
 use Rattle.system_file.proofs.head.settings_line.Goals as goal
 
-pub returns-then-not-numbers : goal.returns-then-not-numbers
-returns-then-not-numbers c =
-    let a = c.args in
-    no_numbers_lem a.l.now a.at c.read_numbers-numbers.ensures c.if-not-numbers.true
+pub returns-in_err-numbers : goal.returns-in_err-numbers
+returns-in_err-numbers c = c.from_residual.ensures ∙ no_numbers c.args.l.now c.args.at (sym c.in_err-numbers.was ∙ c.read_numbers.ensures)
 
-pub returns-then-state_refusal-ne0 : goal.returns-then-state_refusal-ne0
-returns-then-state_refusal-ne0 c =
-    let a = c.args in
-    no_settings a.l.now a.at c.read_numbers-numbers.ensures c.if-not-numbers.false c.state_refusal.ensures c.if-state_refusal-ne0.true
+pub returns-in_default : goal.returns-in_default
+returns-in_default c =
+    no_settings c.args.l.now c.args.at c.in_ok-numbers.ensures c.in_default.ensures (λ z. omega (arith, row_least c.in_default.field-0))
 
 pub returns-then-not-is_bytes : goal.returns-then-not-is_bytes
 returns-then-not-is_bytes c =
-    let a = c.args in
-    no_block a.l.now a.at c.read_numbers-numbers.ensures c.if-not-numbers.false c.state_refusal.ensures c.if-state_refusal-ne0.false
-    c.tail-block.ensures c.block_length-len.ensures c.is_bytes.ensures (not_from_false _ c.if-not-is_bytes.true)
+    no_block c.args.l.now c.args.at (c.in_ok-numbers.ensures) c.in-Ok.ensures refl
+    c.tail-block.ensures c.block_length.ensures c.is_bytes.ensures c.if-not-is_bytes.true
 
-pub overflow_add-start : goal.overflow_add-start
-overflow_add-start c =
-    let l = c.args.l.now in
-    omega (arith, (numbers-found ranges l c.read_numbers-numbers.ensures (not-false _ c.if-not-numbers.false)).end)
+pub overflow_add-result : goal.overflow_add-result
+overflow_add-result c = omega (arith, (numbers-found ranges c.args.l.now (c.in_ok-numbers.ensures)).end)
 
 pub returns : goal.returns
 returns c =
-    let a = c.args in
-    head_yes a.l.now a.at c.read_numbers-numbers.ensures c.if-not-numbers.false c.state_refusal.ensures c.if-state_refusal-ne0.false
-    c.tail-block.ensures c.block_length-len.ensures c.is_bytes.ensures (not_from_true _ c.if-not-is_bytes.false)
+    head_yes c.args.l.now c.args.at (c.in_ok-numbers.ensures) c.in-Ok.ensures refl
+    c.tail-block.ensures c.block_length.ensures c.is_bytes.ensures c.if-not-is_bytes.false

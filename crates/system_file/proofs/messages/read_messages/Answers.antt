@@ -19,44 +19,37 @@ enter_line-requires c =
     )
 
 -- after a line that was entered
-pub overflow_sub-from : goal.overflow_sub-from
-overflow_sub-from c =
-    let a = c.args in
-    let l = c.loop-at in
-    (sofar_step a.input.now a.s a.start c.requires.started.coded c.requires.started.size l.places l.at l.line l.faulty l.invariant
-    c.loop-at-test.true c.in-Made.from c.in-Made.next c.enter_line.result c.enter_line.ensures.value c.in-Made.is).0
+pub overflow_sub-entry : goal.overflow_sub-entry
+overflow_sub-entry c =
+    let s = c.requires.started in
+    (sofar_step s.coded s.size c.loop-at.invariant c.loop-at-test.true c.in-Some.entry
+    c.in-Some.ensures.value).0
 
 pub overflow_add-line : goal.overflow_add-line
 overflow_add-line c = omega (arith, c.loop-at.invariant.lines, c.loop-at.invariant.within, c.requires.started.size)
 
 pub loop-at-smaller : goal.loop-at-smaller
 loop-at-smaller c =
-    let a = c.args in
-    let l = c.loop-at in
-    let q = sofar_step a.input.now a.s a.start c.requires.started.coded c.requires.started.size l.places l.at l.line l.faulty l.invariant
-    c.loop-at-test.true c.in-Made.from c.in-Made.next c.enter_line.result c.enter_line.ensures.value c.in-Made.is in
+    let s = c.requires.started in
+    let q = sofar_step s.coded s.size c.loop-at.invariant c.loop-at-test.true c.in-Some.entry
+    c.in-Some.ensures.value in
     omega (arith, q.1, q.2)
 
 pub loop-at-preserved : goal.loop-at-preserved
 loop-at-preserved c =
-    let a = c.args in
-    let l = c.loop-at in
-    sofar_more a.input.now a.s a.start c.requires.started.coded c.requires.started.size l.places l.at l.line l.faulty l.invariant
-    c.loop-at-test.true c.in-Made.from c.in-Made.next c.enter_line.result c.enter_line.ensures.value c.in-Made.is
-    c.enter_line.new.places c.insert-faulty.result c.enter_line.ensures.places_after c.insert-faulty.ensures
+    let s = c.requires.started in
+    sofar_more s.coded s.size c.loop-at.invariant c.loop-at-test.true c.in-Some.entry
+    c.in-Some.ensures.value c.enter_line.new.places c.insert-faulty.result c.enter_line.ensures.places_after c.insert-faulty.ensures
 
-pub returns-in-Wrong : goal.returns-in-Wrong
-returns-in-Wrong c =
-    let a = c.args in
-    let l = c.loop-at in
-    let q = sofar_stop a.input.now a.s a.start c.requires.started.coded c.requires.started.size l.places l.at l.line l.faulty l.invariant
-    c.loop-at-test.true c.enter_line.new.places c.enter_line.result c.enter_line.ensures.value c.in-Wrong.is in
+pub returns-in_default : goal.returns-in_default
+returns-in_default c =
+    let s = c.requires.started in
+    let q = sofar_stop s.coded s.size c.loop-at.invariant c.loop-at-test.true
+    c.enter_line.new.places c.in_default.ensures.value in
     record { value = q.0; places_after = q.1 }
 
 pub returns : goal.returns
 returns c =
-    let a = c.args in
-    let l = c.loop-at in
-    let q = sofar_end a.input.now a.s a.start c.requires.started.coded c.requires.started.size l.places l.at l.line l.faulty l.invariant
-    c.loop-at-test.false in
+    let s = c.requires.started in
+    let q = sofar_end s.coded s.size c.loop-at.invariant c.loop-at-test.false in
     record { value = q.0; places_after = q.1 }

@@ -1,50 +1,27 @@
 -- `place_of` meets its contract.
-use Rattle.system_file.proofs.Places.{round-zero, round_past, sender-zero, sender_past, receiver_zero, receiver_past, place_inside}
-use Rattle.system_file.specs.Table.{table_index}
-use native.Mathlib.Omega.{arith}
-use mathlib.Core.Path.{sym, ◌∙◌}
 use lib.ListN.{get_or-eq_default}
+use mathlib.Core.Path.{◌∙◌, sym}
+use Rattle.system_file.proofs.Places.{no_place, some_at, none_at}
 use Rattle.system_file.proofs.table.place_of.Goals as goal
 
-pub returns-then-r-eq0 : goal.returns-then-r-eq0
-returns-then-r-eq0 c =
+pub returns-in_err-at : goal.returns-in_err-at
+returns-in_err-at c =
     let a = c.args in
-    sym (round-zero a.places.now a.r a.f a.j c.if-r-eq0.true)
+    c.from_residual.ensures ∙ no_place a.places.now a.r a.f a.j (sym c.in_err-at.was ∙ c.index.ensures)
 
-pub returns-then-r-gt23 : goal.returns-then-r-gt23
-returns-then-r-gt23 c =
+pub returns-in_err-place : goal.returns-in_err-place
+returns-in_err-place c =
     let a = c.args in
-    sym (round_past a.places.now a.r a.f a.j c.if-r-gt23.true)
+    c.from_residual-in_err-place.ensures ∙ none_at a.places.now a.r a.f a.j c.in_ok-at.at c.in_ok-at.ensures
+    (get_or-eq_default a.places.now 0 c.in_err-place.ensures.lookup.3)
 
-pub returns-then-f-eq0 : goal.returns-then-f-eq0
-returns-then-f-eq0 c =
+pub returns-then-place-eq0 : goal.returns-then-place-eq0
+returns-then-place-eq0 c =
     let a = c.args in
-    sym (sender-zero a.places.now a.r a.f a.j c.if-f-eq0.true)
-
-pub returns-then-f-gt16 : goal.returns-then-f-gt16
-returns-then-f-gt16 c =
-    let a = c.args in
-    sym (sender_past a.places.now a.r a.f a.j c.if-f-gt16.true)
-
-pub returns-then-j-eq0 : goal.returns-then-j-eq0
-returns-then-j-eq0 c =
-    let a = c.args in
-    sym (receiver_zero a.places.now a.r a.f a.j c.if-j-eq0.true)
-
-pub returns-then-j-gt16 : goal.returns-then-j-gt16
-returns-then-j-gt16 c =
-    let a = c.args in
-    sym (receiver_past a.places.now a.r a.f a.j c.if-j-gt16.true)
-
-pub returns-then-places-at : goal.returns-then-places-at
-unfolding table_index
-returns-then-places-at c =
-    let a = c.args in
-    sym (place_inside a.places.now a.r a.f a.j (omega arith) (omega arith) (omega arith) (omega arith) (omega arith) (omega arith)
-    ∙ get_or-eq_default a.places.now 0 c.if-places-at.true)
+    none_at a.places.now a.r a.f a.j c.in_ok-at.at c.in_ok-at.ensures (sym (c.in_ok-place.ensures.lookup.3.1 0) ∙ c.if-place-eq0.true)
 
 pub returns : goal.returns
-unfolding table_index
 returns c =
     let a = c.args in
-    sym (place_inside a.places.now a.r a.f a.j (omega arith) (omega arith) (omega arith) (omega arith) (omega arith) (omega arith))
+    some_at a.places.now a.r a.f a.j c.from.result c.in_ok-at.at c.in_ok-at.ensures (c.from.ensures ∙ c.in_ok-place.ensures.lookup.3.1 0)
+    (λ z. c.if-place-eq0.false (sym c.from.ensures ∙ z))
