@@ -2,30 +2,27 @@
 -- one: `rule_zeros` and its like, the matrix of each rule.
 use mathlib.Core.Path.{◌≡◌, refl, sym, ap, ap₂, ◌∙◌}
 use mathlib.Core.Bool.{Bool, true, false, not, cond}
-use mathlib.Core.List.{List}
+use mathlib.Core.List.{List, [], ◌∷◌}
 use mathlib.Core.Logic.{⊎_elim}
-use Prim.Native.Nat.{ℕ, ◌+◌, ◌-◌, ◌≤◌, ◌<◌}
+use Prim.Native.Nat.{ℕ, zero, suc, ◌+◌, ◌-◌, ◌≤◌, ◌<◌}
 use native.Mathlib.Omega.{arith}
 use lib.Dec.{leb, ltb}
-use lib.ListN.{replicate}
-use Rattle.lists.specs.Sum.{count}
+use lib.ListN.{get_or, take, replicate}
+use Rattle.std.specs.List.{count_by}
+use Rattle.std.proofs.lemmas.List.Sums.{sum_by-cons}
+use Rattle.lists.specs.Sum.{ind, count}
 use Rattle.lists.proofs.Tests.{either, cond_yes, cond_no}
-use Rattle.lists.proofs.Sums.{count_le, count_ext, count-not}
+use Rattle.lists.proofs.Sums.{count_none_below, count_none, count_front, count_ext, count-not}
+use Rattle.lists.specs.Fill.{filled}
 use Rattle.lists.proofs.Fills.{get_or-filled, filled_ext}
 use Rattle.bitset.specs.Set.{member, set_of, inserted}
 use Rattle.bitset.specs.Row.{row_of}
-use Rattle.bitset.proofs.Laws.{set_ext, set_of_members, insert_next, insert_skip, row_lt}
+use Rattle.bitset.proofs.Laws.{member_over, set_of_members, insert_next, insert_skip, row_lt}
 use Rattle.wire.specs.declared.slot.Layout.{Layout}
 use Rattle.wire.specs.Slot.{message_of}
-use Rattle.phase_king.specs.Bit.{zero_seen, one_seen, held, support, weak, settled}
-use Rattle.phase_king.specs.Matrix.{limit, cell, matrix_of, said, king_says, first_matrix, zeros_of, ones_of, held_of, weak_of, settled_of, collect_answer}
-use Rattle.phase_king.specs.Matrix.{tally_answer, hold_answer, settle_answer}
-use Rattle.phase_king.specs.Steps.{said_rows, rule_bit, rule_row, rule_matrix, king_row, settled_row, settled_rows}
-use Rattle.phase_king.specs.declared.Matrix.{Matrix}
-use Rattle.phase_king.specs.declared.Seen.{Seen}
-use Rattle.phase_king.specs.declared.Held.{Held}
-use Rattle.phase_king.specs.declared.Rule.{Rule}
-use Rattle.phase_king.specs.declared.Rule.TheVariants.{ZeroSeen, OneSeen, Hold, Weak}
+use Rattle.phase_king.specs.Bit.{zero_seen, one_seen, held, support, weak}
+use Rattle.phase_king.specs.Matrix.{limit, cell, matrix_of, said, king_says, first_matrix}
+use Rattle.phase_king.specs.Steps.{said_rows, king_row, IsMatrixOf}
 
 -- a turn of a loop that marks
 pub marked : (n : ℕ) (p : ℕ → Bool) (row next : ℕ) (b : Bool) → n < 16 → row ≡ set_of n p → b ≡ p n → next ≡ cond b (inserted row n) row
@@ -37,14 +34,36 @@ marked n p row next b l e h d =
     (λ (y : p n ≡ false). cond_no (p n) (inserted (set_of n p) n) (set_of n p) y ∙ insert_skip n p y)
     (either (p n))
 
--- a count is of at most as many as there are
-pub is_count_le : (n : ℕ) (p : ℕ → Bool) (c : ℕ) → c ≡ count n p → c ≤ n
-is_count_le n p c e = omega (arith, count_le n p)
+-- ---- a count by the library's chain is that of the definitions
+count_taken : (p : ℕ → Bool) → p 0 ≡ false → (n : ℕ) (m : List ℕ) → count_by p (take n m) ≡ count n (λ i. p (get_or m i 0))
+count_taken p z zero m = sym (count_none_below _)
+count_taken p z (suc n) [] = sym (count_none (suc n) _ (λ i l. z))
+count_taken p z (suc n) (x ∷ m) =
+    sum_by-cons (λ y. cond (p y) 1 0) x (take n m) ∙ ap₂ (λ (a b : ℕ). a + b) (one (p x)) (count_taken p z n m) ∙ sym (count_front n (λ i. p (get_or (x ∷ m) i 0)))
+  where
+    one : (b : Bool) → cond b 1 0 ≡ ind b
+    one true = refl
+    one false = refl
 
--- those who don't say 1 say 0
-pub zero_seen_lem : (n t : ℕ) (p : ℕ → Bool) (c : ℕ) → c ≡ count n p → leb (n - t) (n - c) ≡ zero_seen n t p
-unfolding zero_seen
-zero_seen_lem n t p c e = ap (leb (n - t)) (omega (arith, count-not n p))
+pub count_cells : (m : List ℕ) (n j : ℕ) → count_by (λ row. member row j) (take n m) ≡ count n (λ i. cell m i j)
+count_cells m n j = count_taken (λ row. member row j) (member_over 0 0 j (omega arith) (omega arith)) n m
+
+module _ (m : List ℕ) (n t j c : ℕ) (counted : c ≡ count_by (λ row. member row j) (take n m)) where
+  is_counted : c ≡ count n (λ i. cell m i j)
+  is_counted = counted ∙ count_cells m n j
+
+  -- those who don't say 1 say 0
+  pub zero_seen_is : leb (n - t) (n - c) ≡ zero_seen n t (λ i. cell m i j)
+  unfolding zero_seen
+  zero_seen_is = ap (leb (n - t)) (omega (arith, is_counted, count-not n (λ i. cell m i j)))
+
+  pub one_seen_is : leb (n - t) c ≡ one_seen n t (λ i. cell m i j)
+  unfolding one_seen
+  one_seen_is = ap (leb (n - t)) is_counted
+
+  pub held_is : ltb t c ≡ held n t (λ i. cell m i j)
+  unfolding held
+  held_is = ap (ltb t) is_counted
 
 -- what the slots' rows have
 cell_said : (inbox : List ℕ) (layout : Layout) (n r j i : ℕ) → n ≤ 16 → i < n → cell (said_rows inbox layout n r) i j ≡ said inbox layout n r j i
@@ -68,77 +87,47 @@ first_rows inbox layout n =
     (limit n) (replicate 16 0)
     (λ i l. sym (set_of_members (limit n) (row_of (limit n) (message_of inbox layout (i + 1)) 0) (row_lt (limit n) (message_of inbox layout (i + 1)) 0)))
 
--- the matrix of a rule whose bits are those of f
-rule_matrix_lem : (rule : Rule) (inbox : List ℕ) (layout : Layout) (n t : ℕ) (f : ℕ → ℕ → Bool)
-    → ((r j : ℕ) → rule_bit rule n t (said_rows inbox layout n r) (said_rows inbox layout n (n + r)) j ≡ f r j) → rule_matrix rule inbox layout n t ≡ matrix_of n f
-unfolding rule_matrix rule_row matrix_of
-rule_matrix_lem rule inbox layout n t f h =
-    filled_ext (λ r. set_of n (rule_bit rule n t (said_rows inbox layout n r) (said_rows inbox layout n (n + r)))) (λ r. set_of n (f r)) n (replicate 16 0)
-    (λ r l. set_ext n (rule_bit rule n t (said_rows inbox layout n r) (said_rows inbox layout n (n + r))) (f r) (λ j k. h r j))
+-- the bits of a row, from what the slots say
+module _ (rows inbox : List ℕ) (layout : Layout) (n r t j : ℕ) (few : n ≤ 16) (heard : rows ≡ said_rows inbox layout n r) where
+  pub count_heard : count n (λ i. cell rows i j) ≡ count n (said inbox layout n r j)
+  count_heard = ap (λ (m : List ℕ). count n (λ i. cell m i j)) heard ∙ count_said inbox layout n r j few
 
-module _ (inbox : List ℕ) (layout : Layout) (n t : ℕ) where
-  small : limit n ≤ 16
-  small = omega arith
+  pub zero_heard : zero_seen n t (λ i. cell rows i j) ≡ zero_seen n t (said inbox layout n r j)
+  unfolding zero_seen
+  zero_heard = ap (leb (n - t)) (ap (λ (m : List ℕ). count n (λ i. not (cell m i j))) heard ∙ count_unsaid inbox layout n r j few)
 
-  pub rule_zeros : rule_matrix ZeroSeen inbox layout (limit n) t ≡ zeros_of inbox layout n t
-  unfolding zeros_of zero_seen
-  rule_zeros = rule_matrix_lem ZeroSeen inbox layout (limit n) t _ (λ r j. ap (leb (limit n - t)) (count_unsaid inbox layout (limit n) r j small))
+  pub one_heard : one_seen n t (λ i. cell rows i j) ≡ one_seen n t (said inbox layout n r j)
+  unfolding one_seen
+  one_heard = ap (leb (n - t)) count_heard
 
-  pub rule_ones : rule_matrix OneSeen inbox layout (limit n) t ≡ ones_of inbox layout n t
-  unfolding ones_of one_seen
-  rule_ones = rule_matrix_lem OneSeen inbox layout (limit n) t _ (λ r j. ap (leb (limit n - t)) (count_said inbox layout (limit n) r j small))
+  pub held_heard : held n t (λ i. cell rows i j) ≡ held n t (said inbox layout n r j)
+  unfolding held
+  held_heard = ap (ltb t) count_heard
 
-  pub rule_held : rule_matrix Hold inbox layout (limit n) t ≡ held_of inbox layout n t
-  unfolding held_of held
-  rule_held = rule_matrix_lem Hold inbox layout (limit n) t _ (λ r j. ap (ltb t) (count_said inbox layout (limit n) (limit n + r) j small))
+pub weak_heard : (zeros ones inbox : List ℕ) (layout : Layout) (n r q t j : ℕ) → n ≤ 16 → zeros ≡ said_rows inbox layout n r → ones ≡ said_rows inbox layout n q
+    → weak n t (λ i. cell zeros i j) (λ i. cell ones i j) ≡ weak n t (said inbox layout n r j) (said inbox layout n q j)
+unfolding weak support held
+weak_heard zeros ones inbox layout n r q t j few e f =
+    ap₂ (λ (z o : ℕ). ltb (cond (ltb t o) o z) (n - t)) (count_heard zeros inbox layout n r t j few e) (count_heard ones inbox layout n q t j few f)
 
-  pub rule_weak : rule_matrix Weak inbox layout (limit n) t ≡ weak_of inbox layout n t
-  unfolding weak_of weak support held
-  rule_weak =
-      rule_matrix_lem Weak inbox layout (limit n) t _ (λ r j.
-      ap₂ (λ (z o : ℕ). ltb (cond (ltb t o) o z) (limit n - t))
-      (count_said inbox layout (limit n) r j small) (count_said inbox layout (limit n) (limit n + r) j small))
+pub king_heard : (says : ℕ) (inbox : List ℕ) (layout : Layout) (n king r j : ℕ) → says ≡ king_row inbox layout n king r
+    → member says j ≡ king_says inbox layout n king r j
+unfolding king_row king_says
+king_heard says inbox layout n king r j e = ap (λ (x : ℕ). member x j) e
 
-pub settled_rows_lem : (rows weak inbox : List ℕ) (layout : Layout) (n king : ℕ)
-    → settled_rows rows weak inbox layout (limit n) king ≡ settled_of rows weak inbox layout n king
-unfolding settled_rows settled_row settled_of matrix_of king_row king_says
-settled_rows_lem rows weak inbox layout n king = refl
+-- what is made of the inbox with n cut off at 16 is made of the inbox that was given
+carried : {A : Type 0} (f : List ℕ → Layout → ℕ → A) {box inbox : List ℕ} {made layout : Layout} {m : ℕ} (n : ℕ)
+    → (box ≡ inbox) × (made ≡ layout) × (m ≡ limit n) → f box made m ≡ f inbox layout (limit n)
+carried f {box} {inbox} {made} {layout} {m} n e =
+    ap (λ b. f b made m) e.0 ∙ ap (λ l. f inbox l m) e.1 ∙ ap (f inbox layout) e.2
 
--- the functions' answers, as structs
-pub is_collected : (inbox rows : List ℕ) (layout : Layout) (n m : ℕ) → m ≡ limit n → rows ≡ said_rows inbox layout m 0
-    → ◌≡◌ {A = Matrix} (record { rows = rows }) (collect_answer inbox layout n)
-is_collected inbox rows layout n m e h =
-    ap (λ (l : List ℕ). matrix l) (h ∙ ap (λ (x : ℕ). said_rows inbox layout x 0) e ∙ first_rows inbox layout n)
-  where
-    matrix : List ℕ → Matrix
-    matrix l = record { rows = l }
+pub is_collected : {box inbox : List ℕ} {made layout : Layout} {m : ℕ} (n : ℕ) (rows : List ℕ) → (box ≡ inbox) × (made ≡ layout) × (m ≡ limit n)
+    → rows ≡ said_rows box made m 0 → rows ≡ first_matrix inbox layout n
+is_collected {inbox = inbox} {layout = layout} n rows e h = h ∙ carried (λ b l x. said_rows b l x 0) n e ∙ first_rows inbox layout n
 
-pub is_tallied : (inbox zeros ones : List ℕ) (layout : Layout) (n m t : ℕ) → m ≡ limit n → zeros ≡ rule_matrix ZeroSeen inbox layout m t
-    → ones ≡ rule_matrix OneSeen inbox layout m t
-    → ◌≡◌ {A = Seen} (record { zeros = zeros; ones = ones }) (tally_answer inbox layout n t)
-is_tallied inbox zeros ones layout n m t e h k =
-    ap₂ (λ (a b : List ℕ). seen a b)
-    (h ∙ ap (λ (x : ℕ). rule_matrix ZeroSeen inbox layout x t) e ∙ rule_zeros inbox layout n t)
-    (k ∙ ap (λ (x : ℕ). rule_matrix OneSeen inbox layout x t) e ∙ rule_ones inbox layout n t)
-  where
-    seen : List ℕ → List ℕ → Seen
-    seen a b = record { zeros = a; ones = b }
-
-pub is_kept : (inbox rows weak : List ℕ) (layout : Layout) (n m t : ℕ) → m ≡ limit n → rows ≡ rule_matrix Hold inbox layout m t
-    → weak ≡ rule_matrix Weak inbox layout m t
-    → ◌≡◌ {A = Held} (record { rows = rows; weak = weak }) (hold_answer inbox layout n t)
-is_kept inbox rows weak layout n m t e h k =
-    ap₂ (λ (a b : List ℕ). two a b)
-    (h ∙ ap (λ (x : ℕ). rule_matrix Hold inbox layout x t) e ∙ rule_held inbox layout n t)
-    (k ∙ ap (λ (x : ℕ). rule_matrix Weak inbox layout x t) e ∙ rule_weak inbox layout n t)
-  where
-    two : List ℕ → List ℕ → Held
-    two a b = record { rows = a; weak = b }
-
-pub is_resolved : (rows weak inbox settled : List ℕ) (layout : Layout) (n m king : ℕ) → m ≡ limit n → settled ≡ settled_rows rows weak inbox layout m king
-    → ◌≡◌ {A = Matrix} (record { rows = settled }) (settle_answer rows weak inbox layout n king)
-is_resolved rows weak inbox settled layout n m king e h =
-    ap (λ (l : List ℕ). matrix l) (h ∙ ap (λ (x : ℕ). settled_rows rows weak inbox layout x king) e ∙ settled_rows_lem rows weak inbox layout n king)
-  where
-    matrix : List ℕ → Matrix
-    matrix l = record { rows = l }
+pub is_matrix : (answer : ℕ → ℕ → Type 0) (bits : List ℕ → Layout → ℕ → ℕ → ℕ → Bool) {box inbox : List ℕ} {made layout : Layout} {m : ℕ} (n : ℕ)
+    (rows : List ℕ) → (box ≡ inbox) × (made ≡ layout) × (m ≡ limit n) → IsMatrixOf answer m rows
+    → ((r x : ℕ) → r < m → answer r x → x ≡ set_of m (bits box made m r)) → rows ≡ matrix_of (limit n) (bits inbox layout (limit n))
+unfolding matrix_of
+is_matrix answer bits {box} {inbox} {made} {layout} {m} n rows e is h =
+    is (λ r. set_of m (bits box made m r)) h ∙ carried (λ b l x. filled (λ r. set_of x (bits b l x r)) x (replicate 16 0)) n e

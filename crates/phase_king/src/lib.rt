@@ -1,18 +1,18 @@
 // The vote among the controllers on a matrix of marks, bit by bit (document 01, 'Rounds', call 4 and rounds 3p + 1 to 3p + 3; Berman, Garay
 // and Perry). Index i is controller i + 1; a king is named by its number. Every function is total: a number n over 16 counts as 16.
-// The rules for one bit are in one_bit.rt, what is sent is in send.rt.
+// What slots say is in inbox.rt, the rules for one bit in one_bit.rt, what is sent in send.rt.
 #![tactic(auto)]
 
+mod inbox;
 mod one_bit;
 mod send;
 
-ghost use Rattle.std.specs.Prelude.{◌≡◌, cond, ◌+◌, ◌<◌, ◌≤◌, min};
-ghost use Rattle.bitset.specs.Set.{inserted};
-ghost use Rattle.bitset.specs.Row.{row_of};
-ghost use Rattle.wire.specs.Slot.{message_of};
-ghost use Rattle.phase_king.specs.Matrix.{collect_answer, tally_answer, hold_answer, settle_answer};
-ghost use Rattle.phase_king.specs.Steps.{said_rows, rule_bit, rule_row, rule_matrix, king_row, settled_row};
+ghost use Rattle.std.specs.Prelude.{◌≡◌, ◌+◌, ◌<◌};
+ghost use Rattle.bitset.specs.Set.{member, set_of};
+ghost use Rattle.phase_king.specs.Bit.{zero_seen, one_seen, held, weak, settled};
+ghost use Rattle.phase_king.specs.Matrix.{said, king_says, collect_answer, tally_answer, hold_answer, settle_answer};
 
+use inbox::Inbox;
 use one_bit::{held_bit, one_seen, settled_bit, weak_bit, zero_seen};
 pub use send::{send_as_king, send_matrix, send_seen};
 use wire::Layout;
@@ -30,120 +30,11 @@ pub struct Seen {
     pub ones: [u16; 16],
 }
 
-// The bits now held, and where their count is below n - t.
+// The bits now held, and where their count is below n - t. `settle` and `send_seen` take such matrices one by one: their clauses name each.
 #[derive(Clone, Copy)]
 pub struct Held {
     pub rows: [u16; 16],
     pub weak: [u16; 16],
-}
-
-// What is asked of the slots for each bit.
-#[derive(Clone, Copy)]
-enum Rule {
-    ZeroSeen,
-    OneSeen,
-    Hold,
-    Weak,
-}
-
-// What an absent slot says: 0 at each bit.
-const ABSENT: u16 = 0;
-
-// n, or 16 where n is larger.
-fn limit(n: usize) -> usize
-    ensures { result ≡ min n 16 }
-{
-    if 16 < n {
-        return 16;
-    }
-    n
-}
-
-// Row r of what slot i + 1 says.
-fn said_row(inbox: &[u8], layout: Layout, n: usize, r: usize, i: usize) -> u16
-    requires { i < 16 }
-    ensures { result ≡ row_of n (message_of inbox.now layout (i + 1)) r }
-{
-    let m = wire::message(inbox, layout, i + 1);
-    if m.len() == 0 {
-        return ABSENT;
-    }
-    bitset::read_row(m, n, r)
-}
-
-// Row r of what each of the n slots says.
-fn said_rows(inbox: &[u8], layout: Layout, n: usize, r: usize) -> [u16; 16]
-    requires { n ≤ 16 }
-    ensures { result ≡ said_rows inbox.now layout n r }
-{
-    let mut rows = [0u16; 16];
-    let mut i: usize = 0;
-    while i < n {
-        rows[i] = said_row(inbox, layout, n, r, i);
-        i += 1;
-    }
-    rows
-}
-
-// Bit j by a rule, from the rows that the slots say.
-fn rule_bit(rule: Rule, first: &[u16; 16], second: &[u16; 16], n: usize, t: usize, j: usize) -> bool
-    requires { n ≤ 16 }
-    ensures { result ≡ rule_bit rule n t first.now second.now j }
-{
-    match rule {
-        Rule::ZeroSeen => zero_seen(first, n, t, j),
-        Rule::OneSeen => one_seen(first, n, t, j),
-        Rule::Hold => held_bit(second, n, t, j),
-        Rule::Weak => weak_bit(first, second, n, t, j),
-    }
-}
-
-// The row with bit j, if b.
-fn mark(row: u16, j: usize, b: bool) -> u16
-    ensures { result ≡ cond b (inserted row j) row }
-{
-    if b {
-        return bitset::insert(row, j);
-    }
-    row
-}
-
-// The row of a rule's bits.
-fn rule_row(rule: Rule, first: &[u16; 16], second: &[u16; 16], n: usize, t: usize) -> u16
-    requires { n ≤ 16 }
-    ensures { result ≡ rule_row rule n t first.now second.now }
-{
-    let mut row: u16 = 0;
-    let mut j: usize = 0;
-    while j < n {
-        row = mark(row, j, rule_bit(rule, first, second, n, t, j));
-        j += 1;
-    }
-    row
-}
-
-// Row r of a rule's matrix. The slots' rows for the ones stand n rows further on.
-fn rule_row_at(rule: Rule, inbox: &[u8], layout: Layout, n: usize, t: usize, r: usize) -> u16
-    requires { (n ≤ 16) × (r < n) }
-    ensures { result ≡ rule_row rule n t (said_rows inbox.now layout n r) (said_rows inbox.now layout n (n + r)) }
-{
-    let first = said_rows(inbox, layout, n, r);
-    let second = said_rows(inbox, layout, n, n + r);
-    rule_row(rule, &first, &second, n, t)
-}
-
-// The matrix of a rule.
-fn rule_matrix(rule: Rule, inbox: &[u8], layout: Layout, n: usize, t: usize) -> [u16; 16]
-    requires { n ≤ 16 }
-    ensures { result ≡ rule_matrix rule inbox.now layout n t }
-{
-    let mut rows = [0u16; 16];
-    let mut r: usize = 0;
-    while r < n {
-        rows[r] = rule_row_at(rule, inbox, layout, n, t, r);
-        r += 1;
-    }
-    rows
 }
 
 // Call 4: row j of the matrix is the message of j.
@@ -151,8 +42,24 @@ fn rule_matrix(rule: Rule, inbox: &[u8], layout: Layout, n: usize, t: usize) -> 
 pub fn collect(inbox: &[u8], layout: Layout, n: usize) -> Matrix
     ensures { result ≡ collect_answer inbox.now layout n }
 {
-    let rows = said_rows(inbox, layout, limit(n), 0);
+    let rows = Inbox::new(inbox, layout, n).rows(0);
     Matrix { rows }
+}
+
+// Row r of where zero is seen.
+fn zeros_row(inbox: &Inbox, t: usize, r: usize) -> u16
+    ensures { result ≡ set_of inbox.now.n (λ j. zero_seen inbox.now.n t (said inbox.now.slots.now inbox.now.layout inbox.now.n r j)) }
+{
+    let said = inbox.rows(r);
+    inbox.row_of(|j| zero_seen(&said, inbox.n, t, j))
+}
+
+// Row r of where one is seen.
+fn ones_row(inbox: &Inbox, t: usize, r: usize) -> u16
+    ensures { result ≡ set_of inbox.now.n (λ j. one_seen inbox.now.n t (said inbox.now.slots.now inbox.now.layout inbox.now.n r j)) }
+{
+    let said = inbox.rows(r);
+    inbox.row_of(|j| one_seen(&said, inbox.n, t, j))
 }
 
 // After round 3p + 1: where zero and where one is seen.
@@ -160,10 +67,29 @@ pub fn collect(inbox: &[u8], layout: Layout, n: usize) -> Matrix
 pub fn tally(inbox: &[u8], layout: Layout, n: usize, t: usize) -> Seen
     ensures { result ≡ tally_answer inbox.now layout n t }
 {
-    let m = limit(n);
-    let zeros = rule_matrix(Rule::ZeroSeen, inbox, layout, m, t);
-    let ones = rule_matrix(Rule::OneSeen, inbox, layout, m, t);
+    let inbox = Inbox::new(inbox, layout, n);
+    let zeros = inbox.matrix_of(|r| zeros_row(&inbox, t, r));
+    let ones = inbox.matrix_of(|r| ones_row(&inbox, t, r));
     Seen { zeros, ones }
+}
+
+// Row r of the bits now held. The slots' rows for the ones stand n rows further on.
+fn held_row(inbox: &Inbox, t: usize, r: usize) -> u16
+    requires { r < 16 }
+    ensures { result ≡ set_of inbox.now.n (λ j. held inbox.now.n t (said inbox.now.slots.now inbox.now.layout inbox.now.n (inbox.now.n + r) j)) }
+{
+    let ones = inbox.rows(inbox.n + r);
+    inbox.row_of(|j| held_bit(&ones, inbox.n, t, j))
+}
+
+// Row r of where the count for the bit held is below n - t.
+fn weak_row(inbox: &Inbox, t: usize, r: usize) -> u16
+    requires { r < 16 }
+    ensures { result ≡ set_of inbox.now.n (λ j. weak inbox.now.n t (said inbox.now.slots.now inbox.now.layout inbox.now.n r j) (said inbox.now.slots.now inbox.now.layout inbox.now.n (inbox.now.n + r) j)) }
+{
+    let zeros = inbox.rows(r);
+    let ones = inbox.rows(inbox.n + r);
+    inbox.row_of(|j| weak_bit(&zeros, &ones, inbox.n, t, j))
 }
 
 // After round 3p + 2: the bits now held, and where their count is below n - t.
@@ -171,34 +97,18 @@ pub fn tally(inbox: &[u8], layout: Layout, n: usize, t: usize) -> Seen
 pub fn hold(inbox: &[u8], layout: Layout, n: usize, t: usize) -> Held
     ensures { result ≡ hold_answer inbox.now layout n t }
 {
-    let m = limit(n);
-    let rows = rule_matrix(Rule::Hold, inbox, layout, m, t);
-    let weak = rule_matrix(Rule::Weak, inbox, layout, m, t);
+    let inbox = Inbox::new(inbox, layout, n);
+    let rows = inbox.matrix_of(|r| held_row(&inbox, t, r));
+    let weak = inbox.matrix_of(|r| weak_row(&inbox, t, r));
     Held { rows, weak }
 }
 
-// Row r of the king's message; zeros for a king that is none of 1 to n.
-fn king_row(inbox: &[u8], layout: Layout, n: usize, king: usize, r: usize) -> u16
-    ensures { result ≡ king_row inbox.now layout n king r }
+// Row r after round 3p + 3, from that of the bits held and that of where they are weak.
+fn settled_row(inbox: &Inbox, held: u16, weak: u16, king: usize, r: usize) -> u16
+    ensures { result ≡ set_of inbox.now.n (λ j. settled (member held j) (member weak j) (king_says inbox.now.slots.now inbox.now.layout inbox.now.n king r j)) }
 {
-    if n < king {
-        return 0;
-    }
-    bitset::read_row(wire::message(inbox, layout, king), n, r)
-}
-
-// A row after round 3p + 3.
-fn settled_row(held: u16, weak: u16, king: u16, n: usize) -> u16
-    requires { n ≤ 16 }
-    ensures { result ≡ settled_row n held weak king }
-{
-    let mut row: u16 = 0;
-    let mut j: usize = 0;
-    while j < n {
-        row = mark(row, j, settled_bit(held, weak, king, j));
-        j += 1;
-    }
-    row
+    let says = inbox.king_row(king, r);
+    inbox.row_of(|j| settled_bit(held, weak, says, j))
 }
 
 // After round 3p + 3: the king's bit where weak, else the bit held.
@@ -213,12 +123,7 @@ pub fn settle(
 ) -> Matrix
     ensures { result ≡ settle_answer rows.now weak.now inbox.now layout n king }
 {
-    let m = limit(n);
-    let mut settled = [0u16; 16];
-    let mut r: usize = 0;
-    while r < m {
-        settled[r] = settled_row(rows[r], weak[r], king_row(inbox, layout, m, king, r), m);
-        r += 1;
-    }
+    let inbox = Inbox::new(inbox, layout, n);
+    let settled = inbox.matrix_of(|r| settled_row(&inbox, rows[r], weak[r], king, r));
     Matrix { rows: settled }
 }

@@ -4,7 +4,6 @@ ghost use Rattle.bitset.specs.Row.{rows_length, rows_of};
 ghost use Rattle.wire.specs.Slot.{to_all};
 ghost use Rattle.phase_king.specs.Matrix.{seen_message, sent_by_king};
 
-use crate::limit;
 use wire::Layout;
 
 // The matrix to all: rounds 3p + 1 and 3p + 3. An outbox whose length is not that of the slots stays as it is.
@@ -15,7 +14,7 @@ pub fn send_matrix(outbox: &mut [u8], layout: Layout, rows: &[u16; 16], n: usize
     let mut m = [0u8; 32];
     bitset::write_rows(&mut m, rows, n);
     let end = bitset::rows_length(n);
-    wire::send_all(outbox, layout, limit(n), &m[..end]);
+    wire::send_all(outbox, layout, n.min(16), &m[..end]);
 }
 
 // The message of the zeros matrix, then the ones matrix, at the front of m.
@@ -36,11 +35,12 @@ pub fn send_seen(outbox: &mut [u8], layout: Layout, zeros: &[u16; 16], ones: &[u
     let mut m = [0u8; 64];
     write_seen(&mut m, zeros, ones, n);
     let end = 2 * bitset::rows_length(n);
-    wire::send_all(outbox, layout, limit(n), &m[..end]);
+    wire::send_all(outbox, layout, n.min(16), &m[..end]);
 }
 
 // The matrix to all if the own number is the king's, else silence: round 3p + 3.
 // Shut out: controller 1's matrix, whoever is king; must-fail/kings_matrix_by_nobody.
+#[tactic(auto, using(crate::proofs::Writes::king_all, crate::proofs::Writes::king_none))]
 pub fn send_as_king(
     outbox: &mut [u8],
     layout: Layout,
@@ -53,7 +53,7 @@ pub fn send_as_king(
 {
     if own == king {
         send_matrix(outbox, layout, rows, n);
-        return;
+    } else {
+        wire::silence(outbox);
     }
-    wire::silence(outbox);
 }

@@ -1,9 +1,6 @@
--- `phase_king::held_bit` meets its contract.
-use Rattle.phase_king.specs.Bit.{held}
-use lib.Dec.{ltb}
-use mathlib.Core.Path.{ap}
+-- `phase_king::one_bit::held_bit` meets its contract.
+use Rattle.phase_king.proofs.Steps.{held_is}
 use Rattle.phase_king.proofs.one_bit.held_bit.Goals as goal
 
 pub returns : goal.returns
-unfolding held
-returns c = ap (ltb c.args.t) c.count_bit.ensures
+returns c = held_is _ _ c.args.t _ _ c.count_bit.ensures

@@ -18,6 +18,6 @@ returns c =
     let a = c.args in
     let o : List ℕ = replicate 32 0 in
     let end = c.rows_length-end.result in
-    is_to_all a.layout a.n c.limit.result (rows_of a.n a.rows.now) (take end c.write_rows.new.out) a.outbox.now c.send_all.new.outbox
-    c.limit.ensures (rows_front a.n end a.rows.now c.write_rows.new.out o c.rows_length-end.ensures (omega arith) c.write_rows.ensures)
+    is_to_all a.layout a.n c.min.result (rows_of a.n a.rows.now) (take end c.write_rows.new.out) a.outbox.now c.send_all.new.outbox
+    c.min.ensures (rows_front a.n end a.rows.now c.write_rows.new.out o c.rows_length-end.ensures (omega arith) c.write_rows.ensures)
     c.send_all.ensures

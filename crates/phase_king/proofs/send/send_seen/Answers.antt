@@ -20,8 +20,8 @@ returns c =
     let o : List ℕ = replicate 64 0 in
     let m : List ℕ = seen_message a.n a.zeros.now a.ones.now in
     let end = 2 * c.rows_length-end.result in
-    is_to_all a.layout a.n c.limit.result m (take end c.write_seen.new.m) a.outbox.now c.send_all.new.outbox
-    c.limit.ensures
+    is_to_all a.layout a.n c.min.result m (take end c.write_seen.new.m) a.outbox.now c.send_all.new.outbox
+    c.min.ensures
     (front_of m c.write_seen.new.m (drop (2 * rows_length a.n) o) end c.write_seen.ensures
     (length_seen a.n a.zeros.now a.ones.now ∙ omega arith))
     c.send_all.ensures
