@@ -1,9 +1,7 @@
--- What the functions' proofs cite: turns of loops, and that the private functions' results are the matrices of the definitions. The main
--- one: `rule_zeros` and its like, the matrix of each rule.
+-- What the functions' proofs cite: counts, and that the private functions' results are the matrices of the definitions.
 use mathlib.Core.Path.{◌≡◌, refl, sym, ap, ap₂, ◌∙◌}
 use mathlib.Core.Bool.{Bool, true, false, not, cond}
 use mathlib.Core.List.{List, [], ◌∷◌}
-use mathlib.Core.Logic.{⊎_elim}
 use Prim.Native.Nat.{ℕ, zero, suc, ◌+◌, ◌-◌, ◌≤◌, ◌<◌}
 use native.Mathlib.Omega.{arith}
 use lib.Dec.{leb, ltb}
@@ -11,28 +9,17 @@ use lib.ListN.{get_or, take, replicate}
 use Rattle.std.specs.List.{count_by}
 use Rattle.std.proofs.lemmas.List.Sums.{sum_by-cons}
 use Rattle.lists.specs.Sum.{ind, count}
-use Rattle.lists.proofs.Tests.{either, cond_yes, cond_no}
 use Rattle.lists.proofs.Sums.{count_none_below, count_none, count_front, count_ext, count-not}
 use Rattle.lists.specs.Fill.{filled}
 use Rattle.lists.proofs.Fills.{get_or-filled, filled_ext}
-use Rattle.bitset.specs.Set.{member, set_of, inserted}
+use Rattle.bitset.specs.Set.{member, set_of}
 use Rattle.bitset.specs.Row.{row_of}
-use Rattle.bitset.proofs.Laws.{member_over, set_of_members, insert_next, insert_skip, row_lt}
+use Rattle.bitset.proofs.Laws.{member_over, set_of_members, row_lt}
 use Rattle.wire.specs.declared.slot.Layout.{Layout}
 use Rattle.wire.specs.Slot.{message_of}
 use Rattle.phase_king.specs.Bit.{zero_seen, one_seen, held, support, weak}
 use Rattle.phase_king.specs.Matrix.{limit, cell, matrix_of, said, king_says, first_matrix}
 use Rattle.phase_king.specs.Steps.{said_rows, king_row, IsMatrixOf}
-
--- a turn of a loop that marks
-pub marked : (n : ℕ) (p : ℕ → Bool) (row next : ℕ) (b : Bool) → n < 16 → row ≡ set_of n p → b ≡ p n → next ≡ cond b (inserted row n) row
-    → next ≡ set_of (n + 1) p
-marked n p row next b l e h d =
-    d ∙ ap₂ (λ (x : Bool) (s : ℕ). cond x (inserted s n) s) h e
-    ∙ ⊎_elim
-    (λ (y : p n ≡ true). cond_yes (p n) (inserted (set_of n p) n) (set_of n p) y ∙ insert_next n p l y)
-    (λ (y : p n ≡ false). cond_no (p n) (inserted (set_of n p) n) (set_of n p) y ∙ insert_skip n p y)
-    (either (p n))
 
 -- ---- a count by the library's chain is that of the definitions
 count_taken : (p : ℕ → Bool) → p 0 ≡ false → (n : ℕ) (m : List ℕ) → count_by p (take n m) ≡ count n (λ i. p (get_or m i 0))

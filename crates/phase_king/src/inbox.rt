@@ -1,8 +1,9 @@
 // What the slots of an inbox say (document 01, 'Rounds', call 4 and rounds 3p + 1 to 3p + 3).
 ghost use Rattle.std.specs.Prelude.{◌≡◌, ℕ, ◌+◌, ◌≤◌, ◌<◌, min};
+ghost use Rattle.bitset.specs.Set.{Selected};
 ghost use Rattle.bitset.specs.Row.{row_of};
 ghost use Rattle.wire.specs.Slot.{message_of};
-ghost use Rattle.phase_king.specs.Steps.{said_rows, king_row, IsRowOf, IsMatrixOf};
+ghost use Rattle.phase_king.specs.Steps.{said_rows, king_row, IsMatrixOf};
 
 use wire::Layout;
 
@@ -33,15 +34,9 @@ impl<'a> Inbox<'a> {
     // The row of the bits that f answers, for each below n.
     pub(crate) fn row_of<F: Fn(usize) -> bool>(&self, f: F) -> u16
         requires { (j : ℕ) → j < self.now.n → F.pre f j }
-        ensures { IsRowOf (F.post f) self.now.n result }
+        ensures { Selected (F.post f) self.now.n result }
     {
-        let mut row = 0;
-        for j in 0..self.n {
-            if f(j) {
-                row = bitset::insert(row, j);
-            }
-        }
-        row
+        bitset::select(self.n, f)
     }
 
     // The matrix of the rows that f answers, for each below n.

@@ -1,19 +1,10 @@
--- `phase_king::inbox::Inbox::row_of` meets its contract.
-use Rattle.std.proofs.Common.{sym, ◌∙◌, arith}
-use Rattle.lists.proofs.Tests.{cond_yes, cond_no}
-use Rattle.bitset.proofs.Laws.{set_none}
-use Rattle.phase_king.proofs.Steps.{marked}
+-- `phase_king::inbox::Inbox::row_of` meets its contract: n is 16 at most.
+use Rattle.std.proofs.Common.{ℕ, subst, ◌≤◌}
+use Rattle.std.proofs.Math.Nat.{min-eq_left}
+use Rattle.bitset.specs.Set.{Selected}
 use Rattle.phase_king.proofs.inbox.Inbox.row_of.Goals as goal
-use Rattle.phase_king.proofs.inbox.Inbox.row_of.Goals.{then-f, else-f}
 
-pub loop-j-init : goal.loop-j-init
-loop-j-init g c = λ p h. sym (set_none _)
-
-pub loop-j-preserved : goal.loop-j-preserved
-loop-j-preserved g c =
-    λ p h. marked c.loop-j.j p c.loop-j.row c.if-f.row c.f.result (omega arith) (c.loop-j.invariant p h)
-    (h c.loop-j.j c.f.result c.loop-j-test.true c.f.ensures)
-    (elim c.if-f.branch [
-      | then-f w ↦ w.row-is ∙ w.insert-row.ensures ∙ sym (cond_yes _ _ _ w.if-f.true)
-      | else-f w ↦ w.row-is ∙ sym (cond_no _ _ _ w.if-f.false)
-    ])
+pub returns : goal.returns
+returns g c =
+    let few : c.args.self.now.n ≤ 16 = c.args.self.now.few in
+    subst (λ (n : ℕ). Selected (goal.F-post g c.args.f) n c.select.result) (min-eq_left few) c.select.ensures
