@@ -2,9 +2,8 @@
 -- factor). Both rest on tests of all elements that antt computes.
 use mathlib.Core.Path.{◌≡◌, sym, ap, ap₂, ◌∙◌}
 use mathlib.Core.Bool.{Bool}
-use Prim.Native.Nat.{ℕ, ◌*◌, ◌/◌, ◌%◌, ◌≤◌, ◌<◌}
+use Prim.Native.Nat.{ℕ, ◌*◌, ◌/◌, ◌%◌, ◌<◌}
 use native.Mathlib.Nat.{zero-mul, one-mul}
-use native.Mathlib.Omega.{arith}
 use lib.Bits.{bit_and, and_mask}
 use lib.Dec.{T, eqb, eqb→eq}
 use Rattle.lists.proofs.Table.{below, below_at}
@@ -43,10 +42,6 @@ bit_times x b h l = bit_cases (λ x. gmul x b ≡ x * b) (gmul-zero_l b ∙ sym 
 
 low_bit : (a : ℕ) → bit_and a 1 ≡ a % 2
 low_bit a = and_mask a 1
-
-pub bit_times_le : (a b : ℕ) → bit_and a 1 * b ≤ b
-bit_times_le a b =
-    rw (low_bit a) (bit_cases (λ x. x * b ≤ b) (omega (arith, zero-mul b)) (omega (arith, one-mul b)) (a % 2) (bit_lt a))
 
 pub gmul-bit : (a b : ℕ) → a < 256 → b < 256 → gadd (gmul 2 (gmul (a / 2) b)) (bit_and a 1 * b) ≡ gmul a b
 gmul-bit a b h l =

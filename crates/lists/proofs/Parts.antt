@@ -9,6 +9,7 @@ use native.Mathlib.Numerals.{add-one}
 use native.Mathlib.Omega.{arith}
 use lib.ListN.{length, get_or, set, take, drop, replicate, drop_of_length-le, length-append}
 use lib.Seq.{take_all, take_at, take-nil, take-take, take-append-le, drop_at, drop-drop, length-take-le}
+use Rattle.std.proofs.lemmas.List.{take_rest}
 use Rattle.lists.proofs.Tests.{lt_or_le}
 
 -- ---- copies from the front
@@ -63,7 +64,7 @@ length-lent a w l h =
 
 -- the part from a to the end
 pub part_rest : (a : ℕ) (l : List ℕ) → take (length l - a) (drop a l) ≡ drop a l
-part_rest a l = take_all (length l - a) (drop a l) (omega (arith, lib.ListN.length-drop a l))
+part_rest a l = take_rest l a
 
 -- what follows the first d elements of a front part
 pub drop-take : (d m : ℕ) (l : List ℕ) → drop d (take m l) ≡ take (m - d) (drop d l)

@@ -1,22 +1,27 @@
 -- Laws of equality as a test: `same_eq` and `eq_same`, and a turn of a loop that compares.
-use mathlib.Core.Path.{◌≡◌, refl, sym, ap, ap₂, subst}
+use mathlib.Core.Path.{◌≡◌, refl, sym, ap, subst, ◌∙◌}
 use mathlib.Core.Bool.{true, false, ◌&&◌}
 use mathlib.Core.List.{List, [], ◌∷◌}
 use Prim.Native.Nat.{ℕ, ◌<◌}
-use borrow.Author.Tests.{eqb-true, eq-eqb}
+use borrow.Author.Tests.{eq-eqb}
 use lib.Dec.{eqb}
 use lib.Pointwise.{pointwise}
 use lib.ListN.{length, get_or}
 use lib.Seq.{ext_get_or}
+use Rattle.std.specs.Cmp.Lexicographic.{same_text}
 use Rattle.lists.specs.Same.{same}
-use Rattle.lists.proofs.Tests.{true≢false, fails, and_left, and_right, and_both}
+use Rattle.lists.proofs.Tests.{fails, and_both}
+
+-- the library's equality of byte strings is that test
+pub same_pointwise : (a b : List ℕ) → pointwise eqb a b ≡ same a b
+unfolding same
+same_pointwise [] [] = refl
+same_pointwise [] (y ∷ ys) = refl
+same_pointwise (x ∷ xs) [] = refl
+same_pointwise (x ∷ xs) (y ∷ ys) = ap (λ t. eqb x y && t) (same_pointwise xs ys)
 
 pub same_eq : (a b : List ℕ) → same a b ≡ true → a ≡ b
-unfolding same
-same_eq [] [] e = refl
-same_eq [] (y ∷ ys) e = absurd (true≢false (sym e))
-same_eq (x ∷ xs) [] e = absurd (true≢false (sym e))
-same_eq (x ∷ xs) (y ∷ ys) e = ap₂ ◌∷◌ (eqb-true x y (and_left (eqb x y) (same xs ys) e)) (same_eq xs ys (and_right (eqb x y) (same xs ys) e))
+same_eq a b e = same_text a b (sym (same_pointwise a b ∙ e))
 
 pub same_refl : (a : List ℕ) → same a a ≡ true
 unfolding same
@@ -38,11 +43,3 @@ no_same a b n = ne_same a b (λ e. n (ap length e))
 
 pub same_differ : (a b : List ℕ) (i : ℕ) → (get_or a i 0 ≡ get_or b i 0 → ⊥) → same a b ≡ false
 same_differ a b i n = ne_same a b (λ e. n (ap (λ (l : List ℕ). get_or l i 0) e))
-
--- the library's equality of byte strings is that test
-pub same_pointwise : (a b : List ℕ) → pointwise eqb a b ≡ same a b
-unfolding same
-same_pointwise [] [] = refl
-same_pointwise [] (y ∷ ys) = refl
-same_pointwise (x ∷ xs) [] = refl
-same_pointwise (x ∷ xs) (y ∷ ys) = ap (λ t. eqb x y && t) (same_pointwise xs ys)

@@ -7,8 +7,9 @@ use mathlib.Core.Logic.{⊎_elim}
 use Prim.Native.Nat.{ℕ, zero, suc, ◌+◌, ◌≤◌, ◌<◌}
 use native.Mathlib.Numerals.{add-one}
 use native.Mathlib.Omega.{arith}
-use lib.ListN.{length, get_or, set, drop, length-append, get_or-append}
-use lib.Seq.{get_or_at, set_at, drop-cons, append_snoc}
+use lib.ListN.{length, get_or, set, drop, get_or-append}
+use lib.Seq.{set_at, drop-cons, append_snoc}
+use Rattle.std.proofs.lemmas.List.{get_or_push, length_push}
 use Rattle.lists.specs.Sum.{ind, count}
 use Rattle.lists.specs.Select.{selected, Rising}
 use Rattle.lists.proofs.Tests.{lt_or_le}
@@ -29,29 +30,23 @@ pub selected_no : (p : ℕ → Bool) (n : ℕ) → p (n + 1) ≡ false → selec
 selected_no p n e = selected_more p n ∙ ap (λ b. selected p n ++ cond b ((n + 1) ∷ []) []) e ∙ append-nil (selected p n)
 
 -- ---- an element more at the end
-at_last : (l : List ℕ) (x i : ℕ) → i ≡ length l → get_or (l ++ (x ∷ [])) i 0 ≡ x
-at_last l x i e = get_or_at l x [] 0 i (sym e)
-
-length_snoc : (l : List ℕ) (x : ℕ) → length (l ++ (x ∷ [])) ≡ length l + 1
-length_snoc l x = length-append l (x ∷ [])
-
 each_snoc : (P : ℕ → Type 0) (l : List ℕ) (x : ℕ) → ((i : ℕ) → i < length l → P (get_or l i 0)) → P x
     → (i : ℕ) → i < length (l ++ (x ∷ [])) → P (get_or (l ++ (x ∷ [])) i 0)
 each_snoc P l x each last i h =
     ⊎_elim
     (λ (g : i < length l). rw (get_or-append l (x ∷ []) 0 i g) (each i g))
-    (λ (g : length l ≤ i). rw (at_last l x i (omega (arith, length_snoc l x))) last)
+    (λ (g : length l ≤ i). rw (get_or_push l x 0 i (omega (arith, length_push l x))) last)
     (lt_or_le i (length l))
 
 count_snoc : (q : ℕ → Bool) (l : List ℕ) (x : ℕ)
     → count (length (l ++ (x ∷ []))) (λ i. q (get_or (l ++ (x ∷ [])) i 0)) ≡ count (length l) (λ i. q (get_or l i 0)) + ind (q x)
 count_snoc q l x =
-    ap (λ m. count m (λ i. q (get_or (l ++ (x ∷ [])) i 0))) (length_snoc l x)
+    ap (λ m. count m (λ i. q (get_or (l ++ (x ∷ [])) i 0))) (length_push l x)
     ∙ count_more (length l) (λ i. q (get_or (l ++ (x ∷ [])) i 0))
     ∙ omega (
       arith,
       count_ext (length l) (λ i. q (get_or (l ++ (x ∷ [])) i 0)) (λ i. q (get_or l i 0)) (λ i h. ap q (get_or-append l (x ∷ []) 0 i h)),
-      ap (λ y. ind (q y)) (at_last l x (length l) refl),
+      ap (λ y. ind (q y)) (get_or_push l x 0 (length l) refl),
     )
 
 -- ---- the numbers rise
@@ -66,8 +61,8 @@ rising_more n l true r =
           (λ (f : j < length l).
           rw (get_or-append l ((n + 1) ∷ []) 0 i (omega arith), get_or-append l ((n + 1) ∷ []) 0 j f) (r.order i j h f))
           (λ (f : length l ≤ j).
-          let e : i < length l = omega (arith, length_snoc l (n + 1)) in
-          rw (get_or-append l ((n + 1) ∷ []) 0 i e, at_last l (n + 1) j (omega (arith, length_snoc l (n + 1)))) (omega (arith, r.most i e)))
+          let e : i < length l = omega (arith, length_push l (n + 1)) in
+          rw (get_or-append l ((n + 1) ∷ []) 0 i e, get_or_push l (n + 1) 0 j (omega (arith, length_push l (n + 1)))) (omega (arith, r.most i e)))
           (lt_or_le j (length l));
     }
 
@@ -101,7 +96,7 @@ count-selected p q (suc n) =
     count-last q (selected p n) (n + 1) (p (n + 1)) ∙ omega (arith, count-selected p q n, count-suc n (λ i. p (i + 1) && q (i + 1)))
 
 length_last : (l : List ℕ) (x : ℕ) (b : Bool) → length (l ++ cond b (x ∷ []) []) ≡ length l + ind b
-length_last l x true = length_snoc l x
+length_last l x true = length_push l x
 length_last l x false = ap length (append-nil l) ∙ omega arith
 
 pub length-selected : (p : ℕ → Bool) (n : ℕ) → length (selected p n) ≡ count n (λ i. p (i + 1))

@@ -4,11 +4,8 @@ use Prim.Native.Nat.{◌*◌}
 use lib.Bits.{bit_and}
 use native.Mathlib.Omega.{arith}
 use Rattle.gf256.specs.Field.{gadd, gmul}
-use Rattle.gf256.proofs.Bitwise.{bit_times_le, gmul-bit}
+use Rattle.gf256.proofs.Bitwise.{gmul-bit}
 use Rattle.gf256.proofs.bitwise_step.Goals as goal
-
-pub overflow_mul-result : goal.overflow_mul-result
-overflow_mul-result c = let a = c.args in omega (arith, bit_times_le a.a a.b)
 
 pub returns : goal.returns
 unfolding gadd

@@ -2,7 +2,6 @@
 use mathlib.Core.Path.{◌≡◌, refl, ap, sym, ◌∙◌}
 use Prim.Native.Nat.{ℕ, ◌+◌, ◌%◌, ◌<◌}
 use native.Mathlib.Omega.{arith}
-use borrow.Author.Rules.{rules}
 use Rattle.gf256.specs.Field.{gmul, gpow, glog}
 use Rattle.gf256.proofs.Laws.{gmul-zero_l, gmul-zero_r, gpow-mod, glog_lt, gmul-glog}
 use Rattle.gf256.proofs.mul.Goals as goal
@@ -30,12 +29,6 @@ pub returns-then-e-lt255 : goal.returns-then-e-lt255
 returns-then-e-lt255 c =
     let args = c.args in
     product args.a args.b _ _ c.power.ensures (omega arith) (omega arith) (omega arith) (omega arith) (omega arith)
-
--- exponents are below 255, so that e - 254 would fit too: must-fail/subtracts_254 is refused because of the product
-pub overflow_cast-e-else-e-lt255 : goal.overflow_cast-e-else-e-lt255
-overflow_cast-e-else-e-lt255 c =
-    let args = c.args in
-    search (rules, glog_lt args.a, glog_lt args.b)
 
 pub returns-else-e-lt255 : goal.returns-else-e-lt255
 returns-else-e-lt255 c =

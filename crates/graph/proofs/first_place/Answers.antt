@@ -3,9 +3,6 @@ use Rattle.graph.proofs.Order.{first_formula}
 use native.Mathlib.Omega.{arith}
 use Rattle.graph.proofs.first_place.Goals as goal
 
-pub overflow_mul-result : goal.overflow_mul-result
-overflow_mul-result c = omega (arith, (first_formula c.args.i c.requires).1)
-
 pub returns : goal.returns
 returns c =
     let f = first_formula c.args.i c.requires in

@@ -4,7 +4,6 @@ use Rattle.graph.proofs.Bits.{missing_16}
 use Rattle.graph.specs.Bits.{adjacent}
 use Rattle.bitset.proofs.Laws.{set_none, set_more, set_lt_16}
 use Rattle.bitset.specs.Set.{set_of}
-use Rattle.lists.proofs.Sums.{ind_le}
 use native.Mathlib.Omega.{arith}
 use mathlib.Core.Bool.{not}
 use mathlib.Core.Path.{◌≡◌, sym, ap, ap₂, ◌∙◌}
@@ -18,9 +17,6 @@ returns-then-m-i c =
 
 pub loop-j-init : goal.loop-j-init
 loop-j-init c = sym (set_none _)
-
-pub shifted-s-requires : goal.shifted-s-requires
-shifted-s-requires c = (omega (arith, c.missing_digit.ensures, ind_le (not (adjacent c.args.bits c.args.i c.loop-j.j))), omega arith)
 
 -- the set with one digit more
 next : (c : goal.After-shifted-s) → c.loop-j.s + c.shifted-s.result ≡ set_of (c.loop-j.j + 1) (λ x. not (adjacent c.args.bits c.args.i x))

@@ -1,2 +1,0 @@
--- Laws of digests, that the proofs of the functions cite.
-mod Digests
