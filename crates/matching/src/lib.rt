@@ -39,7 +39,7 @@ impl Matching {
     }
 
     // The pairs, the first one last.
-    // Shut out: one pair fewer; all eight places.
+    // Shut out: one pair fewer; all eight places; must-fail/eighth_pair_left.
     pub fn pairs(&self) -> &[(u8, u8)]
         ensures { result.now ≡ take self.now.count self.now.pairs }
     {

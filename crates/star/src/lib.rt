@@ -10,7 +10,7 @@ ghost use Rattle.matching.specs.Answer.{pairs_of};
 ghost use Rattle.star.specs.Star.{set_C, lacks, at_least, four, sets_of, sets_from, is_large, IsStar};
 ghost use Rattle.star.specs.Steps.{Below};
 
-use bitset::{below, difference, insert, intersection, member, remove, size};
+use bitset::{below, difference, insert, intersection, member, remove, select, size};
 use graph::{bits_of, missing_row};
 use matching::{Matching, largest};
 use settings::{Refusal, star_refusal};
@@ -39,22 +39,6 @@ fn matched_set(pairs: &[(u8, u8)]) -> u16
     let mut s: u16 = 0;
     for p in pairs {
         s = insert(insert(s, p.0 as usize), p.1 as usize);
-    }
-    s
-}
-
-// The set of those below n that pass the test.
-fn those<F: Fn(usize) -> bool>(n: usize, test: F) -> u16
-    requires few { n ≤ 16 }
-    requires callable { (i : ℕ) → i < n → F.pre test i }
-    ensures below { result < 2 ^ n }
-    ensures each { (i : ℕ) → i < n → F.post test i (member result i) }
-{
-    let mut s: u16 = 0;
-    for i in 0..n {
-        if test(i) {
-            s = insert(s, i);
-        }
     }
     s
 }
@@ -108,7 +92,7 @@ impl Graph {
         requires { c < 2 ^ self.now.n }
         ensures { result ≡ set_of self.now.n (λ i. not (member u i && lacks self.now.n (adjacent self.now.bits) c i)) }
     {
-        those(self.n, |i| !self.in_b(u, c, i))
+        select(self.n, |i| !self.in_b(u, c, i))
     }
 
     // Those with at least k neighbours in the set s.
@@ -116,7 +100,7 @@ impl Graph {
         requires { s < 2 ^ self.now.n }
         ensures { result ≡ at_least self.now.n (adjacent self.now.bits) s k }
     {
-        those(self.n, |i| k <= size(difference(s, self.missing(i))))
+        select(self.n, |i| k <= size(difference(s, self.missing(i))))
     }
 
     // The four sets of a matching.

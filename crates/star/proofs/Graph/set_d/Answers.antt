@@ -1,9 +1,14 @@
 -- `Graph::set_d` meets its contract.
-use Rattle.star.proofs.Parts.{those_are}
-use borrow.Author.Rules.{rules}
+use Rattle.std.proofs.Common.{◌≡◌, ◌≤◌, ℕ, Bool, not, ◌&&◌, subst, rules}
+use Rattle.std.proofs.Math.Nat.{min-eq_left}
+use Rattle.bitset.specs.Set.{member, set_of}
+use Rattle.graph.specs.Bits.{adjacent}
+use Rattle.star.specs.Star.{lacks}
 use Rattle.star.proofs.Graph.set_d.Goals as goal
 
 pub returns : goal.returns
 returns c =
     let g = c.args.self.now in
-    those_are g.n c.those.result _ g.few c.those.ensures.below (λ i l. let h = c.those.ensures.each i l in search rules)
+    let few : g.n ≤ 16 = g.few in
+    let test : ℕ → Bool = λ i. not (member c.args.u i && lacks g.n (adjacent g.bits) c.args.c i) in
+    subst (λ (n : ℕ). c.select.result ≡ set_of n test) (min-eq_left few) (c.select.ensures test (λ i b l h. search rules))
