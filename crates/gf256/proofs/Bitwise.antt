@@ -1,40 +1,31 @@
 -- The product a bit after the other. The main laws: `double_is` (02 times an element, by shifts) and `gmul-bit` (a product from that of half of a
 -- factor). Both rest on tests of all elements that antt computes.
 use mathlib.Core.Path.{◌≡◌, sym, ap, ap₂, ◌∙◌}
-use mathlib.Core.Bool.{Bool}
 use Prim.Native.Nat.{ℕ, ◌*◌, ◌/◌, ◌%◌, ◌<◌}
 use native.Mathlib.Nat.{zero-mul, one-mul}
 use lib.Bits.{bit_and, and_mask}
-use lib.Dec.{T, eqb, eqb→eq}
-use Rattle.lists.proofs.Table.{below, below_at}
+use lib.Dec.{T, eqb}
+use Rattle.lists.proofs.Table.{below, equal_below}
 use Rattle.gf256.specs.Field.{gadd, gmul}
 use Rattle.gf256.proofs.Sum.{bit_cases, bit_lt}
 use Rattle.gf256.proofs.Linear.{gmul-add_l}
 use Rattle.gf256.proofs.Product.{gmul_assoc, gmul-zero_l, gmul_one_l}
 
 -- ---- 02 times an element
-double_at : ℕ → Bool
-double_at a = eqb (gadd (a * 2 % 256) (a / 128 * 0x1d)) (gmul 2 a)
-
-double_test : T (below 256 double_at)
-unfolding gadd gmul double_at
+double_test : T (below 256 (λ a. eqb (gadd (a * 2 % 256) (a / 128 * 0x1d)) (gmul 2 a)))
+unfolding gadd gmul
 double_test = tt
 
 pub double_is : (a : ℕ) → a < 256 → gadd (a * 2 % 256) (a / 128 * 0x1d) ≡ gmul 2 a
-unfolding double_at
-double_is a h = eqb→eq (gadd (a * 2 % 256) (a / 128 * 0x1d)) (gmul 2 a) (below_at 256 double_at double_test a h)
+double_is = equal_below 256 (λ a. gadd (a * 2 % 256) (a / 128 * 0x1d)) (gmul 2) double_test
 
 -- ---- a product from that of half of a factor
-half_at : ℕ → Bool
-half_at a = eqb (gadd (gmul 2 (a / 2)) (a % 2)) a
-
-half_test : T (below 256 half_at)
-unfolding gadd gmul half_at
+half_test : T (below 256 (λ a. eqb (gadd (gmul 2 (a / 2)) (a % 2)) a))
+unfolding gadd gmul
 half_test = tt
 
 halves : (a : ℕ) → a < 256 → gadd (gmul 2 (a / 2)) (a % 2) ≡ a
-unfolding half_at
-halves a h = eqb→eq (gadd (gmul 2 (a / 2)) (a % 2)) a (below_at 256 half_at half_test a h)
+halves = equal_below 256 (λ a. gadd (gmul 2 (a / 2)) (a % 2)) (λ a. a) half_test
 
 -- a bit times an element
 bit_times : (x b : ℕ) → x < 2 → b < 256 → gmul x b ≡ x * b

@@ -9,7 +9,7 @@ use native.Mathlib.Nat.{zero-add, suc-add, add-zero, add-suc, zero-mul, suc-mul,
 use native.Mathlib.Omega.{arith}
 use lib.Dec.{T, eqb, eqb→eq, lit<}
 use lib.ListN.{get_or, length}
-use Rattle.lists.proofs.Table.{below, below_at, every_at, at}
+use Rattle.lists.proofs.Table.{below, equal_below, every_at, at}
 use Rattle.gf256.specs.Field.{gmul, gpow, ginv, glog, orbit, index_of}
 use Rattle.gf256.proofs.Product.{gmul_lt, gmul_comm, gmul_assoc, gmul_medial, gmul_one_l, gmul_one_r, gmul-zero_l, gmul-zero_r}
 
@@ -102,11 +102,11 @@ unfolding glog
 glog_lt a = omega (arith, place_lt 255 1 0 a (lit< tt))
 
 -- what stands in a list of powers at the place of a + 1 is a + 1
-found_in : List ℕ → ℕ → Bool
-found_in powers a = eqb (get_or powers (index_of powers 0 (suc a)) 0) (suc a)
+found_in : List ℕ → ℕ → ℕ
+found_in powers a = get_or powers (index_of powers 0 (suc a)) 0
 
 all_found : List ℕ → Bool
-all_found powers = below 255 (found_in powers)
+all_found powers = below 255 (λ a. eqb (found_in powers a) (suc a))
 
 all_found_lem : T (all_found (orbit 255 1))
 unfolding gmul orbit index_of found_in all_found
@@ -117,7 +117,7 @@ unfolding glog found_in all_found
 gpow-glog zero p h = absurd (omega arith)
 gpow-glog (suc a) p h =
     sym (get_or-orbit 255 (glog (suc a)) (glog_lt (suc a)))
-    ∙ eqb→eq (get_or (orbit 255 1) (glog (suc a)) 0) (suc a) (below_at 255 (found_in (orbit 255 1)) all_found_lem a (omega arith))
+    ∙ equal_below 255 (found_in (orbit 255 1)) suc all_found_lem a (omega arith)
 
 -- the place of the entry k is k
 placed_at : List ℕ → ℕ → ℕ → Bool

@@ -1,12 +1,11 @@
 -- The product: closed, commutative, with units, associative (`gmul_lt`, `gmul_comm`, `gmul_one_r`, `gmul_assoc`). Each law rests on a
 -- test at powers of 2 that antt computes.
 use mathlib.Core.Path.{◌≡◌, sym, ap, ◌∙◌}
-use mathlib.Core.Bool.{Bool}
 use Prim.Native.Nat.{ℕ, zero, suc, ◌%◌, ◌^◌, ◌<◌}
 use native.Mathlib.Nat.{mod-mod, mod-eq_of_lt}
 use native.Mathlib.Omega.{arith}
-use lib.Dec.{T, eqb, eqb→eq, ltb}
-use Rattle.lists.proofs.Table.{below, below_at}
+use lib.Dec.{T, eqb, ltb}
+use Rattle.lists.proofs.Table.{below, equal_below}
 use Rattle.gf256.specs.Field.{gmul}
 use Rattle.gf256.proofs.Sum.{add-mod, additive_zero}
 use Rattle.gf256.proofs.Linear.{gmul-add_l, gmul-add_r, gmul_low_l, gmul_low_r, additive_ext, Bilinear, at_pairs, bilinear_ext, bilinear_lt}
@@ -34,19 +33,15 @@ pub gmul_comm : (a b : ℕ) → gmul a b ≡ gmul b a
 gmul_comm = bilinear_ext gmul (λ a b. gmul b a) product turned comm_test
 
 -- ---- one and zero
-one_at : ℕ → Bool
-one_at k = eqb (gmul (2 ^ k) 1) (2 ^ k % 256)
-
-one_test : T (below 8 one_at)
-unfolding gmul one_at
+one_test : T (below 8 (λ k. eqb (gmul (2 ^ k) 1) (2 ^ k % 256)))
+unfolding gmul
 one_test = tt
 
 one_mod : (a : ℕ) → gmul a 1 ≡ a % 256
-unfolding one_at
 one_mod a =
     sym (gmul_low_l a 1)
     ∙ additive_ext (λ x. gmul x 1) (λ x. x % 256) (λ x y. gmul-add_l x y 1) (add-mod 8)
-    (λ k h. eqb→eq (gmul (2 ^ k) 1) (2 ^ k % 256) (below_at 8 one_at one_test k h)) a
+    (equal_below 8 (λ k. gmul (2 ^ k) 1) (λ k. 2 ^ k % 256) one_test) a
     ∙ mod-mod a 256
 
 pub gmul_one_r : (a : ℕ) → a < 256 → gmul a 1 ≡ a
@@ -85,16 +80,12 @@ two_test = tt
 mul_two : (a b : ℕ) → gmul a (gmul 2 b) ≡ gmul 2 (gmul a b)
 mul_two = bilinear_ext (λ a b. gmul a (gmul 2 b)) (λ a b. gmul 2 (gmul a b)) inside outside two_test
 
-next_at : ℕ → Bool
-next_at k = eqb (gmul 2 (2 ^ k)) (2 ^ suc k)
-
-next_test : T (below 7 next_at)
-unfolding gmul next_at
+next_test : T (below 7 (λ k. eqb (gmul 2 (2 ^ k)) (2 ^ suc k)))
+unfolding gmul
 next_test = tt
 
 next : (k : ℕ) → k < 7 → gmul 2 (2 ^ k) ≡ 2 ^ suc k
-unfolding next_at
-next k h = eqb→eq (gmul 2 (2 ^ k)) (2 ^ suc k) (below_at 7 next_at next_test k h)
+next = equal_below 7 (λ k. gmul 2 (2 ^ k)) (λ k. 2 ^ suc k) next_test
 
 assoc_power : (a b k : ℕ) → k < 8 → gmul (gmul a b) (2 ^ k) ≡ gmul a (gmul b (2 ^ k))
 assoc_power a b zero h = gmul_one_r (gmul a b) (gmul_lt a b) ∙ sym (gmul_low_r a b) ∙ ap (gmul a) (sym (one_mod b))

@@ -1,11 +1,10 @@
 -- The sum: a commutative group in which each element is its own inverse (`gadd_assoc`, `gadd_self`). Remainders, shifts and
 -- multiples by a bit respect it (`Additive`).
 use mathlib.Core.Path.{◌≡◌, refl, sym, ap, ap₂, ◌∙◌}
-use Prim.Native.Nat.{ℕ, zero, suc, ◌+◌, ◌*◌, ◌/◌, ◌%◌, ◌^◌, ◌<◌}
+use Prim.Native.Nat.{ℕ, zero, suc, ◌*◌, ◌/◌, ◌%◌, ◌^◌, ◌<◌}
 use native.Mathlib.Nat.{mod-lt, zero-mul, one-mul, add-zero}
 use native.Mathlib.Omega.{arith}
-use lib.Arith.{bin_ind}
-use lib.Bits.{bit_xor, differ, xor_step, xor_shr, xor_mod, xor_comm, xor_zero_r, xor_self, xor_lt, xor_block}
+use lib.Bits.{bit_xor, xor_assoc, xor_shr, xor_mod, xor_comm, xor_zero_r, xor_self, xor_lt, xor_block}
 use lib.Dec.{lit<}
 use Rattle.gf256.specs.Field.{gadd}
 
@@ -19,31 +18,6 @@ pub bit_lt : (a : ℕ) → a % 2 < 2
 bit_lt a = mod-lt a (lit< tt)
 
 -- ---- the group
-digit_assoc : (x y z : ℕ) → x < 2 → y < 2 → z < 2 → differ (bit_xor x y) z ≡ differ x (bit_xor y z)
-digit_assoc x y z hx hy hz =
-    bit_cases (λ x. differ (bit_xor x y) z ≡ differ x (bit_xor y z)) (zeros y hy) (ones y hy) x hx
-  where
-    zeros : (y : ℕ) → y < 2 → differ y z ≡ bit_xor y z
-    zeros = bit_cases (λ y. differ y z ≡ bit_xor y z) refl (bit_cases (λ z. differ 1 z ≡ bit_xor 1 z) refl refl z hz)
-
-    ones : (y : ℕ) → y < 2 → differ (bit_xor 1 y) z ≡ differ 1 (bit_xor y z)
-    ones =
-        bit_cases (λ y. differ (bit_xor 1 y) z ≡ differ 1 (bit_xor y z)) refl
-        (bit_cases (λ z. differ (bit_xor 1 1) z ≡ differ 1 (bit_xor 1 z)) refl refl z hz)
-
--- bit by bit, by induction on a's digits
-xor_assoc : (a b c : ℕ) → bit_xor (bit_xor a b) c ≡ bit_xor a (bit_xor b c)
-xor_assoc =
-    bin_ind (λ (a : ℕ). (b c : ℕ) → bit_xor (bit_xor a b) c ≡ bit_xor a (bit_xor b c)) (λ b c. refl)
-    (λ a ih b c.
-    xor_step (bit_xor a b) c
-    ∙ ap₂ (λ (x y : ℕ). x * 2 + y)
-    (ap (λ (x : ℕ). bit_xor x (c / 2)) (xor_shr a b 1) ∙ ih (b / 2) (c / 2) ∙ ap (bit_xor (a / 2)) (sym (xor_shr b c 1)))
-    (ap (λ (x : ℕ). differ x (c % 2)) (xor_mod a b 1)
-    ∙ digit_assoc (a % 2) (b % 2) (c % 2) (bit_lt a) (bit_lt b) (bit_lt c)
-    ∙ ap (differ (a % 2)) (sym (xor_mod b c 1)))
-    ∙ sym (xor_step a (bit_xor b c)))
-
 pub gadd_assoc : (a b c : ℕ) → gadd (gadd a b) c ≡ gadd a (gadd b c)
 unfolding gadd
 gadd_assoc = xor_assoc

@@ -1,10 +1,10 @@
--- A rule of a table, tested once over the whole table by computation and carried to each entry: `at`.
+-- A rule of a table, tested once over the whole table by computation and carried to each entry: `at`; of the numbers below n, `below_at` and `equal_below`.
 use mathlib.Core.Path.{◌≡◌, ◌∙◌, subst, sym}
 use mathlib.Core.Bool.{Bool, true, false}
 use mathlib.Core.List.{List, [], ◌∷◌}
 use Prim.Native.Nat.{ℕ, zero, suc, ◌+◌, ◌<◌}
 use native.Mathlib.Nat.{add-zero, zero-add, add-suc, suc-add, le_of_suc-le-suc, not-suc-le-zero}
-use lib.Dec.{T}
+use lib.Dec.{T, eqb, eqb→eq}
 use lib.ListN.{length, get_or}
 use mathlib.Core.Logic.{⊎_elim}
 use Rattle.lists.proofs.Sums.{below_suc}
@@ -48,3 +48,7 @@ below_at zero p t k h = absurd (not-suc-le-zero h)
 below_at (suc n) p t k h =
     ⊎_elim (λ (e : k ≡ n). subst (λ m. T (p m)) (sym e) (both_left (p n) (below n p) t))
     (λ (l : k < n). below_at n p (both_right (p n) (below n p) t) k l) (below_suc h)
+
+-- two functions that a test finds equal at each number below n
+pub equal_below : (n : ℕ) (f g : ℕ → ℕ) → T (below n (λ k. eqb (f k) (g k))) → (k : ℕ) → k < n → f k ≡ g k
+equal_below n f g t k h = eqb→eq (f k) (g k) (below_at n (λ k. eqb (f k) (g k)) t k h)
