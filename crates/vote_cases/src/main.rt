@@ -6,340 +6,255 @@
 //     cargo run --release --bin vote_vectors > crates/vote_cases/stdout
 #![tactic(auto)]
 
-ghost use Rattle.std.specs.Prelude.{◌≡◌, ◌+◌, ◌*◌, ◌<◌, ◌≤◌, length};
+ghost use Rattle.std.specs.Prelude.{◌<◌, ◌≤◌};
 
-use std::io;
+use phase_king::{Held, Seen};
+use std::{array, io};
 use wire::{Layout, Round};
 
-// A vote: which controllers are faulty is one of four choices, the rest comes from the seed.
+// Which controllers are faulty: nobody, the first t, the last t, or every third from index 1 on.
+#[derive(Clone, Copy)]
+enum Faults {
+    Nobody,
+    First,
+    Last,
+    Thirds,
+}
+
+const FAULTS: [Faults; 4] = [Faults::Nobody, Faults::First, Faults::Last, Faults::Thirds];
+
+// How a faulty controller behaves: silent, all ones to every other receiver and zeros to the rest, any bytes, any bytes or absent, any bytes to every
+// other receiver in a slot of another run.
+#[derive(Clone, Copy, PartialEq, Eq)]
+enum Manner {
+    Silent,
+    TwoFaced,
+    Bytes,
+    OftenAbsent,
+    OtherRun,
+}
+
+const MANNERS: [Manner; 5] = [
+    Manner::Silent,
+    Manner::TwoFaced,
+    Manner::Bytes,
+    Manner::OftenAbsent,
+    Manner::OtherRun,
+];
+
+// A vote: what is not chosen comes from the seed.
 #[derive(Clone, Copy)]
 struct Setup {
     n: usize,
     t: usize,
-    faults: usize,
+    faults: Faults,
     seed: u64,
+    ghost few: { n ≤ 16 },
+    ghost tolerated: { t ≤ 5 },
 }
 
-// What happens to each controller in turn.
-#[derive(Clone, Copy)]
-enum Stage {
-    Send,
-    Receive,
-    Print,
-}
-
-// 16 bits for a purpose or round c, two controllers and a place.
-fn draw(seed: u64, c: usize, i: usize, j: usize, b: usize) -> usize {
-    cases::draw(cases::mix(cases::next(seed), c as u64), i, j, b)
-}
-
-// Whether index i is faulty: nobody, the first t, the last t, or every third from index 1 on.
-fn faulty(s: Setup, i: usize) -> bool {
-    if s.faults == 0 {
-        return false;
+impl Setup {
+    // 16 bits for a purpose or round c, two controllers and a place.
+    fn draw(self, c: usize, i: usize, j: usize, b: usize) -> usize {
+        cases::draw(cases::mix(cases::next(self.seed), c as u64), i, j, b)
     }
-    if s.faults == 1 {
-        return i < s.t;
-    }
-    if s.faults == 2 {
-        return i < s.n && s.n - i <= s.t;
-    }
-    cases::is_third(s.t, i)
-}
 
-// The run number: one of four, each with each choice of faulty controllers.
-fn run_number(s: Setup) -> u16 {
-    let x = (s.seed % 16) as usize;
-    cases::some_run(x + x / 4)
-}
-
-// How a faulty controller behaves: 0 silent, 1 all ones to every other receiver and zeros to the rest, 2 any bytes, 3 any bytes or absent, 4 any bytes,
-// to every other receiver in a slot of another run.
-fn manner(s: Setup, i: usize) -> usize {
-    draw(s.seed, 0, i, 0, 0) % 5
-}
-
-fn present(s: Setup, c: usize, i: usize, j: usize) -> bool {
-    let m = manner(s, i);
-    if m == 0 {
-        return false;
-    }
-    if m == 3 {
-        return draw(s.seed, c, i, j, 1000) % 2 == 0;
-    }
-    true
-}
-
-fn fault_byte(s: Setup, c: usize, i: usize, j: usize, b: usize) -> u8 {
-    if manner(s, i) == 1 {
-        if j % 2 == 0 {
-            return 0;
+    fn is_faulty(self, i: usize) -> bool {
+        match self.faults {
+            Faults::Nobody => false,
+            Faults::First => i < self.t,
+            Faults::Last => i < self.n && self.n - i <= self.t,
+            Faults::Thirds => cases::is_third(self.t, i),
         }
-        return 255;
     }
-    cases::byte(draw(s.seed, c, i, j, b))
-}
 
-fn fault_message(m: &mut [u8], s: Setup, c: usize, i: usize, j: usize) {
-    let mut b: usize = 0;
-    while b < m.len() {
-        m[b] = fault_byte(s, c, i, j, b);
-        b += 1;
+    // The run number: one of four, each with each choice of faulty controllers.
+    fn run_number(self) -> u16 {
+        let x = (self.seed % 16) as usize;
+        cases::some_run(x + x / 4)
     }
-}
 
-// Slot i of the inbox of j.
-fn put(inbox: &mut [u8], layout: Layout, i: usize, m: &[u8])
-    requires { i < 16 }
-{
-    wire::send_one(inbox, layout, i + 1, m);
-}
-
-fn put_part(inbox: &mut [u8], layout: Layout, i: usize, m: &[u8])
-    requires { i < 16 }
-{
-    let end = cases::fitting(layout.length, m);
-    put(inbox, layout, i, &m[..end]);
-}
-
-// What a faulty controller's slot to j is.
-fn fault_layout(s: Setup, c: usize, layout: Layout, i: usize, j: usize) -> Layout {
-    if manner(s, i) == 4 && j % 2 == 1 {
-        return wire::layout_with(cases::other_run(layout.run, c), layout.length);
+    fn manner(self, i: usize) -> Manner {
+        MANNERS[self.draw(0, i, 0, 0) % 5]
     }
-    layout
-}
 
-// From a faulty controller.
-fn from_faulty(inbox: &mut [u8], s: Setup, c: usize, layout: Layout, i: usize, j: usize)
-    requires { i < 16 }
-{
-    if present(s, c, i, j) {
-        let mut m = [0u8; 64];
-        fault_message(&mut m, s, c, i, j);
-        put_part(inbox, fault_layout(s, c, layout, i, j), i, &m);
+    // A row that all start with but for about an eighth of the bits.
+    fn scattered_row(self, j: usize, r: usize) -> u16 {
+        let all = cases::word(self.draw(500, 0, 0, r));
+        let flips = cases::word(self.draw(501, j, 0, r))
+            & cases::word(self.draw(502, j, 0, r))
+            & cases::word(self.draw(503, j, 0, r));
+        all ^ flips
     }
 }
 
-// From a correct controller: what its outbox has for j. The outboxes lie 1072 bytes apart.
-fn from_correct(inbox: &mut [u8], boxes: &[u8], layout: Layout, i: usize, j: usize)
-    requires { (i < 16) × (j < 16) × (length boxes.now ≡ 65536) }
-{
-    let a = i * 1072;
-    let e = a + 1072;
-    put(inbox, layout, i, wire::message(&boxes[a..e], layout, j + 1));
+// What a controller holds. Controllers of a vote: those with an index from n on are not used.
+#[derive(Clone, Copy)]
+struct Controller {
+    held: Held,
+    seen: Seen,
 }
 
-fn slot(inbox: &mut [u8], boxes: &[u8], s: Setup, c: usize, layout: Layout, i: usize, j: usize)
-    requires { (i < 16) × (j < 16) × (length boxes.now ≡ 65536) }
-{
-    if faulty(s, i) {
-        from_faulty(inbox, s, c, layout, i, j);
-    } else {
-        from_correct(inbox, boxes, layout, i, j);
+// The outboxes. 1072 bytes hold 16 slots of the longest message.
+type Outboxes = [[u8; 1072]; 16];
+
+// Round c of a vote, and the layout of its slots.
+#[derive(Clone, Copy)]
+struct Turn {
+    vote: Setup,
+    c: usize,
+    layout: Layout,
+}
+
+impl Turn {
+    fn new(vote: Setup, c: usize) -> Turn {
+        let layout = wire::round_layout(vote.run_number(), vote.n, vote.t, 1, c);
+        Turn { vote, c, layout }
     }
-}
 
-fn gather(inbox: &mut [u8], boxes: &[u8], s: Setup, c: usize, layout: Layout, j: usize)
-    requires { (s.n ≤ 16) × (j < 16) × (length boxes.now ≡ 65536) }
-{
-    let n = s.n;
-    let mut i: usize = 0;
-    while i < n {
-        slot(inbox, boxes, s, c, layout, i, j);
-        i += 1;
+    fn kind(self) -> Round {
+        wire::round_kind(self.vote.t, self.c)
     }
-}
 
-// The state: 64 matrices. Of index i, the matrix is number i, the weak one 16 + i, the zeros 32 + i, the ones 48 + i.
-fn empty_state() -> [u16; 1024]
-    ensures { length result ≡ 1024 }
-{
-    [0u16; 1024]
-}
-
-fn matrix_at(state: &[u16], k: usize) -> [u16; 16]
-    requires { (k < 64) × (length state.now ≡ 1024) }
-{
-    let mut m = [0u16; 16];
-    let mut r: usize = 0;
-    while r < 16 {
-        m[r] = state[16 * k + r];
-        r += 1;
+    fn is_present(self, i: usize, j: usize) -> bool {
+        match self.vote.manner(i) {
+            Manner::Silent => false,
+            Manner::OftenAbsent => self.vote.draw(self.c, i, j, 1000) % 2 == 0,
+            _ => true,
+        }
     }
-    m
-}
 
-fn put_matrix(state: &mut [u16], k: usize, m: &[u16; 16])
-    requires { (k < 64) × (length state.old ≡ 1024) }
-{
-    let mut r: usize = 0;
-    while r < 16 {
-        state[16 * k + r] = m[r];
-        r += 1;
+    fn fault_byte(self, i: usize, j: usize, b: usize) -> u8 {
+        if self.vote.manner(i) != Manner::TwoFaced {
+            return cases::byte(self.vote.draw(self.c, i, j, b));
+        }
+        if j % 2 == 0 { 0 } else { 255 }
     }
-}
 
-// A row that all start with but for about an eighth of the bits.
-fn scattered_row(seed: u64, j: usize, r: usize) -> u16 {
-    let all = cases::word(draw(seed, 500, 0, 0, r));
-    let flips = cases::word(draw(seed, 501, j, 0, r))
-        & cases::word(draw(seed, 502, j, 0, r))
-        & cases::word(draw(seed, 503, j, 0, r));
-    all ^ flips
-}
-
-fn scattered(seed: u64, j: usize) -> [u16; 16] {
-    let mut m = [0u16; 16];
-    let mut r: usize = 0;
-    while r < 16 {
-        m[r] = scattered_row(seed, j, r);
-        r += 1;
+    // What a faulty controller's slot to j is.
+    fn fault_layout(self, i: usize, j: usize) -> Layout {
+        if self.vote.manner(i) == Manner::OtherRun && j % 2 == 1 {
+            return wire::layout_with(
+                cases::other_run(self.layout.run, self.c),
+                self.layout.length,
+            );
+        }
+        self.layout
     }
-    m
-}
 
-// Call 4. With an odd seed the vote starts from other matrices.
-fn on_marks(s: Setup, layout: Layout, inbox: &[u8], state: &mut [u16], j: usize)
-    requires { (j < 16) × (length state.old ≡ 1024) }
-{
-    if s.seed % 2 == 0 {
-        let m = phase_king::collect(inbox, layout, s.n);
-        let rows = m.rows;
-        put_matrix(state, j, &rows);
-    } else {
-        let rows = scattered(s.seed, j);
-        put_matrix(state, j, &rows);
+    // From a faulty controller.
+    fn from_faulty(self, inbox: &mut [u8], i: usize, j: usize)
+        requires { i < 16 }
+    {
+        if self.is_present(i, j) {
+            let m: [u8; 64] = array::from_fn(|b| self.fault_byte(i, j, b));
+            let end = cases::fitting(self.layout.length, &m);
+            wire::send_one(inbox, self.fault_layout(i, j), i + 1, &m[..end]);
+        }
     }
-}
 
-// After round 3p + 1.
-fn on_matrix(s: Setup, layout: Layout, inbox: &[u8], state: &mut [u16], j: usize)
-    requires { (j < 16) × (length state.old ≡ 1024) }
-{
-    let seen = phase_king::tally(inbox, layout, s.n, s.t);
-    let zeros = seen.zeros;
-    let ones = seen.ones;
-    put_matrix(state, 32 + j, &zeros);
-    put_matrix(state, 48 + j, &ones);
-}
-
-// After round 3p + 2.
-fn on_seen(s: Setup, layout: Layout, inbox: &[u8], state: &mut [u16], j: usize)
-    requires { (j < 16) × (length state.old ≡ 1024) }
-{
-    let held = phase_king::hold(inbox, layout, s.n, s.t);
-    let rows = held.rows;
-    let weak = held.weak;
-    put_matrix(state, j, &rows);
-    put_matrix(state, 16 + j, &weak);
-}
-
-fn layout_of(s: Setup, c: usize) -> Layout {
-    wire::round_layout(run_number(s), s.n, s.t, 1, c)
-}
-
-fn phase(c: usize) -> usize {
-    wire::phase(c)
-}
-
-// After round 3p + 3.
-fn on_king(s: Setup, c: usize, layout: Layout, inbox: &[u8], state: &mut [u16], j: usize)
-    requires { (j < 16) × (length state.old ≡ 1024) }
-{
-    let rows = matrix_at(state, j);
-    let weak = matrix_at(state, 16 + j);
-    let m = phase_king::settle(&rows, &weak, inbox, layout, s.n, phase(c));
-    let settled = m.rows;
-    put_matrix(state, j, &settled);
-}
-
-fn kind(s: Setup, c: usize) -> Round {
-    wire::round_kind(s.t, c)
-}
-
-fn act(s: Setup, c: usize, layout: Layout, inbox: &[u8], state: &mut [u16], j: usize)
-    requires { (j < 16) × (length state.old ≡ 1024) }
-{
-    let round = kind(s, c);
-    match round {
-        Round::Marks => on_marks(s, layout, inbox, state, j),
-        Round::Matrix => on_matrix(s, layout, inbox, state, j),
-        Round::Seen => on_seen(s, layout, inbox, state, j),
-        Round::King => on_king(s, c, layout, inbox, state, j),
-        _ => {}
+    // The inbox of index j: from a correct controller, what its outbox has for j.
+    fn gather(self, inbox: &mut [u8], boxes: &Outboxes, j: usize)
+        requires { j < 16 }
+    {
+        for i in 0..self.vote.n {
+            if self.vote.is_faulty(i) {
+                self.from_faulty(inbox, i, j);
+            } else {
+                let m = wire::message(&boxes[i], self.layout, j + 1);
+                wire::send_one(inbox, self.layout, i + 1, m);
+            }
+        }
     }
-}
 
-// The call of index j after round c, if it is correct. An absent slot holds no 01.
-fn receive_one(s: Setup, c: usize, state: &mut [u16], boxes: &[u8], j: usize)
-    requires { (s.n ≤ 16) × (j < 16) × (length state.old ≡ 1024) × (length boxes.now ≡ 65536) }
-{
-    if faulty(s, j) {
-        return;
+    // Call 4. With an odd seed the vote starts from other matrices.
+    fn first_rows(self, inbox: &[u8], j: usize) -> [u16; 16] {
+        let vote = self.vote;
+        if vote.seed % 2 == 0 {
+            phase_king::collect(inbox, self.layout, vote.n).rows
+        } else {
+            array::from_fn(|r| vote.scattered_row(j, r))
+        }
     }
-    let layout = layout_of(s, c);
-    let mut space = [0u8; 4096];
-    let inbox: &mut [u8] = &mut space;
-    cases::fill(inbox, cases::byte(c % 128 * 2));
-    gather(inbox, boxes, s, c, layout, j);
-    act(s, c, layout, inbox, state, j);
-}
 
-// The marks of index i to all, bits past n too.
-fn emit_marks(s: Setup, layout: Layout, outbox: &mut [u8], i: usize) {
-    let x = draw(s.seed, 3, i, 0, 0);
-    let m = [cases::byte(x), cases::byte(x / 256)];
-    wire::send_all(outbox, layout, s.n, &m);
-}
-
-fn emit_matrix(s: Setup, layout: Layout, state: &[u16], outbox: &mut [u8], i: usize)
-    requires { (i < 16) × (length state.now ≡ 1024) }
-{
-    let rows = matrix_at(state, i);
-    phase_king::send_matrix(outbox, layout, &rows, s.n);
-}
-
-fn emit_seen(s: Setup, layout: Layout, state: &[u16], outbox: &mut [u8], i: usize)
-    requires { (i < 16) × (length state.now ≡ 1024) }
-{
-    let zeros = matrix_at(state, 32 + i);
-    let ones = matrix_at(state, 48 + i);
-    phase_king::send_seen(outbox, layout, &zeros, &ones, s.n);
-}
-
-fn emit_king(s: Setup, c: usize, layout: Layout, state: &[u16], outbox: &mut [u8], i: usize)
-    requires { (i < 16) × (length state.now ≡ 1024) }
-{
-    let rows = matrix_at(state, i);
-    phase_king::send_as_king(outbox, layout, i + 1, phase(c), &rows, s.n);
-}
-
-fn emit(s: Setup, c: usize, state: &[u16], outbox: &mut [u8], i: usize)
-    requires { (i < 16) × (length state.now ≡ 1024) }
-{
-    let round = kind(s, c);
-    let layout = layout_of(s, c);
-    match round {
-        Round::Marks => emit_marks(s, layout, outbox, i),
-        Round::Matrix => emit_matrix(s, layout, state, outbox, i),
-        Round::Seen => emit_seen(s, layout, state, outbox, i),
-        Round::King => emit_king(s, c, layout, state, outbox, i),
-        _ => {}
+    // The call of index j after the round.
+    fn call(self, inbox: &[u8], own: &mut Controller, j: usize) {
+        let Turn { vote, c, layout } = self;
+        match self.kind() {
+            Round::Marks => {
+                let rows = self.first_rows(inbox, j);
+                own.held.rows = rows;
+            }
+            Round::Matrix => own.seen = phase_king::tally(inbox, layout, vote.n, vote.t),
+            Round::Seen => own.held = phase_king::hold(inbox, layout, vote.n, vote.t),
+            Round::King => {
+                let Held { rows, weak } = own.held;
+                let settled = phase_king::settle(
+                    &rows,
+                    &weak,
+                    inbox,
+                    layout,
+                    vote.n,
+                    wire::phase(c),
+                );
+                let rows = settled.rows;
+                own.held.rows = rows;
+            }
+            _ => {}
+        }
     }
-}
 
-// The outbox of index i in round c.
-fn send_one(s: Setup, c: usize, state: &[u16], boxes: &mut [u8], i: usize)
-    requires { (i < 16) × (length state.now ≡ 1024) × (length boxes.old ≡ 65536) }
-{
-    let size = wire::outbox_length(s.n, s.t, 1, c);
-    if 1072 < size {
-        return;
+    // The call of index j after the round, if it is correct. An absent slot holds no 01.
+    fn receive(self, own: &mut Controller, boxes: &Outboxes, j: usize)
+        requires { j < 16 }
+    {
+        if self.vote.is_faulty(j) {
+            return;
+        }
+        let mut inbox = [cases::byte(self.c % 128 * 2); 4096];
+        self.gather(&mut inbox, boxes, j);
+        self.call(&inbox, own, j);
     }
-    let a = i * 1072;
-    let e = a + size;
-    emit(s, c, state, &mut boxes[a..e], i);
+
+    // The marks of index i to all, bits past n too.
+    fn emit_marks(self, outbox: &mut [u8], i: usize) {
+        let x = self.vote.draw(3, i, 0, 0);
+        let m = [cases::byte(x), cases::byte(x / 256)];
+        wire::send_all(outbox, self.layout, self.vote.n, &m);
+    }
+
+    // What index i sends in the round.
+    fn emit(self, own: &Controller, outbox: &mut [u8], i: usize)
+        requires { i < 16 }
+    {
+        let Turn { vote, c, layout } = self;
+        let Held { rows, .. } = own.held;
+        let Seen { zeros, ones } = own.seen;
+        match self.kind() {
+            Round::Marks => self.emit_marks(outbox, i),
+            Round::Matrix => phase_king::send_matrix(outbox, layout, &rows, vote.n),
+            Round::Seen => phase_king::send_seen(outbox, layout, &zeros, &ones, vote.n),
+            Round::King => phase_king::send_as_king(
+                outbox,
+                layout,
+                i + 1,
+                wire::phase(c),
+                &rows,
+                vote.n,
+            ),
+            _ => {}
+        }
+    }
+
+    // The outbox of index i in the round.
+    fn send(self, own: &Controller, outbox: &mut [u8; 1072], i: usize)
+        requires { i < 16 }
+    {
+        let size = wire::outbox_length(self.vote.n, self.vote.t, 1, self.c);
+        if size <= 1072 {
+            self.emit(own, &mut outbox[..size], i);
+        }
+    }
 }
 
 fn print_digest(rt: &impl Print, name: &[u8], number: usize, d: u64) -> io::Result<()> {
@@ -347,112 +262,92 @@ fn print_digest(rt: &impl Print, name: &[u8], number: usize, d: u64) -> io::Resu
     cases::end_digest(rt, d)
 }
 
-fn print_last(rt: &impl Print, s: Setup, state: &[u16], i: usize) -> io::Result<()>
-    requires { (i < 16) × (length state.now ≡ 1024) }
-{
-    if !faulty(s, i) {
-        let rows = matrix_at(state, i);
-        print_digest(rt, b"controller", i + 1, cases::digest_words(0, &rows))?;
+// The digest of all matrices: those held, the weak ones, the zeros, the ones.
+fn digest(state: &[Controller; 16]) -> u64 {
+    let mut d = 0;
+    for own in state {
+        d = cases::digest_words(d, &own.held.rows);
     }
-    Ok(())
+    for own in state {
+        d = cases::digest_words(d, &own.held.weak);
+    }
+    for own in state {
+        d = cases::digest_words(d, &own.seen.zeros);
+    }
+    for own in state {
+        d = cases::digest_words(d, &own.seen.ones);
+    }
+    d
 }
 
-fn turn(
+fn round(
     rt: &impl Print,
-    stage: Stage,
-    s: Setup,
-    c: usize,
-    state: &mut [u16],
-    boxes: &mut [u8],
-    i: usize,
-) -> io::Result<()>
-    requires { (s.n ≤ 16) × (i < 16) × (length state.old ≡ 1024) × (length boxes.old ≡ 65536) }
-{
-    match stage {
-        Stage::Send => send_one(s, c, state, boxes, i),
-        Stage::Receive => receive_one(s, c, state, boxes, i),
-        Stage::Print => print_last(rt, s, state, i)?,
+    turn: Turn,
+    state: &mut [Controller; 16],
+    boxes: &mut Outboxes,
+) -> io::Result<()> {
+    for i in 0..turn.vote.n {
+        turn.send(&state[i], &mut boxes[i], i);
     }
-    Ok(())
-}
-
-fn turns(
-    rt: &impl Print,
-    stage: Stage,
-    s: Setup,
-    c: usize,
-    state: &mut [u16],
-    boxes: &mut [u8],
-) -> io::Result<()>
-    requires { (s.n ≤ 16) × (length state.old ≡ 1024) × (length boxes.old ≡ 65536) }
-{
-    let n = s.n;
-    let mut i: usize = 0;
-    while i < n {
-        turn(rt, stage, s, c, state, boxes, i)?;
-        i += 1;
+    for j in 0..turn.vote.n {
+        turn.receive(&mut state[j], boxes, j);
     }
-    Ok(())
+    print_digest(rt, b"round", turn.c, digest(state))
 }
 
-fn round(rt: &impl Print, s: Setup, c: usize, state: &mut [u16], boxes: &mut [u8]) -> io::Result<()>
-    requires { (s.n ≤ 16) × (length state.old ≡ 1024) × (length boxes.old ≡ 65536) }
-{
-    turns(rt, Stage::Send, s, c, state, boxes)?;
-    turns(rt, Stage::Receive, s, c, state, boxes)?;
-    print_digest(rt, b"round", c, cases::digest_words(0, state))
-}
-
-fn rounds(rt: &impl Print, s: Setup, state: &mut [u16], boxes: &mut [u8]) -> io::Result<()>
-    requires { (s.n ≤ 16) × (s.t ≤ 5) × (length state.old ≡ 1024) × (length boxes.old ≡ 65536) }
-{
-    let end = 3 * s.t + 7;
-    let mut c: usize = 3;
-    while c < end {
-        round(rt, s, c, state, boxes)?;
-        c += 1;
-    }
-    Ok(())
-}
-
-fn print_setup(rt: &impl Print, s: Setup) -> io::Result<()> {
-    let run = run_number(s);
+fn print_setup(rt: &impl Print, vote: Setup) -> io::Result<()> {
+    let run = vote.run_number();
     cases::numbers(
         rt,
         b"vote",
-        &[s.n, s.t, s.faults, s.seed as usize, run as usize],
+        &[
+            vote.n,
+            vote.t,
+            vote.faults as usize,
+            vote.seed as usize,
+            run as usize,
+        ],
     )?;
     cases::newline(rt)
 }
 
-fn play(rt: &impl Print, s: Setup) -> io::Result<()>
-    requires { (s.n ≤ 16) × (s.t ≤ 5) }
-{
-    print_setup(rt, s)?;
-    let mut words = empty_state();
-    let state: &mut [u16] = &mut words;
-    let mut space = [0u8; 65536];
-    let boxes: &mut [u8] = &mut space;
-    rounds(rt, s, state, boxes)?;
-    turns(rt, Stage::Print, s, 0, state, boxes)
+fn play(rt: &impl Print, vote: Setup) -> io::Result<()> {
+    print_setup(rt, vote)?;
+    let none = [0u16; 16];
+    let mut state = [Controller {
+        held: Held {
+            rows: none,
+            weak: none,
+        },
+        seen: Seen {
+            zeros: none,
+            ones: none,
+        },
+    }; 16];
+    let mut boxes = [[0u8; 1072]; 16];
+    for c in 3..3 * vote.t + 7 {
+        round(rt, Turn::new(vote, c), &mut state, &mut boxes)?;
+    }
+    for i in 0..vote.n {
+        if !vote.is_faulty(i) {
+            print_digest(
+                rt,
+                b"controller",
+                i + 1,
+                cases::digest_words(0, &state[i].held.rows),
+            )?;
+        }
+    }
+    Ok(())
 }
 
 // Each choice of faulty controllers with four seeds.
 fn plays(rt: &impl Print, n: usize, t: usize) -> io::Result<()>
     requires { (n ≤ 16) × (t ≤ 5) }
 {
-    let mut k: u64 = 0;
-    while k < 16 {
-        play(
-            rt,
-            Setup {
-                n,
-                t,
-                faults: (k / 4) as usize,
-                seed: k,
-            },
-        )?;
-        k += 1;
+    for seed in 0..16 {
+        let faults = FAULTS[(seed / 4) as usize];
+        play(rt, Setup { n, t, faults, seed })?;
     }
     Ok(())
 }
