@@ -22,7 +22,7 @@ const FACTORS: [[usize; 4]; 8] = [
 fn factors(kind: Round) -> Option<&'static [usize; 4]>
     ensures { MatchOption result (kind ≡ Round.Outside) (λ row. row.now ≡ factors_of kind) }
 {
-    FACTORS.get(kind as usize)
+    FACTORS.get((kind as usize).checked_sub(1)?)
 }
 
 // The length of a message of a kind of round.

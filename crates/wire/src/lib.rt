@@ -16,9 +16,11 @@ pub use slot::{
     Layout, copy, holds_exactly, layout_with, message, offset, relay, send_all, send_one, silence,
 };
 
-// The kinds of rounds, a row of document 01's table each. Outside: no round of the run; a case and no None, since `round_kind` of specs/ answers it.
+// The kinds of rounds, numbered by their rows in document 01's table. Outside: no round of the run; a case and no None, since `round_kind` of specs/
+// answers it.
 #[derive(Clone, Copy)]
 pub enum Round {
+    Outside,
     Block,
     Pieces,
     Marks,
@@ -27,12 +29,13 @@ pub enum Round {
     King,
     Forward,
     Rebuild,
-    Outside,
 }
 
-// The kinds of calls. Call c reads round c - 1 and fills round c. Outside: no call of the run; a case and no None, since `call_kind` of specs/ answers it.
+// The kinds of calls, numbered by their places in document 01's list. Call c reads round c - 1 and fills round c. Outside: no call of the run; a case
+// and no None, since `call_kind` of specs/ answers it.
 #[derive(Clone, Copy)]
 pub enum Call {
+    Outside,
     Send,
     Receive,
     Compare,
@@ -43,7 +46,6 @@ pub enum Call {
     Core,
     Choose,
     Finish,
-    Outside,
 }
 
 // 3t and some more; 0 for a t outside 1 .. 5.

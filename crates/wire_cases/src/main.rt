@@ -6,39 +6,7 @@
 #![tactic(auto)]
 
 use std::io;
-use wire::{Call, Layout, Round};
-
-// The place of a kind of round in document 01's table, from 1; 0 for none.
-fn round_number(r: Round) -> usize {
-    match r {
-        Round::Block => 1,
-        Round::Pieces => 2,
-        Round::Marks => 3,
-        Round::Matrix => 4,
-        Round::Seen => 5,
-        Round::King => 6,
-        Round::Forward => 7,
-        Round::Rebuild => 8,
-        Round::Outside => 0,
-    }
-}
-
-// The place of a kind of call in document 01's list, from 1; 0 for none.
-fn call_number(c: Call) -> usize {
-    match c {
-        Call::Send => 1,
-        Call::Receive => 2,
-        Call::Compare => 3,
-        Call::Collect => 4,
-        Call::Tally => 5,
-        Call::Hold => 6,
-        Call::Settle => 7,
-        Call::Core => 8,
-        Call::Choose => 9,
-        Call::Finish => 10,
-        Call::Outside => 0,
-    }
-}
+use wire::Layout;
 
 // One number c: kinds, phase, message length, inbox and outbox of call c.
 fn line(rt: &impl Print, n: usize, t: usize, k: usize, c: usize) -> io::Result<()> {
@@ -47,8 +15,8 @@ fn line(rt: &impl Print, n: usize, t: usize, k: usize, c: usize) -> io::Result<(
         b"c",
         &[
             c,
-            round_number(wire::round_kind(t, c)),
-            call_number(wire::call_kind(t, c)),
+            wire::round_kind(t, c) as usize,
+            wire::call_kind(t, c) as usize,
             wire::phase(c),
             wire::message_length(n, t, k, c),
             wire::inbox_length(n, t, k, c),
@@ -78,10 +46,8 @@ fn settings(rt: &impl Print, n: usize, t: usize, k: usize) -> io::Result<()> {
 // Settings, and each number from 0 to `last`.
 fn table(rt: &impl Print, n: usize, t: usize, k: usize, last: usize) -> io::Result<()> {
     settings(rt, n, t, k)?;
-    let mut c: usize = 0;
-    while c < last {
+    for c in 0..last {
         line(rt, n, t, k, c)?;
-        c += 1;
     }
     Ok(())
 }
@@ -112,15 +78,10 @@ fn slot(rt: &impl Print, run: u16, j: usize) -> io::Result<()> {
 
 // All slots in a run, and numbers that the inbox does not hold.
 fn slots(rt: &impl Print, run: u16) -> io::Result<()> {
-    slot(rt, run, 1)?;
-    slot(rt, run, 2)?;
-    slot(rt, run, 3)?;
-    slot(rt, run, 4)?;
-    slot(rt, run, 5)?;
-    slot(rt, run, 6)?;
-    slot(rt, run, 7)?;
-    slot(rt, run, 0)?;
-    slot(rt, run, 8)
+    for j in [1, 2, 3, 4, 5, 6, 7, 0, 8] {
+        slot(rt, run, j)?;
+    }
+    Ok(())
 }
 
 // Slot 1 of an inbox of one slot, the lengths being such that no slot of them is held.
@@ -136,13 +97,9 @@ fn read_long(rt: &impl Print, name: &[u8], length: usize) -> io::Result<()> {
 
 // Reads of slots. Eight times the number that wraps is 8 more than there are numbers.
 fn reads(rt: &impl Print) -> io::Result<()> {
-    slots(rt, 0)?;
-    slots(rt, 1)?;
-    slots(rt, 255)?;
-    slots(rt, 256)?;
-    slots(rt, 257)?;
-    slots(rt, 65280)?;
-    slots(rt, 65535)?;
+    for run in [0, 1, 255, 256, 257, 65280, 65535] {
+        slots(rt, run)?;
+    }
     let two = wire::layout_with(5, 2);
     read(
         rt,
@@ -161,15 +118,15 @@ fn reads(rt: &impl Print) -> io::Result<()> {
     read(rt, b"no bytes", b"", two, 1)?;
     read(rt, b"two bytes", b"\x01\x05", wire::layout_with(5, 0), 1)?;
     read_long(rt, b"too long", 3)?;
-    read_long(rt, b"largest length but two", 18446744073709551613)?;
-    read_long(rt, b"largest length but one", 18446744073709551614)?;
-    read_long(rt, b"largest length", 18446744073709551615)?;
+    read_long(rt, b"largest length but two", usize::MAX - 2)?;
+    read_long(rt, b"largest length but one", usize::MAX - 1)?;
+    read_long(rt, b"largest length", usize::MAX)?;
     read(
         rt,
         b"largest number",
         b"\x01\x05\x00\x06\x07",
         two,
-        18446744073709551615,
+        usize::MAX,
     )?;
     read(
         rt,
@@ -224,23 +181,28 @@ fn writes(rt: &impl Print) -> io::Result<()> {
 }
 
 fn main(rt: HostRuntime) -> io::Result<()> {
-    table(&rt, 4, 1, 1, 14)?;
-    table(&rt, 7, 2, 2, 17)?;
-    table(&rt, 10, 3, 32, 20)?;
-    table(&rt, 13, 4, 100, 23)?;
-    table(&rt, 16, 5, 128, 26)?;
-    table(&rt, 16, 1, 128, 14)?;
-    table(&rt, 3, 1, 1, 3)?;
-    table(&rt, 17, 1, 1, 3)?;
-    table(&rt, 4, 0, 1, 3)?;
-    table(&rt, 4, 2, 1, 3)?;
-    table(&rt, 7, 2, 129, 3)?;
-    table(&rt, 7, 2, 0, 3)?;
-    table(&rt, 18446744073709551615, 1, 1, 3)?;
-    table(&rt, 16, 18446744073709551615, 1, 3)?;
-    table(&rt, 16, 5, 18446744073709551615, 3)?;
-    line(&rt, 16, 5, 128, 18446744073709551615)?;
-    line(&rt, 16, 18446744073709551615, 128, 18446744073709551615)?;
+    let tables = [
+        (4, 1, 1, 14),
+        (7, 2, 2, 17),
+        (10, 3, 32, 20),
+        (13, 4, 100, 23),
+        (16, 5, 128, 26),
+        (16, 1, 128, 14),
+        (3, 1, 1, 3),
+        (17, 1, 1, 3),
+        (4, 0, 1, 3),
+        (4, 2, 1, 3),
+        (7, 2, 129, 3),
+        (7, 2, 0, 3),
+        (usize::MAX, 1, 1, 3),
+        (16, usize::MAX, 1, 3),
+        (16, 5, usize::MAX, 3),
+    ];
+    for (n, t, k, last) in tables {
+        table(&rt, n, t, k, last)?;
+    }
+    line(&rt, 16, 5, 128, usize::MAX)?;
+    line(&rt, 16, usize::MAX, 128, usize::MAX)?;
     reads(&rt)?;
     writes(&rt)
 }
