@@ -5,16 +5,16 @@ use mathlib.Core.Bool.{Bool, true, false, not, ◌&&◌}
 use mathlib.Core.List.{List, []}
 use Prim.Native.Nat.{ℕ, ◌+◌, ◌≤◌, ◌<◌}
 use native.Mathlib.Omega.{arith}
-use borrow.Author.Tests.{eq-eqb, ne_eqb, eqb-false, lt-ltb, le-ltb, not-true}
-use lib.Dec.{eqb, leb, ltb}
+use borrow.Author.Tests.{ne_eqb, eqb-false, lt-ltb, le-ltb, not-true}
+use lib.Dec.{eqb, ltb}
 use lib.ListN.{length, replicate}
 use Rattle.lists.specs.Same.{same}
-use Rattle.lists.proofs.Tests.{true≢false, and_left, and_right, and_tail, and_no_left, cond_yes, cond_no, lt_or_le}
+use Rattle.lists.proofs.Tests.{true≢false, and_left, and_right, cond_yes, cond_no, lt_or_le}
 use Rattle.bitset.specs.Set.{member, first}
 use Rattle.bitset.proofs.Laws.{first_le, first_passes, first_some}
 use Rattle.wire.specs.declared.slot.Layout.{Layout}
 use Rattle.wire.specs.Slot.{message_of, to_all}
-use Rattle.reconstruction.specs.Reconstruction.{votes, is_chosen, chosen_piece, sent_piece}
+use Rattle.reconstruction.specs.Reconstruction.{is_chosen, chosen_piece, sent_piece}
 
 -- ---- a search
 -- an index that passes, with none before it
@@ -46,25 +46,7 @@ sent_some out n m o h = sym (cond_no (eqb (length m) 0) (replicate (length o) 0)
 
 -- ---- the choice, and what is sent by it
 module _ (n t core : ℕ) (inbox : List ℕ) (layout : Layout) where
-  -- the three tests of a choice
   module _ (i : ℕ) where
-    pub chosen_other : member core i ≡ false → is_chosen n t core inbox layout i ≡ false
-    unfolding is_chosen
-    chosen_other e = and_no_left (member core i) _ e
-
-    pub chosen_absent : length (message_of inbox layout (i + 1)) ≡ 0 → member core i ≡ true → is_chosen n t core inbox layout i ≡ false
-    unfolding is_chosen
-    chosen_absent z e =
-        and_tail (member core i) _ e ∙ and_no_left (not (eqb (length (message_of inbox layout (i + 1))) 0)) _
-        (ap not (eq-eqb (length (message_of inbox layout (i + 1))) 0 z))
-
-    pub chosen_votes : (length (message_of inbox layout (i + 1)) ≡ 0 → ⊥) → member core i ≡ true
-        → is_chosen n t core inbox layout i ≡ leb (t + 1) (votes n core inbox layout (message_of inbox layout (i + 1)))
-    unfolding is_chosen
-    chosen_votes z e =
-        and_tail (member core i) _ e ∙ and_tail (not (eqb (length (message_of inbox layout (i + 1))) 0)) _
-        (ap not (ne_eqb (length (message_of inbox layout (i + 1))) 0 z))
-
     -- a piece that is chosen is there
     pub chosen_there : is_chosen n t core inbox layout i ≡ true → length (message_of inbox layout (i + 1)) ≡ 0 → ⊥
     unfolding is_chosen
@@ -73,22 +55,19 @@ module _ (n t core : ℕ) (inbox : List ℕ) (layout : Layout) where
         (not-true (eqb (length (message_of inbox layout (i + 1))) 0)
         (and_left (not (eqb (length (message_of inbox layout (i + 1))) 0)) _ (and_right (member core i) _ e)))
 
-  -- the search's answer: the piece to all, or silence
-  module _ (out : Layout) (i : ℕ) (is-first : i ≡ first n (is_chosen n t core inbox layout)) (o : List ℕ) where
-    pub sent_chosen : i < n → to_all out n (message_of inbox layout (i + 1)) o ≡ sent_piece out n (chosen_piece n t core inbox layout) o
-    unfolding chosen_piece
-    sent_chosen l =
-        let q : ℕ → Bool = is_chosen n t core inbox layout in
-        let M : ℕ → List ℕ = λ x. message_of inbox layout (x + 1) in
-        let below : first n q < n = omega arith in
-        ap (λ (x : ℕ). to_all out n (M x) o) is-first
-        ∙ sent_some out n (M (first n q)) o (chosen_there (first n q) (first_passes n q below))
-        ∙ sym (ap (λ (m : List ℕ). sent_piece out n m o) (cond_yes (ltb (first n q) n) (M (first n q)) [] (lt-ltb (first n q) n below)))
+  -- the search's answer
+  pub chosen_some : (i : ℕ) → i < n → is_chosen n t core inbox layout i ≡ true → ((j : ℕ) → j < i → is_chosen n t core inbox layout j ≡ false)
+      → message_of inbox layout (i + 1) ≡ chosen_piece n t core inbox layout
+  unfolding chosen_piece
+  chosen_some i l y none =
+      let q : ℕ → Bool = is_chosen n t core inbox layout in
+      let M : ℕ → List ℕ = λ x. message_of inbox layout (x + 1) in
+      let e = first_found_lem n q i l y none in
+      ap M e ∙ sym (cond_yes (ltb (first n q) n) (M (first n q)) [] (lt-ltb (first n q) n (omega arith)))
 
-    pub sent_none : n ≤ i → replicate (length o) 0 ≡ sent_piece out n (chosen_piece n t core inbox layout) o
-    unfolding chosen_piece sent_piece
-    sent_none l =
-        let q : ℕ → Bool = is_chosen n t core inbox layout in
-        let M : ℕ → List ℕ = λ x. message_of inbox layout (x + 1) in
-        let past : n ≤ first n q = omega arith in
-        sym (ap (λ (m : List ℕ). sent_piece out n m o) (cond_no (ltb (first n q) n) (M (first n q)) [] (le-ltb (first n q) n past)))
+  pub chosen_none : ((j : ℕ) → j < n → is_chosen n t core inbox layout j ≡ false) → chosen_piece n t core inbox layout ≡ []
+  unfolding chosen_piece
+  chosen_none none =
+      let q : ℕ → Bool = is_chosen n t core inbox layout in
+      let past : n ≤ first n q = omega (arith, first_none n q none) in
+      cond_no (ltb (first n q) n) (message_of inbox layout (first n q + 1)) [] (le-ltb (first n q) n past)

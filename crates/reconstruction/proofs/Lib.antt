@@ -2,5 +2,4 @@
 pub mod Laws
 mod Choice
 mod Pieces
-mod Calls
 mod Rounds

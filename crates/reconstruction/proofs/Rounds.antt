@@ -25,9 +25,7 @@ use Rattle.wire.specs.Length.{block_length, kind_length, kind_layout}
 use Rattle.wire.specs.Slot.{width, message_of, bytes, slots, to_all, SameMessages}
 use Rattle.wire.proofs.Laws.{kind_length_is, row_forward, row_rebuild, to_all_lem, length-message, message_all}
 use Rattle.reed_solomon.specs.Encode.{piece_of, is_ready}
-use Rattle.reed_solomon.specs.declared.Decoded.{Decoded}
-use Rattle.reed_solomon.specs.declared.Decoded.TheVariants.{Block, Beyond, Refused}
-use Rattle.reed_solomon.specs.Decode.{decode_refusal, Answers}
+use Rattle.reed_solomon.specs.Decode.{Decoded, Block, Beyond, Refused, decode_refusal, Answers}
 use Rattle.reed_solomon.specs.First.{rebuilt}
 use Rattle.reed_solomon.proofs.Laws.{yes_ready, decode_0, rebuilt-block, rebuilt_none, named_lt, rebuilt_same, named_same, decode_refusal_same}
 use Rattle.reconstruction.specs.declared.Outcome.{Outcome}
@@ -36,7 +34,7 @@ use Rattle.reconstruction.specs.declared.Outcome.TheVariants as outcome
 use Rattle.reconstruction.specs.Reconstruction.{in_core, forwarded, votes, is_chosen, chosen_piece, own_piece, sent_piece, shared, ending, finish}
 use Rattle.reconstruction.specs.Reconstruction.{finished_by, finished, FinishedAgreed, FinishedBeyond}
 use Rattle.reconstruction.specs.Outcomes.{outcome_number}
-use Rattle.reconstruction.specs.Steps.{decoded_ending}
+use Rattle.reconstruction.specs.declared.Ending.{Ending}
 
 -- membership by number
 pub in_core_lem : (core j : ℕ) → 1 ≤ j → in_core core j ≡ member core (j - 1)
@@ -216,6 +214,12 @@ finished-refused n t layout core inbox b z e =
     ∙ cond_no (eqb (decode_refusal n t layout inbox b) 0) _ (finish (ending Open 0) b) (ne_eqb (decode_refusal n t layout inbox b) 0 e)
 
 -- what decoding answers and leaves is what the last call sets
+-- the outcome and the marks for each answer of decoding; it is never refused in a run
+abbrev pub decoded_ending : Decoded → Ending
+decoded_ending (Block named) = ending outcome.Agreed named
+decoded_ending Beyond = ending outcome.Beyond 0
+decoded_ending (Refused r) = ending Open 0
+
 pub finished_answers : (n t : ℕ) (layout : Layout) (core : ℕ) (inbox b : List ℕ) → (restricted core n ≡ 0 → ⊥) → (d : Decoded) (after : List ℕ)
     → Answers n t layout inbox b d after → finish (decoded_ending d) after ≡ finished n t layout core inbox b
 finished_answers n t layout core inbox b z (Block named) after h =

@@ -1,5 +1,3 @@
--- What calls 3t + 7 to 3t + 9 make of the core, the block and the inbox, and the outcomes with their numbers and words; Steps is for the
--- contracts of private functions.
+-- What calls 3t + 7 to 3t + 9 make of the core, the block and the inbox, and the outcomes with their numbers and words.
 pub mod Outcomes
 pub mod Reconstruction
-pub mod Steps

@@ -2,7 +2,8 @@
 --   Listed, listed w  the number and the word of an outcome, in bytes
 --   outcome_number w  its number
 --   outcome_word w    its word
-use Rattle.std.specs.Prelude.{List, [], ◌∷◌, ℕ}
+--   outcome_from x    the outcome of a number; open where it is no outcome's
+use Rattle.std.specs.Prelude.{cond, List, [], ◌∷◌, ℕ, eqb}
 use Rattle.reconstruction.specs.declared.Outcome.{Outcome}
 use Rattle.reconstruction.specs.declared.Outcome.TheVariants.{Open, Agreed, None, Beyond}
 
@@ -21,3 +22,6 @@ outcome_number w = (listed w).number
 
 abbrev pub outcome_word : Outcome → List ℕ
 outcome_word w = (listed w).word
+
+unfoldable pub outcome_from : ℕ → Outcome
+outcome_from x = cond (eqb x 1) Agreed (cond (eqb x 2) None (cond (eqb x 3) Beyond Open))
