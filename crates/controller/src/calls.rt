@@ -2,11 +2,12 @@
 ghost use Rattle.std.specs.Prelude.{◌≡◌, [], ◌≤◌};
 ghost use Rattle.wire.specs.Round.{call_kind};
 ghost use Rattle.protocol.specs.State.{advanced};
-ghost use Rattle.protocol.specs.Calls.{carried, inbox_layout, outbox_layout, settled_matrix, send_call, receive_call, compare_call, collect_call, tally_call, hold_call, settle_call, core_call, choose_call, finish_call, call_of};
+ghost use Rattle.protocol.specs.Calls.{carried, inbox_layout, outbox_layout, core_of, settled_matrix, send_call, receive_call, compare_call, collect_call, tally_call, hold_call, settle_call, core_call, choose_call, finish_call, call_of};
 ghost use Rattle.controller.specs.Steps.{Bounded};
 
 use protocol::State;
 use reconstruction::Outcome;
+use settings::Settings;
 use wire::{Call, Layout};
 
 // The state at the next call, with nobody named.
@@ -30,14 +31,16 @@ fn inbox_layout(s: State) -> Layout
     requires { Bounded s }
     ensures { result ≡ inbox_layout s }
 {
-    wire::round_layout(s.run, s.settings.n, s.settings.t, s.settings.k, s.next - 1)
+    let Settings { n, t, k, .. } = s.settings;
+    wire::round_layout(s.run, n, t, k, s.next - 1)
 }
 
 // The layout of the slots in the outbox of the next call.
 fn outbox_layout(s: State) -> Layout
     ensures { result ≡ outbox_layout s }
 {
-    wire::round_layout(s.run, s.settings.n, s.settings.t, s.settings.k, s.next)
+    let Settings { n, t, k, .. } = s.settings;
+    wire::round_layout(s.run, n, t, k, s.next)
 }
 
 // Call 1.
@@ -45,15 +48,7 @@ fn send_call(s: State, block: &[u8], outbox: &mut [u8]) -> State
     requires { Bounded s }
     ensures { carried result block.now outbox.new ≡ send_call s block.now outbox.old }
 {
-    let layout = outbox_layout(s);
-    dispersal::send_block(
-        layout,
-        s.settings.n,
-        s.own,
-        s.settings.sender,
-        block,
-        outbox,
-    );
+    dispersal::send_block(outbox_layout(s), s.settings, s.own, block, outbox);
     open(s)
 }
 
@@ -62,17 +57,8 @@ fn receive_call(s: State, block: &mut [u8], inbox: &[u8], outbox: &mut [u8]) -> 
     requires { Bounded s }
     ensures { carried result block.new outbox.new ≡ receive_call s block.old inbox.now outbox.old }
 {
-    let layout = inbox_layout(s);
-    dispersal::receive_block(inbox, layout, s.settings.sender, block);
-    dispersal::send_pieces(
-        s.run,
-        s.settings.n,
-        s.settings.t,
-        s.settings.k,
-        s.own,
-        block,
-        outbox,
-    );
+    dispersal::receive_block(inbox, inbox_layout(s), s.settings.sender, block);
+    dispersal::send_pieces(s.run, s.settings, s.own, block, outbox);
     open(s)
 }
 
@@ -81,18 +67,8 @@ fn compare_call(s: State, block: &[u8], inbox: &[u8], outbox: &mut [u8]) -> Stat
     requires { Bounded s }
     ensures { carried result block.now outbox.new ≡ compare_call s block.now inbox.now outbox.old }
 {
-    let layout = inbox_layout(s);
-    let m = dispersal::marks(
-        s.settings.n,
-        s.settings.t,
-        s.settings.k,
-        s.own,
-        inbox,
-        layout,
-        block,
-    );
-    let out = outbox_layout(s);
-    dispersal::send_marks(out, s.settings.n, m, outbox);
+    let marks = dispersal::marks(s.settings, s.own, inbox, inbox_layout(s), block);
+    dispersal::send_marks(outbox_layout(s), s.settings.n, marks, outbox);
     open(s)
 }
 
@@ -101,13 +77,10 @@ fn collect_call(s: State, inbox: &[u8], outbox: &mut [u8]) -> State
     requires { Bounded s }
     ensures { carried result [] outbox.new ≡ collect_call s [] inbox.now outbox.old }
 {
-    let layout = inbox_layout(s);
-    let m = phase_king::collect(inbox, layout, s.settings.n);
-    let rows = m.rows;
-    let out = outbox_layout(s);
-    phase_king::send_matrix(outbox, out, &rows, s.settings.n);
-    let next = open(s);
-    next.with_matrix(rows)
+    let n = s.settings.n;
+    let rows = phase_king::collect(inbox, inbox_layout(s), n).rows;
+    phase_king::send_matrix(outbox, outbox_layout(s), &rows, n);
+    open(s).with_matrix(rows)
 }
 
 // After 3p + 1.
@@ -115,12 +88,9 @@ fn tally_call(s: State, inbox: &[u8], outbox: &mut [u8]) -> State
     requires { Bounded s }
     ensures { carried result [] outbox.new ≡ tally_call s [] inbox.now outbox.old }
 {
-    let layout = inbox_layout(s);
-    let seen = phase_king::tally(inbox, layout, s.settings.n, s.settings.t);
-    let zeros = seen.zeros;
-    let ones = seen.ones;
-    let out = outbox_layout(s);
-    phase_king::send_seen(outbox, out, &zeros, &ones, s.settings.n);
+    let Settings { n, t, .. } = s.settings;
+    let seen = phase_king::tally(inbox, inbox_layout(s), n, t);
+    phase_king::send_seen(outbox, outbox_layout(s), &seen.zeros, &seen.ones, n);
     open(s)
 }
 
@@ -129,15 +99,11 @@ fn hold_call(s: State, inbox: &[u8], outbox: &mut [u8]) -> State
     requires { Bounded s }
     ensures { carried result [] outbox.new ≡ hold_call s [] inbox.now outbox.old }
 {
-    let layout = inbox_layout(s);
-    let held = phase_king::hold(inbox, layout, s.settings.n, s.settings.t);
-    let rows = held.rows;
-    let weak = held.weak;
+    let Settings { n, t, .. } = s.settings;
+    let held = phase_king::hold(inbox, inbox_layout(s), n, t);
     let king = wire::phase(s.next);
-    let out = outbox_layout(s);
-    phase_king::send_as_king(outbox, out, s.own, king, &rows, s.settings.n);
-    let next = open(s);
-    next.with_votes(rows, weak)
+    phase_king::send_as_king(outbox, outbox_layout(s), s.own, king, &held.rows, n);
+    open(s).with_votes(held.rows, held.weak)
 }
 
 // The matrix after 3p + 3.
@@ -145,18 +111,9 @@ fn settled(s: State, inbox: &[u8]) -> [u16; 16]
     requires { Bounded s }
     ensures { result ≡ settled_matrix s inbox.now }
 {
+    let king = wire::phase(s.next - 1);
     let layout = inbox_layout(s);
-    let rows = s.matrix;
-    let weak = s.weak;
-    let m = phase_king::settle(
-        &rows,
-        &weak,
-        inbox,
-        layout,
-        s.settings.n,
-        wire::phase(s.next - 1),
-    );
-    m.rows
+    phase_king::settle(&s.matrix, &s.weak, inbox, layout, s.settings.n, king).rows
 }
 
 // After 3p + 3, with another phase to come.
@@ -165,10 +122,18 @@ fn settle_call(s: State, inbox: &[u8], outbox: &mut [u8]) -> State
     ensures { carried result [] outbox.new ≡ settle_call s [] inbox.now outbox.old }
 {
     let rows = settled(s, inbox);
-    let out = outbox_layout(s);
-    phase_king::send_matrix(outbox, out, &rows, s.settings.n);
-    let next = open(s);
-    next.with_matrix(rows)
+    phase_king::send_matrix(outbox, outbox_layout(s), &rows, s.settings.n);
+    open(s).with_matrix(rows)
+}
+
+// E of the star of a matrix, which has no member where the star refuses n and t.
+fn core_of(rows: &[u16; 16], n: usize, t: usize) -> u16
+    ensures { result ≡ core_of rows.now n t }
+{
+    match star::find(rows, n, t) {
+        Ok(sets) => sets.e,
+        Err(_) => 0,
+    }
 }
 
 // Call 3t + 7.
@@ -177,20 +142,9 @@ fn core_call(s: State, block: &[u8], inbox: &[u8], outbox: &mut [u8]) -> State
     ensures { carried result block.now outbox.new ≡ core_call s block.now inbox.now outbox.old }
 {
     let rows = settled(s, inbox);
-    let sets = star::find(&rows, s.settings.n, s.settings.t);
-    let core = sets.e;
-    reconstruction::forward(
-        s.run,
-        s.settings.n,
-        s.settings.t,
-        s.settings.k,
-        s.own,
-        core,
-        block,
-        outbox,
-    );
-    let next = open(s);
-    next.with_core(rows, core)
+    let core = core_of(&rows, s.settings.n, s.settings.t);
+    reconstruction::forward(s.run, s.settings, s.own, core, block, outbox);
+    open(s).with_core(rows, core)
 }
 
 // Call 3t + 8.
@@ -199,17 +153,7 @@ fn choose_call(s: State, block: &[u8], inbox: &[u8], outbox: &mut [u8]) -> State
     ensures { carried result block.now outbox.new ≡ choose_call s block.now inbox.now outbox.old }
 {
     let layout = inbox_layout(s);
-    reconstruction::share(
-        s.settings.n,
-        s.settings.t,
-        s.settings.k,
-        s.own,
-        s.core,
-        inbox,
-        layout,
-        block,
-        outbox,
-    );
+    reconstruction::share(s.settings, s.own, s.core, inbox, layout, block, outbox);
     open(s)
 }
 
@@ -218,11 +162,8 @@ fn finish_call(s: State, block: &mut [u8], inbox: &[u8]) -> State
     requires { Bounded s }
     ensures { carried result block.new [] ≡ finish_call s block.old inbox.now [] }
 {
-    let layout = inbox_layout(s);
-    let ending = reconstruction::finish(s.settings.n, s.settings.t, layout, s.core, inbox, block);
-    let outcome = ending.outcome;
-    let next = advance(s, outcome);
-    next.with_named(ending.named)
+    let ending = reconstruction::finish(s.settings, inbox_layout(s), s.core, inbox, block);
+    advance(s, ending.outcome).with_named(ending.named)
 }
 
 // The call that is next.
@@ -230,8 +171,7 @@ pub(crate) fn perform(s: State, block: &mut [u8], inbox: &[u8], outbox: &mut [u8
     requires { Bounded s }
     ensures { carried result block.new outbox.new ≡ call_of (call_kind s.settings.t s.next) s block.old inbox.now outbox.old }
 {
-    let call = wire::call_kind(s.settings.t, s.next);
-    match call {
+    match wire::call_kind(s.settings.t, s.next) {
         Call::Send => send_call(s, block, outbox),
         Call::Receive => receive_call(s, block, inbox, outbox),
         Call::Compare => compare_call(s, block, inbox, outbox),

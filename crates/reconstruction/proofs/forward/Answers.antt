@@ -1,18 +1,9 @@
 -- `forward` meets its contract.
-use Rattle.reconstruction.proofs.Calls.{forwarded_sent, forwarded-kept}
-use Rattle.reconstruction.proofs.Rounds.{forwarded_other}
 use Rattle.reed_solomon.proofs.Laws.{ready_yes}
 use borrow.Author.Tests.{eqb-true}
 use Rattle.reconstruction.proofs.Rounds.{kind_forward}
-use Rattle.reconstruction.proofs.Pieces.{pieces}
 use Rattle.wire.specs.declared.slot.Layout.{Layout}
-use Rattle.wire.specs.declared.Round.TheVariants.{Forward}
-use Rattle.wire.specs.Length.{kind_layout}
-use Rattle.wire.specs.Slot.{width, slots}
-use lib.Dec.{eqb}
-use lib.ListN.{length}
-use Prim.Native.Nat.{◌*◌}
-use mathlib.Core.Path.{◌≡◌, sym, ap, ◌∙◌}
+use mathlib.Core.Path.{sym, ap, ◌∙◌}
 use Rattle.reconstruction.proofs.forward.Goals as goal
 
 pub send_coding-requires : goal.send_coding-requires

@@ -1,17 +1,8 @@
 -- `share` meets its contract.
-use Rattle.reconstruction.proofs.Calls.{shared_kept, shared_own, shared_chosen}
 use Rattle.reed_solomon.proofs.Laws.{ready_yes}
-use Rattle.reconstruction.specs.Reconstruction.{chosen_piece, sent_piece}
 use Rattle.reconstruction.proofs.Rounds.{kind_rebuild}
-use Rattle.reed_solomon.specs.Encode.{piece_of}
 use Rattle.wire.specs.declared.slot.Layout.{Layout}
-use Rattle.wire.specs.declared.Round.TheVariants.{Rebuild}
-use Rattle.wire.specs.Length.{kind_layout}
-use Rattle.wire.specs.Slot.{width}
-use lib.Dec.{eqb}
-use lib.ListN.{length}
-use Prim.Native.Nat.{◌*◌}
-use mathlib.Core.Path.{◌≡◌, sym, ap, ◌∙◌}
+use mathlib.Core.Path.{sym, ap, ◌∙◌}
 use Rattle.reconstruction.proofs.share.Goals as goal
 
 pub share_own-requires : goal.share_own-requires
