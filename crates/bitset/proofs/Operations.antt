@@ -2,14 +2,15 @@
 -- by which the code makes them. The main ones: `member-intersection`, `member-difference`, `member_union`.
 use mathlib.Core.Path.{◌≡◌, refl, sym, ap, ◌∙◌}
 use mathlib.Core.Bool.{Bool, true, false, not, ◌&&◌, ◌||◌}
-use Prim.Native.Nat.{ℕ, zero, suc, ◌/◌, ◌%◌, ◌^◌, ◌<◌}
+use Prim.Native.Nat.{ℕ, zero, suc, ◌/◌, ◌%◌, ◌^◌, ◌≤◌, ◌<◌}
 use native.Mathlib.Omega.{arith}
 use lib.Bits.{bit_and, bit_or, bit_xor, and_shr, or_shr, xor_shr, and_mod, or_mod, xor_mod, and_lt, or_lt, xor_lt}
 use lib.Dec.{eqb, lit<}
+use borrow.Author.Tests.{ne_eqb}
 use native.Mathlib.Nat.{zero-add}
 use Rattle.lists.specs.Sum.{count}
 use Rattle.bitset.specs.Set.{member, set_of, size_of, inserted, removed, intersection, difference, union}
-use Rattle.bitset.proofs.Sets.{set_lt, set_ext, member-set, member_none, member_insert, insert_add, ext, size_set}
+use Rattle.bitset.proofs.Sets.{set_lt, set_ext, set_empty, member-set, member_none, insert_add, ext, size_set}
 
 pub member-intersection : (a b i : ℕ) → i < 16 → member (intersection a b) i ≡ (member a i && member b i)
 unfolding intersection
@@ -40,18 +41,23 @@ unfolding union
 union_lt a b = set_lt 16 (λ i. member a i || member b i)
 
 -- ---- with the set of one index
-member_bit : (i j : ℕ) → i < 16 → j < 16 → member (2 ^ i) j ≡ eqb j i
-member_bit i j l m =
-    let e : inserted 0 i ≡ 2 ^ i = insert_add 0 i (lit< tt) l (member_none i) ∙ zero-add (2 ^ i) in
-    rw (← e, member_insert 0 i j m, member_none j)
+pub single_is : (i : ℕ) → i < 16 → set_of 16 (λ j. eqb j i) ≡ 2 ^ i
+unfolding inserted
+single_is i l =
+    set_ext 16 (λ j. eqb j i) (λ j. member 0 j || eqb j i) (λ j m. rw (member_none j))
+    ∙ insert_add 0 i (lit< tt) l (member_none i)
+    ∙ zero-add (2 ^ i)
 
-pub union_bit : (s i : ℕ) → i < 16 → union s (2 ^ i) ≡ inserted s i
+pub single_over : (i : ℕ) → 16 ≤ i → set_of 16 (λ j. eqb j i) ≡ 0
+single_over i l = set_ext 16 (λ j. eqb j i) (λ _. false) (λ j m. ne_eqb j i (λ e. omega arith)) ∙ set_empty 16 (λ _. false) (λ _. refl)
+
+pub union_single : (s i : ℕ) → union s (set_of 16 (λ j. eqb j i)) ≡ inserted s i
 unfolding union inserted
-union_bit s i l = set_ext 16 _ _ (λ j m. ap (λ b. member s j || b) (member_bit i j l m))
+union_single s i = set_ext 16 _ _ (λ j m. ap (λ b. member s j || b) (member-set 16 (λ j. eqb j i) j m))
 
-pub difference_bit : (s i : ℕ) → i < 16 → difference s (2 ^ i) ≡ removed s i
+pub difference_single : (s i : ℕ) → difference s (set_of 16 (λ j. eqb j i)) ≡ removed s i
 unfolding difference removed
-difference_bit s i l = set_ext 16 _ _ (λ j m. ap (λ b. member s j && not b) (member_bit i j l m))
+difference_single s i = set_ext 16 _ _ (λ j m. ap (λ b. member s j && not b) (member-set 16 (λ j. eqb j i) j m))
 
 -- ---- the processor's operations, digit by digit
 -- what two digits say, from its four cases

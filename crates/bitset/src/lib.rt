@@ -2,7 +2,7 @@
 // Every function is total: an index past 15 is in no set.
 #![tactic(auto)]
 
-ghost use Rattle.std.specs.Prelude.{◌≡◌, true, ℕ, ◌*◌, ◌^◌, ◌<◌, min, MatchOption};
+ghost use Rattle.std.specs.Prelude.{◌≡◌, true, ℕ, ◌*◌, ◌^◌, ◌<◌, min, eqb, MatchOption};
 ghost use Rattle.lists.specs.Fill.{filled};
 ghost use Rattle.bitset.specs.Set.{member, set_of, size_of, inserted, removed, intersection, difference, union, restricted, lowest_of, Selected};
 ghost use Rattle.bitset.specs.Row.{row_of, row_byte, rows_length};
@@ -17,12 +17,11 @@ pub fn member(s: u16, i: usize) -> bool
     i < 16 && (s >> i) % 2 == 1
 }
 
-// 2 to the i.
-fn bit(i: usize) -> u16
-    requires { i < 16 }
-    ensures { result ≡ 2 ^ i }
+// The set of i alone; empty where i is past 15.
+fn single(i: usize) -> u16
+    ensures { result ≡ set_of 16 (λ j. eqb j i) }
 {
-    1 << i
+    if i < 16 { 1 << i } else { 0 }
 }
 
 // The set s with i in it; s where i is past 15.
@@ -30,7 +29,7 @@ fn bit(i: usize) -> u16
 pub fn insert(s: u16, i: usize) -> u16
     ensures { result ≡ inserted s i }
 {
-    if i < 16 { union(s, bit(i)) } else { s }
+    union(s, single(i))
 }
 
 // The set s without i.
@@ -38,7 +37,7 @@ pub fn insert(s: u16, i: usize) -> u16
 pub fn remove(s: u16, i: usize) -> u16
     ensures { result ≡ removed s i }
 {
-    if i < 16 { difference(s, bit(i)) } else { s }
+    difference(s, single(i))
 }
 
 // The members of both sets.
@@ -90,7 +89,7 @@ pub fn lowest(s: u16) -> Option<usize>
 pub fn restrict(s: u16, n: usize) -> u16
     ensures { result ≡ restricted s n }
 {
-    if n < 16 { s % bit(n) } else { s }
+    if n < 16 { s % (1 << n) } else { s }
 }
 
 // The set of all indices below n, of 16 at most.
@@ -98,7 +97,7 @@ pub fn restrict(s: u16, n: usize) -> u16
 pub fn below(n: usize) -> u16
     ensures { result ≡ set_of (min n 16) (λ _. true) }
 {
-    if n < 16 { bit(n) - 1 } else { u16::MAX }
+    if n < 16 { (1 << n) - 1 } else { u16::MAX }
 }
 
 // The set of the indices below n, of 16 at most, that pass the test.

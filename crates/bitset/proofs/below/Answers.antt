@@ -1,5 +1,7 @@
 -- `bitset::below` meets its contract: all digits below n are set.
 use native.Mathlib.Omega.{arith}
+use lib.Dec.{lit<}
+use lib.Pow.{shl_exact}
 use Rattle.bitset.proofs.Sets.{set_all}
 use Prim.Native.Nat.{min}
 use mathlib.Core.Path.{◌≡◌}
@@ -9,7 +11,7 @@ pub returns-then-n-lt16 : goal.returns-then-n-lt16
 returns-then-n-lt16 c =
     let n = c.args.n in
     let e : min n 16 ≡ n = omega arith in
-    rw e (omega (arith, set_all n))
+    rw (e, shl_exact 1 n 16 (lit< tt) (omega arith)) (omega (arith, set_all n))
 
 pub returns-else-n-lt16 : goal.returns-else-n-lt16
 returns-else-n-lt16 c =

@@ -1,12 +1,14 @@
 -- `bitset::restrict` meets its contract: the members below n are the remainder by 2 to the n.
-use lib.Pow.{pow_mono}
+use lib.Dec.{lit<}
+use lib.Pow.{pow_mono, shl_exact}
 use native.Mathlib.Omega.{arith}
+use native.Mathlib.Nat.{one-mul}
 use Rattle.bitset.proofs.Sets.{restrict_mod, restrict_below}
 use mathlib.Core.Path.{sym}
 use Rattle.bitset.proofs.restrict.Goals as goal
 
 pub returns-then-n-lt16 : goal.returns-then-n-lt16
-returns-then-n-lt16 c = rw (c.bit.ensures, restrict_mod c.args.s c.args.n)
+returns-then-n-lt16 c = rw (restrict_mod c.args.s c.args.n, shl_exact 1 c.args.n 16 (lit< tt) (omega arith), one-mul)
 
 pub returns-else-n-lt16 : goal.returns-else-n-lt16
 returns-else-n-lt16 c =
