@@ -2,7 +2,7 @@
 // Every function is total: an index past 15 is in no set.
 #![tactic(auto)]
 
-ghost use Rattle.std.specs.Prelude.{◌≡◌, true, ℕ, ◌*◌, ◌^◌, ◌<◌, min, eqb, MatchOption};
+ghost use Rattle.std.specs.Prelude.{◌≡◌, true, ℕ, ◌<◌, min, eqb, MatchOption};
 ghost use Rattle.lists.specs.Fill.{filled};
 ghost use Rattle.bitset.specs.Set.{member, set_of, size_of, inserted, removed, intersection, difference, union, restricted, lowest_of, Selected};
 ghost use Rattle.bitset.specs.Row.{row_of, row_byte, rows_length};

@@ -49,6 +49,7 @@ pub fn draw(a: u64, b: usize, c: usize, d: usize) -> usize
 pub fn byte(x: usize) -> u8
     ensures { result ≡ x % 256 }
 {
+    // `as` is refused where it loses bits.
     (x % 256) as u8
 }
 
@@ -57,6 +58,7 @@ pub fn byte(x: usize) -> u8
 pub fn word(x: usize) -> u16
     ensures { result ≡ x % 65536 }
 {
+    // `as` is refused where it loses bits.
     (x % 65536) as u16
 }
 

@@ -2,7 +2,7 @@
 // 16, in 15 bytes. Index i stands for controller i + 1.
 #![tactic(auto)]
 
-ghost use Rattle.std.specs.Prelude.{◌≡◌, not, ◌&&◌, ◌||◌, ◌-◌, ◌*◌, ◌%◌, ◌^◌, ◌<◌, min, eqb, ltb, get_or};
+ghost use Rattle.std.specs.Prelude.{◌≡◌, not, ◌&&◌, ◌||◌, ◌-◌, ◌*◌, ◌^◌, ◌<◌, eqb, ltb};
 ghost use Rattle.lists.specs.Sum.{sum, ind};
 ghost use Rattle.bitset.specs.Set.{member, set_of};
 ghost use Rattle.graph.specs.Neighbour.{neighbour, missing};

@@ -1,7 +1,7 @@
 // Definitions and laws of sums, counts and lists for the crates above, the comparison of two byte strings, and the bytes of 16-bit numbers.
 #![tactic(auto)]
 
-ghost use Rattle.std.specs.Prelude.{◌≡◌, ◌+◌, ◌*◌, ◌/◌, ◌%◌, ◌<◌};
+ghost use Rattle.std.specs.Prelude.{◌≡◌, ◌+◌, ◌*◌, ◌/◌, ◌%◌};
 ghost use Rattle.lists.specs.Same.{same};
 
 // Whether two byte strings are equal, byte for byte.
