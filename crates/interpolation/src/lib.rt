@@ -3,15 +3,18 @@
 #![tactic(auto)]
 
 ghost use Rattle.std.specs.Prelude.{◌≡◌, ◌+◌, ◌-◌, ◌≤◌, ◌<◌, length};
-ghost use Rattle.polynomial.specs.Polynomial.{evaluate, plus, scale, times_root};
-ghost use Rattle.interpolation.specs.Interpolation.{ratio, wrong_by, advance, next, run, reduced, series, candidate, candidate_into};
-ghost use Rattle.interpolation.specs.Steps.{ratios_of, SameWidth, Next, Zeros};
+ghost use Rattle.polynomial.specs.Polynomial.{horner, plus, scale, times_root};
+ghost use Rattle.interpolation.specs.Interpolation.{ratio, wrong_by, combine, with_root, advance, next, run, reduced, series, candidate, candidate_into};
+ghost use Rattle.interpolation.specs.Steps.{ratio_of, ratios_of, SameWidth, Alike, Next, Zeros};
 
-// Bounds of the weighted degrees of two pairs of polynomials.
-#[derive(Clone, Copy)]
-struct Weights {
-    u: usize,
-    v: usize,
+use gf256::{add, inv, mul};
+
+// A pair Q, E of polynomials and a bound of its weighted degree.
+#[derive(Drop)]
+struct Pair<'a> {
+    q: &'a mut [u8],
+    e: &'a mut [u8],
+    weight: usize,
 }
 
 // The most coefficients that decoding needs: n + t + 1 for n 16 and t 5.
@@ -19,9 +22,9 @@ const MOST: usize = 22;
 
 // The value of the polynomial p at x, by Horner's rule.
 fn evaluate(p: &[u8], x: u8) -> u8
-    ensures { result ≡ evaluate p.now x }
+    ensures { result ≡ horner p.now x }
 {
-    p.iter().rev().fold(0, |r, c| gf256::add(*c, gf256::mul(x, r)))
+    p.iter().rev().fold(0, |r, c| add(*c, mul(x, r)))
 }
 
 // X + x times p, in the place of p.
@@ -31,7 +34,7 @@ fn times_root(p: &mut [u8], x: u8)
     let mut before = 0;
     for c in p.iter_mut() {
         let here = *c;
-        *c = gf256::add(before, gf256::mul(x, here));
+        *c = add(before, mul(x, here));
         before = here;
     }
 }
@@ -45,156 +48,129 @@ fn combine(p: &mut [u8], a: u8, q: &[u8], b: u8)
     gf256::add_multiple(p, b, q);
 }
 
-// q(x) - y e(x): what the pair q, e is wrong by at x, where y was received.
-fn wrong_by(q: &[u8], e: &[u8], x: u8, y: u8) -> u8
-    ensures { result ≡ wrong_by y (ratio q.now e.now) x }
-{
-    gf256::add(evaluate(q, x), gf256::mul(y, evaluate(e, x)))
+impl Pair<'_> {
+    // q(x) - y e(x): what the pair is wrong by at x, where y was received.
+    fn wrong_by(&self, x: u8, y: u8) -> u8
+        ensures { result ≡ wrong_by y (ratio_of self.now) x }
+    {
+        add(evaluate(self.q, x), mul(y, evaluate(self.e, x)))
+    }
+
+    // X + x times the pair.
+    fn add_root(&mut self, x: u8)
+        requires { self.old.weight < 64 }
+        ensures ratio { ratio_of self.new ≡ with_root x (ratio_of self.old) }
+        ensures weight { self.new.weight ≡ self.old.weight + 1 }
+        ensures width { SameWidth self.old self.new }
+    {
+        times_root(self.q, x);
+        times_root(self.e, x);
+        self.weight += 1;
+    }
+
+    // a times the pair and b times the other, in the place of the pair.
+    fn combine(&mut self, a: u8, other: &Pair, b: u8)
+        requires { SameWidth self.old other.now }
+        ensures ratio { ratio_of self.new ≡ combine a (ratio_of self.old) b (ratio_of other.now) }
+        ensures weight { self.new.weight ≡ self.old.weight }
+        ensures width { SameWidth self.old self.new }
+    {
+        combine(self.q, a, other.q, b);
+        combine(self.e, a, other.e, b);
+    }
+
+    // q + c e without its constant coefficient, over X, in the place of q.
+    fn reduce(&mut self, c: u8)
+        requires { (length self.old.q.now ≡ length self.old.e.now) × (0 < length self.old.q.now) }
+        ensures { ratio_of self.new ≡ ratio (reduced c self.old.q.now self.old.e.now) self.old.e.now }
+    {
+        // By index: the borrow checker has no rule yet for a call that lends self.q and reads self.e.
+        let last = self.q.len() - 1;
+        for i in 0..last {
+            self.q[i] = add(self.q[i + 1], mul(c, self.e[i + 1]));
+        }
+        self.q[last] = 0;
+    }
+
+    // The first coefficients of q / e as a power series, into m.
+    fn divide(&mut self, m: &mut [u8])
+        requires { (length self.old.q.now ≡ length self.old.e.now) × (0 < length self.old.q.now) }
+        ensures { m.new ≡ series (length m.old) self.old.q.now self.old.e.now }
+    {
+        let inverse = inv(self.e[0]);
+        for x in m.iter_mut() {
+            let c = mul(self.q[0], inverse);
+            *x = c;
+            self.reduce(c);
+        }
+    }
 }
 
 // A point more, where the first pair has the smaller bound: if it is right there it stays, and the second gets the root x; else the first
 // gets it, and the second is made right there by the first.
-fn advance(
-    qa: &mut [u8],
-    ea: &mut [u8],
-    u: usize,
-    qb: &mut [u8],
-    eb: &mut [u8],
-    v: usize,
-    x: u8,
-    y: u8,
-) -> Weights
-    requires { SameWidth (length qa.old) qa.old ea.old qb.old eb.old × (u + v < 64) }
-    ensures { Next (advance x y) (ratios_of qa.old ea.old u qb.old eb.old v) (ratios_of qa.new ea.new result.u qb.new eb.new result.v) }
+fn advance(first: &mut Pair, second: &mut Pair, x: u8, y: u8)
+    requires { Alike first.old second.old × (first.old.weight + second.old.weight < 64) }
+    ensures { Next (advance x y) first.old second.old first.new second.new }
 {
-    let a = wrong_by(qa, ea, x, y);
+    let a = first.wrong_by(x, y);
     if a == 0 {
-        times_root(qb, x);
-        times_root(eb, x);
-        return Weights { u, v: v + 1 };
+        second.add_root(x);
+        return;
     }
-    let b = wrong_by(qb, eb, x, y);
-    combine(qb, a, qa, b);
-    combine(eb, a, ea, b);
-    times_root(qa, x);
-    times_root(ea, x);
-    Weights { u: u + 1, v }
+    let b = second.wrong_by(x, y);
+    second.combine(a, first, b);
+    first.add_root(x);
 }
 
 // A point more, whichever pair has the smaller bound.
-fn next(
-    qa: &mut [u8],
-    ea: &mut [u8],
-    u: usize,
-    qb: &mut [u8],
-    eb: &mut [u8],
-    v: usize,
-    x: u8,
-    y: u8,
-) -> Weights
-    requires { SameWidth (length qa.old) qa.old ea.old qb.old eb.old × (u + v < 64) }
-    ensures { Next (next x y) (ratios_of qa.old ea.old u qb.old eb.old v) (ratios_of qa.new ea.new result.u qb.new eb.new result.v) }
+fn next(first: &mut Pair, second: &mut Pair, x: u8, y: u8)
+    requires { Alike first.old second.old × (first.old.weight + second.old.weight < 64) }
+    ensures { Next (next x y) first.old second.old first.new second.new }
 {
-    if u <= v {
-        return advance(qa, ea, u, qb, eb, v, x, y);
-    }
-    let r = advance(qb, eb, v, qa, ea, u, x, y);
-    Weights { u: r.v, v: r.u }
-}
-
-// All the points xs, where the values ys were received: the two pairs, from zeros, and their bounds.
-fn interpolate(
-    xs: &[u8],
-    ys: &[u8],
-    t: usize,
-    qa: &mut [u8],
-    ea: &mut [u8],
-    qb: &mut [u8],
-    eb: &mut [u8],
-) -> Weights
-    requires { Zeros xs.now ys.now t qa.old ea.old qb.old eb.old }
-    ensures { ratios_of qa.new ea.new result.u qb.new eb.new result.v ≡ run t xs.now ys.now (length xs.now) }
-{
-    qa[0] = 1;
-    eb[0] = 1;
-    let mut u: usize = 0;
-    let mut v = t;
-    let mut i: usize = 0;
-    while i < xs.len() {
-        let w = next(qa, ea, u, qb, eb, v, xs[i], ys[i]);
-        u = w.u;
-        v = w.v;
-        i += 1;
-    }
-    Weights { u, v }
-}
-
-// q + c e without its constant coefficient, over X, in the place of q.
-fn reduce(q: &mut [u8], e: &[u8], c: u8)
-    requires { (length q.old ≡ length e.now) × (0 < length q.old) }
-    ensures { q.new ≡ reduced c q.old e.now }
-{
-    gf256::add_multiple(q, c, e);
-    let last = q.len() - 1;
-    q.copy_within(1.., 0);
-    q[last] = 0;
-}
-
-// The first coefficients of q / e as a power series, into m.
-fn divide(q: &mut [u8], e: &[u8], m: &mut [u8])
-    requires { (length q.old ≡ length e.now) × (0 < length q.old) }
-    ensures { m.new ≡ series (length m.old) q.old e.now }
-{
-    let inverse = gf256::inv(e[0]);
-    for x in m.iter_mut() {
-        let c = gf256::mul(q[0], inverse);
-        *x = c;
-        reduce(q, e, c);
-    }
-}
-
-// The first t + 1 coefficients that the pair of the smaller bound gives, into m; the polynomials are lent as zeros.
-fn solve(
-    xs: &[u8],
-    ys: &[u8],
-    t: usize,
-    qa: &mut [u8],
-    ea: &mut [u8],
-    qb: &mut [u8],
-    eb: &mut [u8],
-    m: &mut [u8],
-)
-    requires { Zeros xs.now ys.now t qa.old ea.old qb.old eb.old × (length m.old ≡ t + 1) }
-    ensures { m.new ≡ candidate t xs.now ys.now }
-{
-    let r = interpolate(xs, ys, t, qa, ea, qb, eb);
-    if r.u <= r.v {
-        divide(qa, ea, m);
+    if first.weight <= second.weight {
+        advance(first, second, x, y);
     } else {
-        divide(qb, eb, m);
+        advance(second, first, x, y);
     }
 }
 
-// The candidate for the values ys received at the points xs, into m.
+// All the points xs, where the values ys were received: the two pairs, from zeros.
+fn interpolate(xs: &[u8], ys: &[u8], first: &mut Pair, second: &mut Pair)
+    requires { Zeros xs.now ys.now first.old second.old }
+    ensures state { ratios_of first.new second.new ≡ run second.old.weight xs.now ys.now (length xs.now) }
+    ensures alike { Alike first.new second.new }
+    ensures some { 0 < length first.new.q.now }
+{
+    first.q[0] = 1;
+    second.e[0] = 1;
+    for (i, x) in xs.iter().enumerate() {
+        next(first, second, *x, ys[i]);
+    }
+}
+
+// The candidate for the values ys received at the points xs, into m: what the pair of the smaller bound gives.
 fn recover(xs: &[u8], ys: &[u8], t: usize, m: &mut [u8])
     requires { (length ys.now ≡ length xs.now) × (length xs.now + t + 1 ≤ 22) × (length m.old ≡ t + 1) }
     ensures { m.new ≡ candidate t xs.now ys.now }
 {
-    let mut qa = [0u8; MOST];
-    let mut ea = [0u8; MOST];
-    let mut qb = [0u8; MOST];
-    let mut eb = [0u8; MOST];
+    let (mut qa, mut ea, mut qb, mut eb) = ([0; MOST], [0; MOST], [0; MOST], [0; MOST]);
     let w = xs.len() + t + 1;
-    solve(
-        xs,
-        ys,
-        t,
-        &mut qa[..w],
-        &mut ea[..w],
-        &mut qb[..w],
-        &mut eb[..w],
-        m,
-    );
+    let mut first = Pair {
+        q: &mut qa[..w],
+        e: &mut ea[..w],
+        weight: 0,
+    };
+    let mut second = Pair {
+        q: &mut qb[..w],
+        e: &mut eb[..w],
+        weight: t,
+    };
+    interpolate(xs, ys, &mut first, &mut second);
+    if second.weight < first.weight {
+        second.divide(m);
+    } else {
+        first.divide(m);
+    }
 }
 
 // The only polynomial of m.len() coefficients that can agree with the values ys received at the points xs in enough places, into m. Nothing

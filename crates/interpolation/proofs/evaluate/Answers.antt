@@ -1,12 +1,10 @@
 -- `evaluate` meets its contract.
 use Rattle.std.specs.Prelude.{reverse}
 use Rattle.std.specs.List.{fold}
-use Rattle.polynomial.proofs.Laws.{evaluate-horner}
 use Rattle.gf256.specs.Field.{gadd, gmul}
 use Rattle.interpolation.proofs.Loops.{horner-fold}
 use borrow.Author.Rules.{rules}
-use native.Mathlib.Omega.{arith}
-use mathlib.Core.Path.{◌≡◌, sym, ◌∙◌}
+use mathlib.Core.Path.{◌≡◌, ◌∙◌}
 use Rattle.interpolation.proofs.evaluate.Goals as goal
 
 pub returns : goal.returns
@@ -14,4 +12,4 @@ returns c =
     let x = c.args.x in
     let p = c.args.p.now in
     let e : c.fold.result ≡ fold (λ r c. gadd c (gmul x r)) 0 (reverse p) = search rules in
-    e ∙ horner-fold x p ∙ sym (evaluate-horner p x (λ i. omega (arith, c.type_inv.p i)))
+    e ∙ horner-fold x p

@@ -1,42 +1,32 @@
 -- `recover` meets its contract.
-use Rattle.lists.proofs.Zeros.{take-zeros, length_front}
-use lib.ListN.{length}
+use Rattle.interpolation.specs.Steps.{ratio_of, ratios_of}
+use Rattle.interpolation.specs.Interpolation.{smaller, series}
+use Rattle.interpolation.proofs.Laws.{smaller_first, smaller-second, candidate-series}
 use native.Mathlib.Omega.{arith}
-use Prim.Native.Nat.{◌+◌}
-use mathlib.Core.Path.{sym}
+use mathlib.Core.Path.{sym, ap, ◌∙◌}
 use Rattle.interpolation.proofs.recover.Goals as goal
 
-pub slice_bounds-solve-end : goal.slice_bounds-solve-end
-slice_bounds-solve-end c =
-    sym (length_front 22 (length c.args.xs.now + c.args.t + 1)
-    c.requires.1)
+pub divide-requires : goal.divide-requires
+divide-requires c =
+    let s = c.interpolate.ensures.alike in (s.size_q' ∙ sym s.size_e', omega (arith, s.size_q', c.interpolate.ensures.some))
 
-pub slice_bounds-solve-end-2 : goal.slice_bounds-solve-end-2
-slice_bounds-solve-end-2 c =
-    sym (length_front 22 (length c.args.xs.now + c.args.t + 1)
-    c.requires.1)
+pub divide-requires-else-second-first : goal.divide-requires-else-second-first
+divide-requires-else-second-first c = (sym c.interpolate.ensures.alike.size_e, c.interpolate.ensures.some)
 
-pub slice_bounds-solve-end-3 : goal.slice_bounds-solve-end-3
-slice_bounds-solve-end-3 c = sym (length_front 22 (length c.args.xs.now + c.args.t + 1) c.requires.1)
-
-pub slice_bounds-solve-end-4 : goal.slice_bounds-solve-end-4
-slice_bounds-solve-end-4 c = sym (length_front 22 (length c.args.xs.now + c.args.t + 1) c.requires.1)
-
-pub solve-requires : goal.solve-requires
-solve-requires c =
+pub returns-then-second-first : goal.returns-then-second-first
+returns-then-second-first c =
     let a = c.args in
-    let w = length a.xs.now + a.t + 1 in
-    let z = take-zeros 22 w c.requires.1 in (
-      record {
-        values = c.requires.0;
-        few = omega arith;
-        zero_qa = z;
-        zero_ea = z;
-        zero_qb = z;
-        zero_eb = z;
-      },
-      c.requires.2,
-    )
+    let p = c.interpolate.new.first in
+    let r = c.interpolate.new.second in
+    c.divide.ensures ∙ ap (λ n. series n r.q.now r.e.now) c.requires.2
+    ∙ sym (candidate-series a.t a.xs.now a.ys.now (ratio_of r)
+    (ap smaller (sym c.interpolate.ensures.state) ∙ smaller-second (ratios_of p r) c.if-second-first.true))
 
-pub returns : goal.returns
-returns c = c.solve.ensures
+pub returns-else-second-first : goal.returns-else-second-first
+returns-else-second-first c =
+    let a = c.args in
+    let p = c.interpolate.new.first in
+    let r = c.interpolate.new.second in
+    c.divide-else-second-first.ensures ∙ ap (λ n. series n p.q.now p.e.now) c.requires.2
+    ∙ sym (candidate-series a.t a.xs.now a.ys.now (ratio_of p)
+    (ap smaller (sym c.interpolate.ensures.state) ∙ smaller_first (ratios_of p r) c.if-second-first.false))
