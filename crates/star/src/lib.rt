@@ -1,7 +1,7 @@
 // The star of a neighbour graph and its core (document 01, 'Star and core'). Index i stands for controller i + 1.
 #![tactic(auto)]
 
-ghost use Rattle.std.specs.Prelude.{◌≡◌, ℕ, true, not, ◌&&◌, ◌^◌, ◌<◌, ◌≤◌, leb, reverse};
+ghost use Rattle.std.specs.Prelude.{◌≡◌, not, ◌&&◌, ◌^◌, ◌<◌, ◌≤◌, reverse};
 ghost use Rattle.bitset.specs.Set.{member, set_of, size_of, removed, intersection, difference};
 ghost use Rattle.graph.specs.Neighbour.{neighbour, missing};
 ghost use Rattle.graph.specs.Bits.{adjacent};

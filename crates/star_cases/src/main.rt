@@ -74,9 +74,7 @@ fn mark(k: usize, n: usize, t: usize, i: usize, j: usize) -> bool {
 
 // 16 bits of kind k: whether i marks each.
 fn row(k: usize, n: usize, t: usize, i: usize) -> u16 {
-    (0..16)
-        .filter(|j| mark(k, n, t, i, *j))
-        .fold(0, |r, j| bitset::insert(r, j))
+    bitset::select(16, |j| mark(k, n, t, i, j))
 }
 
 fn rows(k: usize, n: usize, t: usize) -> [u16; 16] {
