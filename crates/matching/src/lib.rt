@@ -96,10 +96,12 @@ fn champion<F: Fn(usize, usize) -> bool>(graph: &[u16; 16], s: u16, wins: F) -> 
     let mut best = None;
     let mut most: usize = 0;
     for (i, row) in graph.iter().enumerate() {
-        let partners = size(intersection(*row, s));
-        if member(s, i) && 0 < partners && (most == 0 || wins(partners, most)) {
-            best = Some(i);
-            most = partners;
+        if member(s, i) {
+            let partners = size(intersection(*row, s));
+            if 0 < partners && (most == 0 || wins(partners, most)) {
+                best = Some(i);
+                most = partners;
+            }
         }
     }
     best
