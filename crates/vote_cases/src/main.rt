@@ -266,16 +266,16 @@ fn print_digest(rt: &impl Print, name: &[u8], number: usize, d: u64) -> io::Resu
 fn digest(state: &[Controller; 16]) -> u64 {
     let mut d = 0;
     for own in state {
-        d = cases::digest_words(d, &own.held.rows);
+        d = cases::digest(d, &own.held.rows);
     }
     for own in state {
-        d = cases::digest_words(d, &own.held.weak);
+        d = cases::digest(d, &own.held.weak);
     }
     for own in state {
-        d = cases::digest_words(d, &own.seen.zeros);
+        d = cases::digest(d, &own.seen.zeros);
     }
     for own in state {
-        d = cases::digest_words(d, &own.seen.ones);
+        d = cases::digest(d, &own.seen.ones);
     }
     d
 }
@@ -334,7 +334,7 @@ fn play(rt: &impl Print, vote: Setup) -> io::Result<()> {
                 rt,
                 b"controller",
                 i + 1,
-                cases::digest_words(0, &state[i].held.rows),
+                cases::digest(0, &state[i].held.rows),
             )?;
         }
     }
