@@ -73,6 +73,13 @@ word_number (a ∷ []) e = absurd (omega arith)
 word_number (a ∷ b ∷ []) e = omega arith
 word_number (a ∷ b ∷ c ∷ l) e = absurd (omega arith)
 
+-- and of one
+pub byte_number : (l : List ℕ) → length l ≡ 1 → get_or l 0 0 ≡ number_of l
+unfolding number_of
+byte_number [] e = absurd (omega arith)
+byte_number (a ∷ []) e = omega arith
+byte_number (a ∷ b ∷ l) e = absurd (omega arith)
+
 -- ---- what was written is read back
 pub number_back : (w x : ℕ) → x < 256 ^ w → number_of (little_endian w x) ≡ x
 unfolding little_endian number_of

@@ -22,11 +22,10 @@ use Rattle.bitset.specs.Row.{row_byte, row_of, rows_of}
 use Rattle.bitset.proofs.Laws.{length_rows_few, rows_written}
 use Rattle.reconstruction.specs.declared.Outcome.{Outcome}
 use Rattle.reconstruction.specs.Outcomes.{outcome_number}
-use Rattle.settings.specs.declared.Settings.{Settings}
 use Rattle.protocol.specs.declared.State.{State}
-use Rattle.protocol.specs.State.{initial, with_call, with_votes, with_core, with_named}
 use Rattle.state_bytes.specs.State.{little_endian, widths, width_of, offset, state_length, six_numbers, field_bytes, state_bytes, field_in, field_number}
-use Rattle.state_bytes.specs.State.{field_rows, outcome_from, state_in}
+use Rattle.reconstruction.specs.Outcomes.{outcome_from}
+use Rattle.state_bytes.specs.State.{field_rows, state_in}
 use Rattle.state_bytes.proofs.Digits.{length_digits}
 
 -- ---- widths and offsets
@@ -97,12 +96,8 @@ number-field s (suc (suc (suc (suc zero)))) h = refl
 number-field s (suc (suc (suc (suc (suc zero))))) h = refl
 number-field s (suc (suc (suc (suc (suc (suc i)))))) h = absurd (omega arith)
 
--- the others
+-- the two matrices
 module _ (s : State) (i : ℕ) where
-  pub outcome-field : i ≡ 6 → field_bytes s i ≡ little_endian (width_of i) (outcome_number s.outcome)
-  unfolding field_bytes
-  outcome-field e = subst (λ (j : ℕ). field_bytes s j ≡ little_endian (width_of j) (outcome_number s.outcome)) (sym e) refl
-
   pub matrix_field : i ≡ 7 → field_bytes s i ≡ rows_of 16 s.matrix
   unfolding field_bytes
   matrix_field e = ap (field_bytes s) e
@@ -110,18 +105,6 @@ module _ (s : State) (i : ℕ) where
   pub weak-field : i ≡ 8 → field_bytes s i ≡ rows_of 16 s.weak
   unfolding field_bytes
   weak-field e = ap (field_bytes s) e
-
-  pub core_field : i ≡ 9 → field_bytes s i ≡ little_endian (width_of i) s.core
-  unfolding field_bytes
-  core_field e = subst (λ (j : ℕ). field_bytes s j ≡ little_endian (width_of j) s.core) (sym e) refl
-
-  pub named_field : i ≡ 10 → field_bytes s i ≡ little_endian (width_of i) s.named
-  unfolding field_bytes
-  named_field e = subst (λ (j : ℕ). field_bytes s j ≡ little_endian (width_of j) s.named) (sym e) refl
-
-  pub run_field : i ≡ 11 → field_bytes s i ≡ little_endian (width_of i) s.run
-  unfolding field_bytes
-  run_field e = subst (λ (j : ℕ). field_bytes s j ≡ little_endian (width_of j) s.run) (sym e) refl
 
 joined-suc : (f : ℕ → List ℕ) (n : ℕ) → joined f (suc n) ≡ joined f n ++ f n
 joined-suc f n = ap (joined f) (sym (add-one n)) ∙ joined_more f n
@@ -153,10 +136,6 @@ field_read s (suc n) i h =
 
 -- ---- writing a field to as many bytes as it takes
 module _ (s : State) (i : ℕ) (v : List ℕ) where
-  -- a number
-  pub number_put : (x n : ℕ) → field_bytes s i ≡ little_endian (width_of i) x → n ≡ width_of i → v ≡ little_endian n x → v ≡ field_bytes s i
-  number_put x n is_field e is-v = is-v ∙ ap (λ (w : ℕ). little_endian w x) e ∙ sym is_field
-
   -- 16 rows
   pub rows_put : (rows out : List ℕ) → field_bytes s i ≡ rows_of 16 rows → length out ≡ width_of i → v ≡ filled (row_byte 16 rows) (2 * min 16 16) out
       → v ≡ field_bytes s i
@@ -211,15 +190,7 @@ unfolding field_in
 length-field bytes i size h =
     length-take-le (width_of i) (drop (offset i) bytes) (omega (arith, length-drop (offset i) bytes, field-within (length widths) i h))
 
--- a state that is put together field by field
-pub built : {first told voted ready all : State} {s : Settings} {own run next : ℕ} {o : Outcome} {m w : List ℕ} {c r : ℕ} → first ≡ initial s own run next
-    → told ≡ with_call first next o → voted ≡ with_votes told m w → ready ≡ with_core voted m c → all ≡ with_named ready r
-    → ◌≡◌ {A = State} all (record { settings = s; own = own; run = run; next = next; outcome = o; matrix = m; weak = w; core = c; named = r })
-built {first} {told} {voted} {ready} {all} {s} {own} {run} {next} {o} {m} {w} {c} {r} e-first e-told e-voted e-ready e-all =
-    e-all
-    ∙ ap (λ (x : State). with_named x r) e-ready
-    ∙ ap (λ (x : State). with_named (with_core x m c) r) (e-voted ∙ ap (λ (x : State). with_votes x m w) (e-told ∙ ap (λ (x : State). with_call x next o) e-first))
-
+-- a state that is read field by field
 pub made : (b : List ℕ) {n t k own run sender next : ℕ} {o : Outcome} {m w : List ℕ} {c r : ℕ} → n ≡ field_number b 0 → t ≡ field_number b 1 → k ≡ field_number b 2
     → own ≡ field_number b 3 → sender ≡ field_number b 4 → next ≡ field_number b 5 → o ≡ outcome_from (field_number b 6) → m ≡ field_rows b 7 → w ≡ field_rows b 8
     → c ≡ row_of 16 (field_in b 9) 0 → r ≡ row_of 16 (field_in b 10) 0 → run ≡ field_number b 11

@@ -21,7 +21,8 @@ use Rattle.reconstruction.specs.Outcomes.{outcome_number}
 use Rattle.protocol.specs.declared.State.{State}
 use Rattle.protocol.specs.State.{zero_state}
 use Rattle.state_bytes.specs.State.{little_endian, number_of, widths, width_of, offset, state_length, six_numbers, field_bytes, state_bytes, field_in}
-use Rattle.state_bytes.specs.State.{field_number, outcome_from, state_in, state_of, Words}
+use Rattle.reconstruction.specs.Outcomes.{outcome_from}
+use Rattle.state_bytes.specs.State.{field_number, state_in, state_of, Words}
 use Rattle.state_bytes.proofs.Digits.{number_lt, number_back}
 use Rattle.state_bytes.proofs.Fields.{number-field, length_fields, field_read, made}
 

@@ -14,7 +14,6 @@
 --   field_in bytes i      field i in the bytes of a state
 --   field_number bytes i  the number in it
 --   field_rows bytes i    the 16 rows in it
---   outcome_from x        the outcome of a number (the listing is reconstruction's `outcome_number`); open where it is no outcome's
 --   state_in bytes        the state whose fields stand in the bytes
 --   state_of bytes        the state that the bytes stand for: every list of that length is a state; the zero state where it has another length
 --   Words s               the bounds of a state's fields: numbers below 2 ^ 64, and rows and a run number of 16 bits
@@ -22,9 +21,7 @@ use Rattle.std.specs.Prelude.{◌≡◌, cond, List, [], ◌∷◌, ℕ, zero, s
 use Rattle.lists.specs.Sum.{sum}
 use Rattle.lists.specs.Join.{joined}
 use Rattle.bitset.specs.Row.{row_of, rows_in, rows_of}
-use Rattle.reconstruction.specs.declared.Outcome.{Outcome}
-use Rattle.reconstruction.specs.declared.Outcome.TheVariants.{Open, Agreed, None, Beyond}
-use Rattle.reconstruction.specs.Outcomes.{outcome_number}
+use Rattle.reconstruction.specs.Outcomes.{outcome_number, outcome_from}
 use Rattle.protocol.specs.declared.State.{State}
 use Rattle.protocol.specs.State.{zero_state}
 
@@ -72,9 +69,6 @@ field_number bytes i = number_of (field_in bytes i)
 
 abbrev pub field_rows : List ℕ → ℕ → List ℕ
 field_rows bytes i = rows_in (field_in bytes i)
-
-unfoldable pub outcome_from : ℕ → Outcome
-outcome_from x = cond (eqb x 1) Agreed (cond (eqb x 2) None (cond (eqb x 3) Beyond Open))
 
 unfoldable pub state_in : List ℕ → State
 state_in bytes = record {

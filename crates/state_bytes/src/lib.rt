@@ -1,10 +1,10 @@
 // The state of a controller as bytes, for callers that keep it in a buffer of their own, as those of the static library do.
 #![tactic(auto)]
 
-ghost use Rattle.std.specs.Prelude.{◌≡◌, cond, ◌<◌, ◌≤◌, eqb, length, get_or};
+ghost use Rattle.std.specs.Prelude.{◌≡◌, cond, ◌<◌, ◌≤◌, eqb, length};
 ghost use Rattle.bitset.specs.Row.{rows_in};
-ghost use Rattle.reconstruction.specs.Outcomes.{outcome_number};
-ghost use Rattle.state_bytes.specs.State.{little_endian, number_of, widths, width_of, offset, state_length, six_numbers, field_bytes, state_bytes, field_in, field_number, outcome_from, state_in, state_of};
+ghost use Rattle.reconstruction.specs.Outcomes.{outcome_number, outcome_from};
+ghost use Rattle.state_bytes.specs.State.{little_endian, number_of, widths, width_of, offset, state_length, field_bytes, state_bytes, field_in, field_number, state_in, state_of};
 
 use protocol::State;
 use reconstruction::Outcome;
@@ -30,11 +30,9 @@ fn offset(i: usize) -> usize
     requires { i ≤ length widths }
     ensures { result ≡ offset i }
 {
-    let mut a: usize = 0;
-    let mut j: usize = 0;
-    while j < i {
+    let mut a = 0;
+    for j in 0..i {
         a += width(j);
-        j += 1;
     }
     a
 }
@@ -52,11 +50,9 @@ fn put(bytes: &mut [u8], x: usize)
     ensures { bytes.new ≡ little_endian (length bytes.old) x }
 {
     let mut rest = x;
-    let mut i: usize = 0;
-    while i < bytes.len() {
-        bytes[i] = (rest % 256) as u8;
-        rest = rest / 256;
-        i += 1;
+    for byte in bytes.iter_mut() {
+        *byte = (rest % 256) as u8;
+        rest /= 256;
     }
 }
 
@@ -65,63 +61,29 @@ fn put(bytes: &mut [u8], x: usize)
 pub fn outcome_number(outcome: Outcome) -> u8
     ensures { result ≡ outcome_number outcome }
 {
-    match outcome {
-        Outcome::Open => 0,
-        Outcome::Agreed => 1,
-        Outcome::None => 2,
-        Outcome::Beyond => 3,
-    }
-}
-
-// The number in field i, one of the first six.
-fn number(s: State, i: usize) -> usize
-    requires { i < 6 }
-    ensures { result ≡ get_or (six_numbers s) i 0 }
-{
-    let numbers = [
-        s.settings.n,
-        s.settings.t,
-        s.settings.k,
-        s.own,
-        s.settings.sender,
-        s.next,
-    ];
-    numbers[i]
+    u8::from(outcome)
 }
 
 // Writes field i to as many bytes as it takes.
+#[tactic(auto, unfolding(crate::specs::State::field_bytes))]
 fn put_field(bytes: &mut [u8], s: State, i: usize)
     requires { (i < length widths) × (length bytes.old ≡ width_of i) }
     ensures { bytes.new ≡ field_bytes s i }
 {
-    if i < 6 {
-        put(bytes, number(s, i));
-        return;
+    match i {
+        0 => put(bytes, s.settings.n),
+        1 => put(bytes, s.settings.t),
+        2 => put(bytes, s.settings.k),
+        3 => put(bytes, s.own),
+        4 => put(bytes, s.settings.sender),
+        5 => put(bytes, s.next),
+        6 => put(bytes, usize::from(u8::from(s.outcome))),
+        7 => bitset::write_rows(bytes, &s.matrix, 16),
+        8 => bitset::write_rows(bytes, &s.weak, 16),
+        9 => put(bytes, usize::from(s.core)),
+        10 => put(bytes, usize::from(s.named)),
+        _ => put(bytes, usize::from(s.run)),
     }
-    if i == 6 {
-        let outcome = s.outcome;
-        put(bytes, outcome_number(outcome) as usize);
-        return;
-    }
-    if i == 7 {
-        let matrix = s.matrix;
-        bitset::write_rows(bytes, &matrix, 16);
-        return;
-    }
-    if i == 8 {
-        let weak = s.weak;
-        bitset::write_rows(bytes, &weak, 16);
-        return;
-    }
-    if i == 9 {
-        put(bytes, s.core as usize);
-        return;
-    }
-    if i == 10 {
-        put(bytes, s.named as usize);
-        return;
-    }
-    put(bytes, s.run as usize);
 }
 
 // Writes the fields one behind the other.
@@ -129,13 +91,11 @@ fn put_fields(bytes: &mut [u8], s: State)
     requires { length bytes.old ≡ state_length }
     ensures { bytes.new ≡ state_bytes s }
 {
-    let mut a: usize = 0;
-    let mut i: usize = 0;
-    while i < FIELDS {
+    let mut a = 0;
+    for i in 0..FIELDS {
         let e = a + width(i);
         put_field(&mut bytes[a..e], s, i);
         a = e;
-        i += 1;
     }
 }
 
@@ -144,17 +104,9 @@ fn put_fields(bytes: &mut [u8], s: State)
 pub fn write(s: State, bytes: &mut [u8])
     ensures { bytes.new ≡ cond (eqb (length bytes.old) state_length) (state_bytes s) bytes.old }
 {
-    if bytes.len() != length() {
-        return;
+    if bytes.len() == length() {
+        put_fields(bytes, s);
     }
-    put_fields(bytes, s);
-}
-
-// A byte as a wider number.
-fn wide(x: u8) -> usize
-    ensures { (result ≡ x) × (result < 256) }
-{
-    x as usize
 }
 
 // The number that bytes stand for, the lowest first.
@@ -162,11 +114,9 @@ fn get(bytes: &[u8]) -> usize
     requires { length bytes.now ≤ 8 }
     ensures { result ≡ number_of bytes.now }
 {
-    let mut x: usize = 0;
-    let mut i = bytes.len();
-    while 0 < i {
-        i -= 1;
-        x = 256 * x + wide(bytes[i]);
+    let mut x = 0;
+    for i in (0..bytes.len()).rev() {
+        x = 256 * x + usize::from(bytes[i]);
     }
     x
 }
@@ -181,9 +131,9 @@ fn field(bytes: &[u8], i: usize) -> &[u8]
     &bytes[a..e]
 }
 
-// The number in field i, one of the first seven.
+// The number in field i, one of the first six.
 fn field_number(bytes: &[u8], i: usize) -> usize
-    requires { (length bytes.now ≡ state_length) × (i < 7) }
+    requires { (length bytes.now ≡ state_length) × (i < 6) }
     ensures { result ≡ field_number bytes.now i }
 {
     get(field(bytes, i))
@@ -198,20 +148,12 @@ fn run_number(bytes: &[u8]) -> u16
     lists::word(f[0], f[1])
 }
 
-// The outcome of a number; open where it is no outcome's.
-fn outcome_from(x: usize) -> Outcome
-    ensures { result ≡ outcome_from x }
+// The outcome in the one byte of field 6.
+fn outcome(bytes: &[u8]) -> Outcome
+    requires { length bytes.now ≡ state_length }
+    ensures { result ≡ outcome_from (field_number bytes.now 6) }
 {
-    if x == 1 {
-        return Outcome::Agreed;
-    }
-    if x == 2 {
-        return Outcome::None;
-    }
-    if x == 3 {
-        return Outcome::Beyond;
-    }
-    Outcome::Open
+    Outcome::from(field(bytes, 6)[0])
 }
 
 // 16 rows of marks; empty ones where the bytes do not hold them.
@@ -220,46 +162,45 @@ pub fn get_rows(bytes: &[u8]) -> [u16; 16]
     ensures { result ≡ rows_in bytes.now }
 {
     let mut rows = [0u16; 16];
-    let mut i: usize = 0;
-    while i < 16 {
+    for i in 0..16 {
         rows[i] = bitset::read_row(bytes, 16, i);
-        i += 1;
     }
     rows
 }
 
 // The state in a buffer of its length.
+#[tactic(auto, unfolding(crate::specs::State::state_in))]
 fn state_in(bytes: &[u8]) -> State
     requires { length bytes.now ≡ state_length }
     ensures { result ≡ state_in bytes.now }
 {
-    let n = field_number(bytes, 0);
-    let t = field_number(bytes, 1);
-    let k = field_number(bytes, 2);
-    let own = field_number(bytes, 3);
-    let sender = field_number(bytes, 4);
-    let next = field_number(bytes, 5);
-    let outcome = outcome_from(field_number(bytes, 6));
-    let matrix = get_rows(field(bytes, 7));
-    let weak = get_rows(field(bytes, 8));
-    let core = bitset::read_row(field(bytes, 9), 16, 0);
-    let named = bitset::read_row(field(bytes, 10), 16, 0);
-    let run = run_number(bytes);
-    let settings = Settings { n, t, k, sender };
-    let first = protocol::initial(settings, own, run, next);
-    let told = protocol::with_call(first, next, outcome);
-    let voted = protocol::with_votes(told, matrix, weak);
-    let ready = protocol::with_core(voted, matrix, core);
-    protocol::with_named(ready, named)
+    State {
+        settings: Settings {
+            n: field_number(bytes, 0),
+            t: field_number(bytes, 1),
+            k: field_number(bytes, 2),
+            sender: field_number(bytes, 4),
+        },
+        own: field_number(bytes, 3),
+        run: run_number(bytes),
+        next: field_number(bytes, 5),
+        outcome: outcome(bytes),
+        matrix: get_rows(field(bytes, 7)),
+        weak: get_rows(field(bytes, 8)),
+        core: bitset::read_row(field(bytes, 9), 16, 0),
+        named: bitset::read_row(field(bytes, 10), 16, 0),
+    }
 }
 
 // The state that a buffer holds; the zero state where the buffer has another length.
 // Shut out: beyond for every outcome byte past 3; n 1 where the buffer has another length; must-fail/outcome_from_another_field.
+#[tactic(auto, unfolding(crate::specs::State::state_of))]
 pub fn read(bytes: &[u8]) -> State
     ensures { result ≡ state_of bytes.now }
 {
     if bytes.len() == length() {
-        return state_in(bytes);
+        state_in(bytes)
+    } else {
+        protocol::zero_state()
     }
-    protocol::zero_state()
 }

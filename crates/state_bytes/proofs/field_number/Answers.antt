@@ -12,8 +12,7 @@ get-requires c =
     omega (
       arith,
       ap length c.field.ensures ∙ length-field a.bytes.now a.i c.requires.0 (omega (arith, c.requires.1)),
-      number-width_le a.i
-          c.requires.1,
+      number-width_le a.i (omega (arith, c.requires.1)),
     )
 
 pub returns : goal.returns

@@ -1,9 +1,9 @@
 -- `get` meets its contract.
 use Rattle.state_bytes.proofs.Digits.{number_next, number_empty, number_more, number_fits}
 use Rattle.state_bytes.specs.State.{number_of}
-use lib.ListN.{length, drop}
+use lib.ListN.{length, drop, get_or}
 use native.Mathlib.Omega.{arith}
-use mathlib.Core.Path.{◌≡◌, sym, ap, ap₂, subst, ◌∙◌}
+use mathlib.Core.Path.{◌≡◌, sym, ap, ap₂, ◌∙◌, subst}
 use Prim.Native.Nat.{ℕ, ◌+◌, ◌-◌, ◌*◌, ◌^◌, ◌<◌}
 use Rattle.state_bytes.proofs.get.Goals as goal
 
@@ -11,48 +11,29 @@ pub loop-i-init : goal.loop-i-init
 loop-i-init c =
     let l = c.args.bytes.now in
     let m : length l - length l ≡ 0 = omega arith in
-    (omega arith, c.requires, sym (number_empty l), subst (λ (n : ℕ). 0 < 256 ^ n) (sym m) (omega arith))
-
-pub overflow_sub-i : goal.overflow_sub-i
-overflow_sub-i c = omega arith
+    (sym (number_empty l), subst (λ (n : ℕ). 0 < 256 ^ n) (sym m) (omega arith))
 
 pub overflow_mul-x : goal.overflow_mul-x
 overflow_mul-x c =
     let L = c.loop-i in
-    omega (arith, number_fits L.x 0 (length c.args.bytes.now - L.i) (omega arith) L.invariant.3 (omega arith))
-
-pub bounds-bytes-i : goal.bounds-bytes-i
-bounds-bytes-i c = omega arith
+    omega (arith, number_fits L.x 0 (length c.args.bytes.now - L.i) (omega arith) L.invariant.1 (omega arith))
 
 pub overflow_add-x : goal.overflow_add-x
 overflow_add-x c =
     let L = c.loop-i in
-    let w = c.wide in
-    omega (
-      arith,
-      w.ensures.0,
-      number_fits L.x w.result (length c.args.bytes.now - L.i) (omega arith) L.invariant.3 w.ensures.1,
-    )
-
-pub loop-i-smaller : goal.loop-i-smaller
-loop-i-smaller c = omega arith
+    let b = get_or c.args.bytes.now (L.i - 1) 0 in
+    let small : b < 256 = omega (arith, c.type_inv.bytes (L.i - 1)) in
+    omega (arith, c.from.ensures, number_fits L.x b (length c.args.bytes.now - L.i) (omega arith) L.invariant.1 small)
 
 pub loop-i-preserved : goal.loop-i-preserved
 loop-i-preserved c =
     let L = c.loop-i in
     let l = c.args.bytes.now in
-    let w = c.wide in
+    let b = get_or l (L.i - 1) 0 in
+    let small : b < 256 = omega (arith, c.type_inv.bytes (L.i - 1)) in
     let i : L.i - 1 + 1 ≡ L.i = omega arith in
     let m : length l - L.i + 1 ≡ length l - (L.i - 1) = omega arith in (
-      omega arith,
-      omega arith,
-      ap₂ (λ (x y : ℕ). 256 * x + y) (L.invariant.2 ∙ ap (λ (n : ℕ). number_of (drop n l)) (sym i)) w.ensures.0 ∙ sym (number_next l (L.i - 1) (omega arith)),
-      subst (λ (n : ℕ). 256 * L.x + w.result < 256 ^ n) m (number_more L.x w.result (length l - L.i) L.invariant.3 w.ensures.1),
+      ap₂ (λ (x y : ℕ). 256 * x + y) (L.invariant.0 ∙ ap (λ (n : ℕ). number_of (drop n l)) (sym i)) c.from.ensures
+          ∙ sym (number_next l (L.i - 1) (omega arith)),
+      rw c.from.ensures (subst (λ (n : ℕ). 256 * L.x + b < 256 ^ n) m (number_more L.x b (length l - L.i) L.invariant.1 small)),
     )
-
-pub returns : goal.returns
-returns c =
-    let L = c.loop-i in
-    let l = c.args.bytes.now in
-    let z : L.i ≡ 0 = omega arith in
-    L.invariant.2 ∙ ap (λ (n : ℕ). number_of (drop n l)) z

@@ -2,11 +2,8 @@
 use Rattle.state_bytes.specs.State.{number_of}
 use lib.ListN.{length, drop}
 use mathlib.Core.Path.{◌≡◌}
-use Prim.Native.Nat.{◌-◌, ◌^◌, ◌≤◌, ◌<◌}
+use Prim.Native.Nat.{◌-◌, ◌^◌, ◌<◌}
 use Rattle.state_bytes.proofs.get.Given as goal
 
 abbrev pub invariant-loop-i : goal.invariant-loop-i
-invariant-loop-i l = (l.i ≤ length l.bytes) × (length l.bytes ≤ 8) × (l.x ≡ number_of (drop l.i l.bytes)) × (l.x < 256 ^ (length l.bytes - l.i))
-
-abbrev pub decreases-loop-i : goal.decreases-loop-i
-decreases-loop-i l = l.i
+invariant-loop-i l = (l.x ≡ number_of (drop l.i l.bytes)) × (l.x < 256 ^ (length l.bytes - l.i))

@@ -9,29 +9,17 @@ use Prim.Native.Nat.{ℕ}
 use Rattle.state_bytes.proofs.get_rows.Goals as goal
 
 pub loop-i-init : goal.loop-i-init
-loop-i-init c = (omega arith, sym (filled_none (row_of 16 c.args.bytes.now) (replicate 16 0)))
-
-pub offset_bounds-rows-i : goal.offset_bounds-rows-i
-offset_bounds-rows-i c = omega arith
-
-pub bounds-rows-i : goal.bounds-rows-i
-bounds-rows-i c = omega arith
-
-pub overflow_add-i : goal.overflow_add-i
-overflow_add-i c = omega arith
-
-pub loop-i-smaller : goal.loop-i-smaller
-loop-i-smaller c = omega arith
+loop-i-init c = sym (filled_none (row_of 16 c.args.bytes.now) (replicate 16 0))
 
 pub loop-i-preserved : goal.loop-i-preserved
 loop-i-preserved c =
     let L = c.loop-i in
     let f = row_of 16 c.args.bytes.now in
-    (omega arith, fill_more f L.i (replicate 16 0) L.rows c.read_row.result (omega arith) L.invariant.1 c.read_row.ensures)
+    fill_more f L.i (replicate 16 0) L.rows c.read_row.result (omega arith) L.invariant c.read_row.ensures
 
 pub returns : goal.returns
 returns c =
     let L = c.loop-i in
     let f = row_of 16 c.args.bytes.now in
     let all : L.i ≡ 16 = omega arith in
-    L.invariant.1 ∙ ap (λ (n : ℕ). filled f n (replicate 16 0)) all ∙ filled_all f 16 (replicate 16 0) refl
+    L.invariant ∙ ap (λ (n : ℕ). filled f n (replicate 16 0)) all ∙ filled_all f 16 (replicate 16 0) refl

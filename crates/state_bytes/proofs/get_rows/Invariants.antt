@@ -3,11 +3,7 @@ use Rattle.lists.specs.Fill.{filled}
 use Rattle.bitset.specs.Row.{row_of}
 use lib.ListN.{replicate}
 use mathlib.Core.Path.{◌≡◌}
-use Prim.Native.Nat.{◌-◌, ◌≤◌}
 use Rattle.state_bytes.proofs.get_rows.Given as goal
 
 abbrev pub invariant-loop-i : goal.invariant-loop-i
-invariant-loop-i l = (l.i ≤ 16) × (l.rows ≡ filled (row_of 16 l.bytes) l.i (replicate 16 0))
-
-abbrev pub decreases-loop-i : goal.decreases-loop-i
-decreases-loop-i l = 16 - l.i
+invariant-loop-i l = l.rows ≡ filled (row_of 16 l.bytes) l.i (replicate 16 0)
