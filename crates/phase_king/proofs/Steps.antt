@@ -1,56 +1,28 @@
 -- What the functions' proofs cite: counts, and that the private functions' results are the matrices of the definitions.
-use mathlib.Core.Path.{◌≡◌, refl, sym, ap, ap₂, ◌∙◌}
-use mathlib.Core.Bool.{Bool, true, false, not, cond}
-use mathlib.Core.List.{List, [], ◌∷◌}
-use Prim.Native.Nat.{ℕ, zero, suc, ◌+◌, ◌-◌, ◌≤◌, ◌<◌}
+use mathlib.Core.Path.{◌≡◌, sym, ap, ap₂, ◌∙◌}
+use mathlib.Core.Bool.{Bool, not, cond}
+use mathlib.Core.List.{List}
+use Prim.Native.Nat.{ℕ, ◌+◌, ◌-◌, ◌≤◌, ◌<◌}
 use native.Mathlib.Omega.{arith}
 use lib.Dec.{leb, ltb}
-use lib.ListN.{get_or, take, replicate}
-use Rattle.std.specs.List.{count_by}
-use Rattle.std.proofs.lemmas.List.Sums.{sum_by-cons}
-use Rattle.lists.specs.Sum.{ind, count}
-use Rattle.lists.proofs.Sums.{count_none_below, count_none, count_front, count_ext, count-not}
+use lib.ListN.{replicate}
+use Rattle.lists.specs.Sum.{count}
+use Rattle.lists.proofs.Sums.{count_ext, count-not}
 use Rattle.lists.specs.Fill.{filled}
 use Rattle.lists.proofs.Fills.{get_or-filled, filled_ext}
 use Rattle.bitset.specs.Set.{member, set_of}
 use Rattle.bitset.specs.Row.{row_of}
-use Rattle.bitset.proofs.Laws.{member_over, set_of_members, row_lt}
+use Rattle.bitset.proofs.Laws.{set_of_members, row_lt}
 use Rattle.wire.specs.declared.slot.Layout.{Layout}
 use Rattle.wire.specs.Slot.{message_of}
 use Rattle.phase_king.specs.Bit.{zero_seen, one_seen, held, support, weak}
 use Rattle.phase_king.specs.Matrix.{limit, cell, matrix_of, said, king_says, first_matrix}
 use Rattle.phase_king.specs.Steps.{said_rows, king_row, IsMatrixOf}
 
--- ---- a count by the library's chain is that of the definitions
-count_taken : (p : ℕ → Bool) → p 0 ≡ false → (n : ℕ) (m : List ℕ) → count_by p (take n m) ≡ count n (λ i. p (get_or m i 0))
-count_taken p z zero m = sym (count_none_below _)
-count_taken p z (suc n) [] = sym (count_none (suc n) _ (λ i l. z))
-count_taken p z (suc n) (x ∷ m) =
-    sum_by-cons (λ y. cond (p y) 1 0) x (take n m) ∙ ap₂ (λ (a b : ℕ). a + b) (one (p x)) (count_taken p z n m) ∙ sym (count_front n (λ i. p (get_or (x ∷ m) i 0)))
-  where
-    one : (b : Bool) → cond b 1 0 ≡ ind b
-    one true = refl
-    one false = refl
-
-pub count_cells : (m : List ℕ) (n j : ℕ) → count_by (λ row. member row j) (take n m) ≡ count n (λ i. cell m i j)
-count_cells m n j = count_taken (λ row. member row j) (member_over 0 0 j (omega arith) (omega arith)) n m
-
-module _ (m : List ℕ) (n t j c : ℕ) (counted : c ≡ count_by (λ row. member row j) (take n m)) where
-  is_counted : c ≡ count n (λ i. cell m i j)
-  is_counted = counted ∙ count_cells m n j
-
-  -- those who don't say 1 say 0
-  pub zero_seen_is : leb (n - t) (n - c) ≡ zero_seen n t (λ i. cell m i j)
-  unfolding zero_seen
-  zero_seen_is = ap (leb (n - t)) (omega (arith, is_counted, count-not n (λ i. cell m i j)))
-
-  pub one_seen_is : leb (n - t) c ≡ one_seen n t (λ i. cell m i j)
-  unfolding one_seen
-  one_seen_is = ap (leb (n - t)) is_counted
-
-  pub held_is : ltb t c ≡ held n t (λ i. cell m i j)
-  unfolding held
-  held_is = ap (ltb t) is_counted
+-- those who don't say 1 say 0
+pub zero_seen_is : (n t : ℕ) (p : ℕ → Bool) (c : ℕ) → c ≡ count n p → leb (n - t) (n - c) ≡ zero_seen n t p
+unfolding zero_seen
+zero_seen_is n t p c e = ap (leb (n - t)) (omega (arith, count-not n p))
 
 -- what the slots' rows have
 cell_said : (inbox : List ℕ) (layout : Layout) (n r j i : ℕ) → n ≤ 16 → i < n → cell (said_rows inbox layout n r) i j ≡ said inbox layout n r j i

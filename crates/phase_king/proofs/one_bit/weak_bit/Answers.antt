@@ -5,7 +5,6 @@ use Rattle.lists.proofs.Tests.{cond_yes, cond_no}
 use Rattle.lists.specs.Sum.{count}
 use Rattle.phase_king.specs.Bit.{weak, support}
 use Rattle.phase_king.specs.Matrix.{cell}
-use Rattle.phase_king.proofs.Steps.{count_cells}
 use Rattle.phase_king.proofs.one_bit.weak_bit.Goals as goal
 use Rattle.phase_king.proofs.one_bit.weak_bit.Goals.{then-held_bit, else-held_bit}
 
@@ -14,7 +13,7 @@ unfolding weak support
 returns c =
     let a = c.args in
     ap₂ ltb
-    (c.count_bit.ensures ∙ count_cells c.if-held_bit.counted.now a.n a.j
+    (c.count_bit.ensures
     ∙ elim c.if-held_bit.branch [
       | then-held_bit w ↦
           ap (λ (m : Bor (List ℕ)). count a.n (λ i. cell m.now i a.j)) w.counted-is

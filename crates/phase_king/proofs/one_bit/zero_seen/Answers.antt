@@ -5,4 +5,4 @@ use Rattle.phase_king.proofs.Steps.{zero_seen_is}
 use Rattle.phase_king.proofs.one_bit.zero_seen.Goals as goal
 
 pub returns : goal.returns
-returns c = ap₂ leb c.saturating_sub.ensures c.saturating_sub-2.ensures ∙ zero_seen_is _ _ c.args.t _ _ c.count_bit.ensures
+returns c = ap₂ leb c.saturating_sub.ensures c.saturating_sub-2.ensures ∙ zero_seen_is _ c.args.t _ _ c.count_bit.ensures
