@@ -17,12 +17,6 @@ module _ (n t : ℕ) (layout : Layout) (slots before : List ℕ) where
       subst (λ (d : Result (Option ℕ) Refusal). Answers n t layout slots before (decoded_of d) before) (sym is)
       (e, (λ z. omega (arith, row_least x, z)), refl)
 
-  -- one that finds a block
-  pub block_answers : (after : List ℕ) (named : Option ℕ) → is_some named ≡ true → decode_refusal n t layout slots before ≡ 0
-      → Rebuilds n t layout slots named after → Answers n t layout slots before (decoded_of (Ok named)) after
-  block_answers after (Some x) e z r = (z, r.0, r.1)
-  block_answers after None e z r = absurd (true≢false (sym e))
-
   -- one that finds none
   pub beyond_answers : (block after : List ℕ) (named : Option ℕ) → is_some named ≡ false → decode_refusal n t layout slots before ≡ 0
       → Rebuilds n t layout slots named block → after ≡ replicate (block_length layout.length t) 0

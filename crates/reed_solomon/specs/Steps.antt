@@ -8,22 +8,22 @@
 --   is_right t xs ys m              the rule, for the values ys at the points xs
 --   NoneRight t xs ys               no bytes are right
 --   Pointed t xs                    xs are points of controllers, rising, enough for t + 1 bytes and not too many
---   Settled t xs ys found m         found says whether some bytes are right, and then m are
+--   Settled t xs ys found m         m are right where something is found; where nothing is, no bytes are
 --   Listed n layout slots count xs  the first count of xs are the points
 -- Bytes column by column:
 --   every w l j n          n bytes of l, every w-th from byte j on
 --   transposed h w l       the bytes of l, which has h rows of w bytes, column by column
 --   row_values k t cols x  the values at x of k polynomials of t + 1 coefficients that stand in cols column by column
 -- A block beside the slots:
---   counted m piece counts                               1 added to each count at which the message m has another byte than piece
---   Compared n t layout slots block named counts         the marks of the slots that are named, and how many present values differ in each stripe
---   FirstWrong t present counts from s                   by the counts, the stripes from `from` to s are right
---   Checked n t layout slots present block from named s  the marks of the slots that are named, and the stripes from `from` to s are right
---   Room t k block cols tmp                              what is lent has the lengths that the work on k stripes needs
---   Lent n t layout slots xs                             xs are the points of the present slots, enough for t + 1 bytes
---   Mended t layout slots xs s found before after        found says whether some bytes of stripe s are right; then those of the block after the call are, and
---                                                        the stripes before it stay
---   Rebuilds n t layout slots named block                what is left in the block: the block that meets the rule, with its marks; without marks, none meets it
+--   counted m piece counts                                   1 added to each count at which the message m has another byte than piece
+--   Compared n t layout slots block named counts             the marks of the slots that are named, and how many present values differ in each stripe
+--   RightUpTo right k from wrong                             the stripes from `from` on are right up to the one that is wrong, and all k where none is
+--   FirstWrong t present counts from wrong                   by the counts they are
+--   Checked n t layout slots present block from named wrong  the marks of the slots that are named, and the stripes from `from` on are right up to a wrong one
+--   Lent n t layout slots xs                                 xs are the points of the present slots, enough for t + 1 bytes
+--   Mended t layout slots xs s found before after            where something is found, the bytes of stripe s of the block after the call are right, and the
+--                                                            stripes before it stay; where nothing is, no bytes of stripe s are right
+--   Rebuilds n t layout slots named block                    the block that meets the rule, with its marks; without marks, none meets it
 use Rattle.std.specs.Prelude.{◌≡◌, Bool, true, false, not, List, ℕ, ◌+◌, ◌*◌, ◌≤◌, ◌<◌, eqb, leb, length, get_or, take, Option, MatchOption}
 use Rattle.lists.specs.Sum.{count, ind}
 use Rattle.lists.specs.Fill.{tabulate, filled}
@@ -66,9 +66,8 @@ pub record Pointed (t : ℕ) (xs : List ℕ) : Type 0 where
   pub few : length xs ≤ 16
   pub few-faulty : t ≤ 5
 
-pub record Settled (t : ℕ) (xs ys : List ℕ) (found : Bool) (m : List ℕ) : Type 0 where
-  pub right : found ≡ true → is_right t xs ys m ≡ true
-  pub none_right : found ≡ false → NoneRight t xs ys
+abbrev pub Settled : {A : Type 0} → ℕ → List ℕ → List ℕ → Option A → List ℕ → Type 0
+Settled t xs ys found m = MatchOption found (NoneRight t xs ys) (λ _. is_right t xs ys m ≡ true)
 
 pub record Listed (n : ℕ) (layout : Layout) (slots : List ℕ) (count : ℕ) (xs : List ℕ) : Type 0 where
   pub size : count ≡ length (points n layout slots)
@@ -90,32 +89,28 @@ pub record Compared (n t : ℕ) (layout : Layout) (slots block : List ℕ) (name
   pub named_are : named ≡ named_of n t layout slots block
   pub counts_are : counts ≡ tabulate (λ s. differing n layout slots s (stripe t block s)) layout.length
 
-pub record FirstWrong (t present : ℕ) (counts : List ℕ) (from s : ℕ) : Type 0 where
-  pub past : from ≤ s
-  pub within : s ≤ length counts
-  pub right : (i : ℕ) → from ≤ i → i < s → 2 * get_or counts i 0 + t + 1 ≤ present
+abbrev pub RightUpTo : (ℕ → Type 0) → (k from : ℕ) → Option ℕ → Type 0
+RightUpTo right k from wrong =
+    MatchOption wrong ((i : ℕ) → from ≤ i → i < k → right i) (λ s. (from ≤ s) × (s < k) × ((i : ℕ) → from ≤ i → i < s → right i))
 
-pub record Checked (n t : ℕ) (layout : Layout) (slots : List ℕ) (present : ℕ) (block : List ℕ) (from named s : ℕ) : Type 0 where
+abbrev pub FirstWrong : (t present : ℕ) → List ℕ → ℕ → Option ℕ → Type 0
+FirstWrong t present counts from wrong = RightUpTo (λ i. 2 * get_or counts i 0 + t + 1 ≤ present) (length counts) from wrong
+
+pub record Checked (n t : ℕ) (layout : Layout) (slots : List ℕ) (present : ℕ) (block : List ℕ) (from named : ℕ) (wrong : Option ℕ) : Type 0 where
   pub named_are : named ≡ named_of n t layout slots block
-  pub past : from ≤ s
-  pub within : s ≤ layout.length
-  pub right : (i : ℕ) → from ≤ i → i < s → 2 * differing n layout slots i (stripe t block i) + t + 1 ≤ present
-
-pub record Room (t k : ℕ) (block cols tmp : List ℕ) : Type 0 where
-  pub few : k ≤ 128
-  pub block_size : length block ≡ k * (t + 1)
-  pub cols_size : length cols ≡ k * (t + 1)
-  pub tmp_size : length tmp ≡ k
+  pub right : RightUpTo (λ i. 2 * differing n layout slots i (stripe t block i) + t + 1 ≤ present) layout.length from wrong
 
 pub record Lent (n t : ℕ) (layout : Layout) (slots xs : List ℕ) : Type 0 where
   pub coded : Coded n t layout.length
   pub are : xs ≡ points n layout slots
   pub pointed : Pointed t xs
 
-pub record Mended (t : ℕ) (layout : Layout) (slots xs : List ℕ) (s : ℕ) (found : Bool) (before after : List ℕ) : Type 0 where
-  pub right : found ≡ true → is_right t xs (column layout slots s xs) (stripe t after s) ≡ true
-  pub kept : found ≡ true → take (s * (t + 1)) after ≡ take (s * (t + 1)) before
-  pub none_right : found ≡ false → NoneRight t xs (column layout slots s xs)
+abbrev pub Mended : {A : Type 0} → ℕ → Layout → (slots xs : List ℕ) → ℕ → Option A → (before after : List ℕ) → Type 0
+Mended t layout slots xs s found before after =
+    MatchOption found (NoneRight t xs (column layout slots s xs))
+    (λ _.
+    (is_right t xs (column layout slots s xs) (stripe t after s) ≡ true)
+    × (take (s * (t + 1)) after ≡ take (s * (t + 1)) before))
 
 abbrev pub Rebuilds : (n t : ℕ) → Layout → List ℕ → Option ℕ → List ℕ → Type 0
 Rebuilds n t layout slots named block =

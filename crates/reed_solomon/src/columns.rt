@@ -7,12 +7,8 @@ pub(crate) fn take_column(l: &[u8], w: usize, j: usize, out: &mut [u8])
     requires { (length l.now ≡ length out.old * w) × (j < w) × (w ≤ 128) }
     ensures { out.new ≡ every w l.now j (length out.old) }
 {
-    let mut at = j;
-    let mut s: usize = 0;
-    while s < out.len() {
-        out[s] = l[at];
-        at += w;
-        s += 1;
+    for (s, byte) in out.iter_mut().enumerate() {
+        *byte = l[s * w + j];
     }
 }
 
@@ -21,26 +17,22 @@ pub(crate) fn transpose(l: &[u8], h: usize, w: usize, out: &mut [u8])
     requires { (length l.now ≡ h * w) × (length out.old ≡ h * w) × (h ≤ 128) × (w ≤ 128) }
     ensures { out.new ≡ transposed h w l.now }
 {
-    let mut j: usize = 0;
-    while j < w {
+    for j in 0..w {
         let a = j * h;
         let e = a + h;
         take_column(l, w, j, &mut out[a..e]);
-        j += 1;
     }
 }
 
 // The values at x of polynomials with t + 1 coefficients, as many as out has bytes, whose coefficients stand in cols column by column, into out.
 pub(crate) fn values(cols: &[u8], t: usize, x: u8, out: &mut [u8])
-    requires { (length cols.now ≡ length out.old * (t + 1)) × (1 ≤ length out.old) × (length out.old ≤ 128) × (t ≤ 5) }
+    requires { (length cols.now ≡ length out.old * (t + 1)) × (length out.old ≤ 128) × (t ≤ 5) }
     ensures { out.new ≡ row_values (length out.old) t cols.now x }
 {
     let rows = out.len();
-    let mut a = t * rows;
-    wire::copy(out, &cols[a..]);
-    while 0 < a {
-        let e = a;
-        a -= rows;
-        gf256::horner_at_point(out, x, &cols[a..e]);
+    out.copy_from_slice(&cols[t * rows..]);
+    for j in (0..t).rev() {
+        let a = j * rows;
+        gf256::horner_at_point(out, x, &cols[a..a + rows]);
     }
 }

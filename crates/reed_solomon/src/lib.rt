@@ -5,6 +5,7 @@
 mod columns;
 mod comparison;
 mod guessing;
+mod pieces;
 mod settling;
 
 ghost use Rattle.std.specs.Prelude.{◌≡◌, ◌+◌, ◌*◌, ◌≤◌, ◌<◌, eqb, length, take, Ok};
@@ -13,8 +14,9 @@ ghost use Rattle.settings.specs.Number.{number_of};
 ghost use Rattle.wire.specs.Length.{block_length};
 ghost use Rattle.reed_solomon.specs.Encode.{piece_of, encode_fits, encoded, encode_of, is_ready};
 ghost use Rattle.reed_solomon.specs.Decode.{has_piece, decode_fits, decode_refusal, decoded_of, Answers};
-ghost use Rattle.reed_solomon.specs.Steps.{Pointed, Mended, Rebuilds, Lent, Room, Listed};
+ghost use Rattle.reed_solomon.specs.Steps.{Mended, Rebuilds, Listed};
 
+use pieces::{Choice, Pieces};
 use settings::Refusal;
 use wire::Layout;
 
@@ -31,9 +33,8 @@ fn list_points(n: usize, layout: Layout, slots: &[u8], xs: &mut [u8]) -> usize
     ensures { Listed n layout slots.now result xs.new }
 {
     let mut count: usize = 0;
-    let mut j: usize = 0;
-    while j < n {
-        j += 1;
+    for i in 0..n {
+        let j = i + 1;
         if has_piece(slots, layout, j) {
             xs[count] = j as u8;
             count += 1;
@@ -44,185 +45,109 @@ fn list_points(n: usize, layout: Layout, slots: &[u8], xs: &mut [u8]) -> usize
 
 // A guess at the stripes of the block from `from` on; those before it stay.
 fn guess_rest(
-    slots: &[u8],
-    t: usize,
-    layout: Layout,
+    pieces: &Pieces,
     from: usize,
-    xs: &[u8],
-    marks: u16,
-    start: usize,
+    choice: Choice,
     block: &mut [u8],
-    cols: &mut [u8],
-    tmp: &mut [u8],
+    cols: &mut [u8; 768],
+    tmp: &mut [u8; 128],
 )
-    requires { Pointed t xs.now × (start ≤ length xs.now) × (from ≤ layout.length) × Room t layout.length block.old cols.old tmp.old }
-    ensures { take (from * (t + 1)) block.new ≡ take (from * (t + 1)) block.old }
+    requires { (from ≤ pieces.now.layout.length) × (length block.old ≡ pieces.now.layout.length * (pieces.now.t + 1)) }
+    ensures { take (from * (pieces.now.t + 1)) block.new ≡ take (from * (pieces.now.t + 1)) block.old }
 {
-    let rows = layout.length - from;
-    let size = rows * (t + 1);
-    let a = from * (t + 1);
+    let rows = pieces.layout.length - from;
+    let size = rows * (pieces.t + 1);
+    let a = from * (pieces.t + 1);
     guessing::guess(
-        slots,
-        t,
-        layout,
+        pieces,
         from,
-        xs,
-        marks,
-        start,
+        choice,
         &mut cols[..size],
         &mut tmp[..rows],
         &mut block[a..],
     );
 }
 
-// Stripe s of the block is decoded, and those after it are guessed; those before it stay.
+// Stripe s of the block is decoded, and those after it are guessed; those before it stay. None where no bytes of stripe s are right.
 fn mend(
-    slots: &[u8],
-    t: usize,
-    layout: Layout,
+    pieces: &Pieces,
     s: usize,
-    xs: &[u8],
     marks: u16,
     block: &mut [u8],
-    cols: &mut [u8],
-    tmp: &mut [u8],
-) -> settling::Search
-    requires { Pointed t xs.now × (s < layout.length) × Room t layout.length block.old cols.old tmp.old }
-    ensures { Mended t layout slots.now xs.now s result.found block.old block.new }
+    cols: &mut [u8; 768],
+    tmp: &mut [u8; 128],
+) -> Option<Choice>
+    requires { (s < pieces.now.layout.length) × (length block.old ≡ pieces.now.layout.length * (pieces.now.t + 1)) }
+    ensures { Mended pieces.now.t pieces.now.layout pieces.now.slots.now pieces.now.points.now s result block.old block.new }
 {
-    let a = s * (t + 1);
-    let e = a + (t + 1);
-    let search = settling::settle(slots, t, layout, s, xs, marks, &mut block[a..e]);
-    if search.found {
-        guess_rest(
-            slots,
-            t,
-            layout,
-            s + 1,
-            xs,
-            search.marks,
-            search.start,
-            block,
-            cols,
-            tmp,
-        );
-    }
-    search
+    let a = s * (pieces.t + 1);
+    let e = a + (pieces.t + 1);
+    let choice = settling::settle(pieces, s, marks, &mut block[a..e])?;
+    guess_rest(pieces, s + 1, choice, block, cols, tmp);
+    Some(choice)
 }
 
-// The block with every stripe right and the marks of the slots that do not hold their piece of it, from one that was guessed: its first wrong stripe
+// The block with every stripe right, from one that was guessed, and the marks of the slots that do not hold their piece of it: its first wrong stripe
 // is decoded, and the rest guessed anew, until none is wrong.
 fn mend_all(
-    n: usize,
-    t: usize,
-    layout: Layout,
-    slots: &[u8],
-    xs: &[u8],
+    pieces: &Pieces,
     marks: u16,
     block: &mut [u8],
-    cols: &mut [u8],
-    tmp: &mut [u8],
+    cols: &mut [u8; 768],
+    tmp: &mut [u8; 128],
 ) -> Option<u16>
-    requires { Lent n t layout slots.now xs.now × Room t layout.length block.old cols.old tmp.old }
-    ensures { Rebuilds n t layout slots.now result block.new }
+    requires { length block.old ≡ pieces.now.layout.length * (pieces.now.t + 1) }
+    ensures { Rebuilds pieces.now.n pieces.now.t pieces.now.layout pieces.now.slots.now result block.new }
 {
     let mut known = marks;
-    let first = comparison::check(n, t, layout, slots, xs.len(), 0, block, cols, tmp);
-    let mut named = first.named;
-    let mut s = first.wrong;
-    while s < layout.length {
-        let search = mend(slots, t, layout, s, xs, known, block, cols, tmp);
-        if !search.found {
-            return None;
-        }
-        known = search.marks;
-        let next = comparison::check(n, t, layout, slots, xs.len(), s + 1, block, cols, tmp);
-        named = next.named;
-        s = next.wrong;
+    let mut compared = comparison::check(pieces, 0, block, cols, tmp);
+    while let Some(s) = compared.wrong {
+        known = mend(pieces, s, known, block, cols, tmp)?.marks;
+        compared = comparison::check(pieces, s + 1, block, cols, tmp);
     }
-    Some(named)
+    Some(compared.named)
 }
 
-// The block and its marks from the present slots, whose points are xs. The last stripe is decoded first, so that slots that turned false are known,
-// and all are guessed from there.
-fn decode_present(
-    n: usize,
-    t: usize,
-    layout: Layout,
-    slots: &[u8],
-    xs: &[u8],
-    block: &mut [u8],
-    cols: &mut [u8],
-    tmp: &mut [u8],
-) -> Option<u16>
-    requires { Lent n t layout slots.now xs.now × Room t layout.length block.old cols.old tmp.old }
-    ensures { Rebuilds n t layout slots.now result block.new }
+// The block and its marks from the present slots. The last stripe is decoded first, so that slots that turned false are known, and all are guessed from
+// there.
+fn decode_present(pieces: &Pieces, block: &mut [u8]) -> Option<u16>
+    requires { length block.old ≡ pieces.now.layout.length * (pieces.now.t + 1) }
+    ensures { Rebuilds pieces.now.n pieces.now.t pieces.now.layout pieces.now.slots.now result block.new }
 {
     let mut m = [0u8; 6];
-    let search = settling::settle(slots, t, layout, layout.length - 1, xs, 0, &mut m[..t + 1]);
-    if !search.found {
-        return None;
-    }
-    guess_rest(
-        slots,
-        t,
-        layout,
-        0,
-        xs,
-        search.marks,
-        search.start,
-        block,
-        cols,
-        tmp,
-    );
-    mend_all(n, t, layout, slots, xs, search.marks, block, cols, tmp)
-}
-
-// The same, with bytes of its own to work with.
-fn decode_points(
-    n: usize,
-    t: usize,
-    layout: Layout,
-    slots: &[u8],
-    xs: &[u8],
-    block: &mut [u8],
-) -> Option<u16>
-    requires { Lent n t layout slots.now xs.now × (length block.old ≡ layout.length * (t + 1)) }
-    ensures { Rebuilds n t layout slots.now result block.new }
-{
-    let size = block.len();
-    let k = layout.length;
     let mut cols = [0u8; 768];
     let mut tmp = [0u8; 128];
-    decode_present(
-        n,
-        t,
-        layout,
-        slots,
-        xs,
-        block,
-        &mut cols[..size],
-        &mut tmp[..k],
-    )
+    let last = pieces.layout.length - 1;
+    let w = pieces.t + 1;
+    let choice = settling::settle(pieces, last, 0, &mut m[..w])?;
+    guess_rest(pieces, 0, choice, block, &mut cols, &mut tmp);
+    mend_all(pieces, choice.marks, block, &mut cols, &mut tmp)
 }
 
-// The same from n slots, the points of the present ones of which are written to xs. Fewer than t + 1 determine nothing.
+// The same from n slots, the points of the present ones of which are written to `points`. Fewer than t + 1 determine nothing.
 fn decode_slots(
     n: usize,
     t: usize,
     layout: Layout,
     slots: &[u8],
-    xs: &mut [u8],
+    points: &mut [u8],
     block: &mut [u8],
 ) -> Option<u16>
-    requires { Coded n t layout.length × (n ≤ length xs.old) × (length block.old ≡ layout.length * (t + 1)) }
+    requires { Coded n t layout.length × (n ≤ length points.old) × (length block.old ≡ layout.length * (t + 1)) }
     ensures { Rebuilds n t layout slots.now result block.new }
 {
-    let count = list_points(n, layout, slots, xs);
+    let count = list_points(n, layout, slots, points);
     if count <= t {
         return None;
     }
-    decode_points(n, t, layout, slots, &xs[..count], block)
+    let pieces = Pieces {
+        n,
+        t,
+        layout,
+        slots,
+        points: &points[..count],
+    };
+    decode_present(&pieces, block)
 }
 
 // Whether a list is exactly as long as a block of k stripes.
@@ -258,8 +183,8 @@ fn rebuild(n: usize, t: usize, layout: Layout, slots: &[u8], block: &mut [u8]) -
     requires { decode_refusal n t layout slots.now block.old ≡ 0 }
     ensures { Answers n t layout slots.now block.old (decoded_of (Ok result)) block.new }
 {
-    let mut xs = [0u8; 16];
-    let named = decode_slots(n, t, layout, slots, &mut xs, block);
+    let mut points = [0u8; 16];
+    let named = decode_slots(n, t, layout, slots, &mut points, block);
     if named.is_none() {
         block.fill(0);
     }
@@ -293,9 +218,7 @@ fn encode_columns(t: usize, block: &[u8], x: u8, column: &mut [u8], piece: &mut 
 {
     let w = t + 1;
     columns::take_column(block, w, t, piece);
-    let mut j = t;
-    while 0 < j {
-        j -= 1;
+    for j in (0..t).rev() {
         columns::take_column(block, w, j, column);
         gf256::horner_at_point(piece, x, column);
     }

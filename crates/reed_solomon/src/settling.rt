@@ -1,30 +1,19 @@
 // One stripe by itself, from the values at the points of the present slots: guesses through one set of points after the other, and interpolation with
 // errors where all of them fail.
-ghost use Rattle.std.specs.Prelude.{◌≡◌, true, ◌+◌, ◌≤◌, ◌<◌, ltb, length};
+ghost use Rattle.std.specs.Prelude.{◌≡◌, true, ◌+◌, ◌≤◌, length, OnSome};
 ghost use Rattle.reed_solomon.specs.Decode.{received};
-ghost use Rattle.reed_solomon.specs.Steps.{column, values_at, unequal, different, is_right, Pointed, Settled};
+ghost use Rattle.reed_solomon.specs.Steps.{column, values_at, unequal, different, is_right, Settled};
 
 use crate::guessing;
-use wire::Layout;
-
-// From where the next guess is made, where the stripe looked at was found: the marks of the points that were seen to be false, by index, and the index
-// to start from.
-#[derive(Clone, Copy)]
-pub(crate) struct Search {
-    pub(crate) found: bool,
-    pub(crate) marks: u16,
-    pub(crate) start: usize,
-}
+use crate::pieces::{Choice, Pieces};
 
 // The values of the polynomial m at the points xs, into out.
 fn values(m: &[u8], xs: &[u8], out: &mut [u8])
     requires { length out.old ≡ length xs.now }
     ensures { out.new ≡ values_at m.now xs.now }
 {
-    wire::silence(out);
-    let mut j = m.len();
-    while 0 < j {
-        j -= 1;
+    out.fill(0);
+    for j in (0..m.len()).rev() {
         gf256::horner_at_points(out, xs, m[j]);
     }
 }
@@ -35,12 +24,9 @@ fn mark_unequal(a: &[u8], b: &[u8]) -> u16
     ensures { result ≡ unequal a.now b.now }
 {
     let mut marks: u16 = 0;
-    let mut i: usize = 0;
-    while i < a.len() {
-        let index = i;
-        i += 1;
-        if a[index] != b[index] {
-            marks = bitset::insert(marks, index);
+    for (i, x) in a.iter().enumerate() {
+        if *x != b[i] {
+            marks = bitset::insert(marks, i);
         }
     }
     marks
@@ -74,108 +60,62 @@ fn is_right(xs: &[u8], ys: &[u8], t: usize, m: &[u8]) -> bool
 }
 
 // The value of stripe s in slot j; 0 where the slot is absent.
-fn received(slots: &[u8], layout: Layout, s: usize, j: usize) -> u8
-    ensures { result ≡ received layout slots.now s j }
+fn received(pieces: &Pieces, s: usize, j: usize) -> u8
+    ensures { result ≡ received pieces.now.layout pieces.now.slots.now s j }
 {
-    let m = wire::message(slots, layout, j);
-    if s < m.len() {
-        return m[s];
-    }
-    0
+    let m = wire::message(pieces.slots, pieces.layout, j);
+    m.get(s).copied().unwrap_or(0)
 }
 
-// The values of stripe s at the points xs, into ys.
-fn gather(slots: &[u8], layout: Layout, s: usize, xs: &[u8], ys: &mut [u8])
-    requires { length ys.old ≡ length xs.now }
-    ensures { ys.new ≡ column layout slots.now s xs.now }
+// The values of stripe s at the points, into ys.
+fn gather(pieces: &Pieces, s: usize, ys: &mut [u8])
+    requires { length ys.old ≡ length pieces.now.points.now }
+    ensures { ys.new ≡ column pieces.now.layout pieces.now.slots.now s pieces.now.points.now }
 {
-    let mut i: usize = 0;
-    while i < xs.len() {
-        ys[i] = received(slots, layout, s, xs[i] as usize);
-        i += 1;
+    for (i, y) in ys.iter_mut().enumerate() {
+        *y = received(pieces, s, pieces.points[i] as usize);
     }
 }
 
 // A guess at stripe s, into m.
-fn guess_stripe(
-    slots: &[u8],
-    t: usize,
-    layout: Layout,
-    s: usize,
-    xs: &[u8],
-    marks: u16,
-    start: usize,
-    m: &mut [u8],
-)
-    requires { Pointed t xs.now × (start ≤ length xs.now) × (length m.old ≡ t + 1) }
+fn guess_stripe(pieces: &Pieces, s: usize, choice: Choice, m: &mut [u8])
+    requires { length m.old ≡ pieces.now.t + 1 }
 {
-    let w = t + 1;
+    let w = pieces.t + 1;
     let mut cols = [0u8; 6];
     let mut tmp = [0u8; 1];
-    guessing::guess(
-        slots,
-        t,
-        layout,
-        s,
-        xs,
-        marks,
-        start,
-        &mut cols[..w],
-        &mut tmp,
-        m,
-    );
+    guessing::guess(pieces, s, choice, &mut cols[..w], &mut tmp, m);
 }
 
-// Guesses at stripe s, whose values at the points xs are ys, through one set of unmarked points after the other, into m, until one is right: the index
-// at which the points of that one start; xs.len() where none is.
-fn try_guesses(
-    slots: &[u8],
-    t: usize,
-    layout: Layout,
-    s: usize,
-    xs: &[u8],
-    marks: u16,
-    ys: &[u8],
-    m: &mut [u8],
-) -> usize
-    requires { (length ys.now ≡ length xs.now) × Pointed t xs.now × (length m.old ≡ t + 1) }
-    ensures { (result ≤ length xs.now) × (result < length xs.now → is_right t xs.now ys.now m.new ≡ true) }
+// Guesses at stripe s, whose values at the points are ys, through one set of unmarked points after the other, into m, until one is right: the index
+// at which the points of that one start.
+fn try_guesses(pieces: &Pieces, s: usize, marks: u16, ys: &[u8], m: &mut [u8]) -> Option<usize>
+    requires { (length ys.now ≡ length pieces.now.points.now) × (length m.old ≡ pieces.now.t + 1) }
+    ensures { OnSome result (is_right pieces.now.t pieces.now.points.now ys.now m.new ≡ true) }
 {
-    let mut start: usize = 0;
-    while start < xs.len() {
-        guess_stripe(slots, t, layout, s, xs, marks, start, m);
-        if is_right(xs, ys, t, m) {
-            return start;
+    for start in (0..pieces.points.len()).step_by(pieces.t + 1) {
+        guess_stripe(pieces, s, Choice { marks, start }, m);
+        if is_right(pieces.points, ys, pieces.t, m) {
+            return Some(start);
         }
-        start += t + 1;
     }
-    xs.len()
+    None
 }
 
-// The right bytes of stripe s, whose values at the points xs are ys, into m, by guesses and else by interpolation with errors: the index from which to
-// take points for the next guess; xs.len() where no bytes are right.
-fn find(
-    slots: &[u8],
-    t: usize,
-    layout: Layout,
-    s: usize,
-    xs: &[u8],
-    marks: u16,
-    ys: &[u8],
-    m: &mut [u8],
-) -> usize
-    requires { (length ys.now ≡ length xs.now) × Pointed t xs.now × (length m.old ≡ t + 1) }
-    ensures { Settled t xs.now ys.now (ltb result (length xs.now)) m.new × (result ≤ length xs.now) }
+// The right bytes of stripe s, whose values at the points are ys, into m, by guesses and else by interpolation with errors: the index from which to
+// take points for the next guess; none where no bytes are right.
+fn find(pieces: &Pieces, s: usize, marks: u16, ys: &[u8], m: &mut [u8]) -> Option<usize>
+    requires { (length ys.now ≡ length pieces.now.points.now) × (length m.old ≡ pieces.now.t + 1) }
+    ensures { Settled pieces.now.t pieces.now.points.now ys.now result m.new }
 {
-    let start = try_guesses(slots, t, layout, s, xs, marks, ys, m);
-    if start < xs.len() {
-        return start;
+    if let Some(start) = try_guesses(pieces, s, marks, ys, m) {
+        return Some(start);
     }
-    interpolation::candidate(xs, ys, m);
-    if is_right(xs, ys, t, m) {
-        return 0;
+    interpolation::candidate(pieces.points, ys, m);
+    if is_right(pieces.points, ys, pieces.t, m) {
+        return Some(0);
     }
-    xs.len()
+    None
 }
 
 // The marks of both sets; where these are too many, the new ones alone.
@@ -187,45 +127,33 @@ fn add_marks(marks: u16, new: u16, most: usize) -> u16 {
     both
 }
 
-// The bytes of stripe s from the values at the points xs, into m, by way of ys; whether they are right, and from where to guess next. The points whose
-// values differ are marked, as long as t + 1 are left.
+// The bytes of stripe s from the values at the points, into m, by way of ys, and which points to guess through next; none where no bytes are right.
+// The points whose values differ are marked, as long as t + 1 are left.
 fn settle_column(
-    slots: &[u8],
-    t: usize,
-    layout: Layout,
+    pieces: &Pieces,
     s: usize,
-    xs: &[u8],
     marks: u16,
     ys: &mut [u8],
     m: &mut [u8],
-) -> Search
-    requires { (length ys.old ≡ length xs.now) × Pointed t xs.now × (length m.old ≡ t + 1) }
-    ensures { Settled t xs.now (column layout slots.now s xs.now) result.found m.new × (result.start ≤ length xs.now) }
+) -> Option<Choice>
+    requires { (length ys.old ≡ length pieces.now.points.now) × (length m.old ≡ pieces.now.t + 1) }
+    ensures { Settled pieces.now.t pieces.now.points.now (column pieces.now.layout pieces.now.slots.now s pieces.now.points.now) result m.new }
 {
-    gather(slots, layout, s, xs, ys);
-    let start = find(slots, t, layout, s, xs, marks, ys, m);
-    let new = mark_different(xs, ys, m);
-    Search {
-        found: start < xs.len(),
-        marks: add_marks(marks, new, xs.len() - t - 1),
+    gather(pieces, s, ys);
+    let start = find(pieces, s, marks, ys, m)?;
+    let new = mark_different(pieces.points, ys, m);
+    Some(Choice {
+        marks: add_marks(marks, new, pieces.points.len() - pieces.t - 1),
         start,
-    }
+    })
 }
 
 // The same, with bytes of its own for the values received.
-pub(crate) fn settle(
-    slots: &[u8],
-    t: usize,
-    layout: Layout,
-    s: usize,
-    xs: &[u8],
-    marks: u16,
-    m: &mut [u8],
-) -> Search
-    requires { Pointed t xs.now × (length m.old ≡ t + 1) }
-    ensures { Settled t xs.now (column layout slots.now s xs.now) result.found m.new × (result.start ≤ length xs.now) }
+pub(crate) fn settle(pieces: &Pieces, s: usize, marks: u16, m: &mut [u8]) -> Option<Choice>
+    requires { length m.old ≡ pieces.now.t + 1 }
+    ensures { Settled pieces.now.t pieces.now.points.now (column pieces.now.layout pieces.now.slots.now s pieces.now.points.now) result m.new }
 {
-    let n = xs.len();
+    let n = pieces.points.len();
     let mut ys = [0u8; 16];
-    settle_column(slots, t, layout, s, xs, marks, &mut ys[..n], m)
+    settle_column(pieces, s, marks, &mut ys[..n], m)
 }

@@ -1,11 +1,7 @@
 -- `first_wrong` meets its contract. The invariant: the stripes from `from` to s are right.
-use Prim.Native.Nat.{◌-◌}
-use lib.ListN.{length}
-use Rattle.reed_solomon.specs.Steps.{FirstWrong}
+use Prim.Native.Nat.{ℕ, ◌+◌, ◌*◌, ◌≤◌, ◌<◌}
+use lib.ListN.{get_or}
 use Rattle.reed_solomon.proofs.comparison.first_wrong.Given as goal
 
 abbrev pub invariant-loop-s : goal.invariant-loop-s
-invariant-loop-s l = FirstWrong l.t l.present l.counts l.from l.s
-
-abbrev pub decreases-loop-s : goal.decreases-loop-s
-decreases-loop-s l = length l.counts - l.s
+invariant-loop-s l = (i : ℕ) → l.from ≤ i → i < l.s → 2 * get_or l.counts i 0 + l.t + 1 ≤ l.present

@@ -1,19 +1,16 @@
 -- `received` meets its contract.
-use Rattle.wire.specs.Slot.{message_of}
-use lib.ListN.{length}
-use Rattle.reed_solomon.specs.Decode.{received}
-use Rattle.polynomial.proofs.Laws.{past_end}
-use lib.ListN.{get_or}
+use mathlib.Core.Path.{ap, ◌∙◌}
+use mathlib.Core.List.{List}
+use Prim.Native.Nat.{ℕ}
 use native.Mathlib.Omega.{arith}
-use mathlib.Core.Path.{sym, ap}
+use lib.ListN.{get_or}
+use Rattle.std.proofs.Common.{Option}
+use Rattle.std.specs.Option.{unwrap_or}
+use Rattle.reed_solomon.specs.Decode.{received}
 use Rattle.reed_solomon.proofs.settling.received.Goals as goal
-
-pub returns-then-s-m : goal.returns-then-s-m
-unfolding received
-returns-then-s-m c = ap (λ m. get_or m c.args.s 0) c.message-m.ensures
 
 pub returns : goal.returns
 unfolding received
 returns c =
-    let a = c.args in
-    sym (past_end (message_of a.slots.now a.layout a.j) a.s (omega (arith, ap length c.message-m.ensures)))
+    c.unwrap_or.ensures ∙ ap (λ (o : Option ℕ). unwrap_or o 0) c.copied.ensures ∙ c.get.ensures.lookup.4 (omega arith) 0
+    ∙ ap (λ (m : List ℕ). get_or m c.args.s 0) c.message-m.ensures

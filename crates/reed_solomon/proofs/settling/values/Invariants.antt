@@ -1,12 +1,7 @@
 -- `values` meets its contract. The invariant: the values of the coefficients from index j on.
 use mathlib.Core.Path.{◌≡◌}
-use Prim.Native.Nat.{◌≤◌}
-use lib.ListN.{length}
 use Rattle.reed_solomon.proofs.Right.{values_from}
 use Rattle.reed_solomon.proofs.settling.values.Given as goal
 
 abbrev pub invariant-loop-j : goal.invariant-loop-j
-invariant-loop-j l = (l.j ≤ length l.m) × (length l.out ≡ length l.initial.out) × (l.out ≡ values_from l.m l.xs l.j)
-
-abbrev pub decreases-loop-j : goal.decreases-loop-j
-decreases-loop-j l = l.j
+invariant-loop-j l = l.out ≡ values_from l.m l.xs l.j
