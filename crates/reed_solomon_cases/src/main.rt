@@ -11,8 +11,47 @@
 
 ghost use Rattle.std.specs.Prelude.{◌≡◌, ◌<◌, ◌≤◌};
 
-use reed_solomon::Decoded;
+use settings::Refusal;
 use std::io;
+
+// What makes a piece false: all its bytes, those of one stripe, that its slot is absent, or that it is the piece of the other block.
+#[derive(Clone, Copy)]
+enum Fault {
+    Bytes,
+    Stripe,
+    Absent,
+    Other,
+}
+
+const FAULTS: [Fault; 4] = [Fault::Bytes, Fault::Stripe, Fault::Absent, Fault::Other];
+
+// What is made of a block: its pieces alone, calls with slots that are false by one fault, or by any of the four.
+#[derive(Clone, Copy)]
+enum Manner {
+    Code,
+    By(Fault),
+    Any,
+}
+
+const MANNERS: [Manner; 6] = [
+    Manner::Code,
+    Manner::By(Fault::Bytes),
+    Manner::By(Fault::Stripe),
+    Manner::By(Fault::Absent),
+    Manner::By(Fault::Other),
+    Manner::Any,
+];
+
+// The number that is printed for a manner, its place in the list.
+impl From<Manner> for usize {
+    fn from(manner: Manner) -> usize {
+        match manner {
+            Manner::Code => 0,
+            Manner::By(fault) => 1 + fault as usize,
+            Manner::Any => 5,
+        }
+    }
+}
 
 // The settings, the run number, how false pieces are made, what random bytes come from, and which slots have one: the bit worth 1 for controller 1.
 #[derive(Clone, Copy)]
@@ -21,17 +60,13 @@ struct Case {
     t: usize,
     k: usize,
     run: u16,
-    manner: usize,
+    manner: Manner,
     seed: u64,
     mask: u64,
 }
 
-// What decoding answered: 0 a block, 9 beyond, else the number of the refusal; and the row of marks, empty where there is no block.
-#[derive(Clone, Copy)]
-struct Answer {
-    number: u8,
-    named: u16,
-}
+// What decoding answers.
+type Answer = Result<Option<u16>, Refusal>;
 
 // How many calls answered a block, beyond, and a row that is not empty, and a digest of what they answered and left.
 #[derive(Clone, Copy)]
@@ -146,22 +181,12 @@ const DECODINGS: [[usize; 6]; 41] = [
 ];
 
 // The library's functions, each called in one place.
-fn encode(c: Case, number: usize, block: &[u8], piece: &mut [u8]) -> u8 {
+fn encode(c: Case, number: usize, block: &[u8], piece: &mut [u8]) -> Result<(), Refusal> {
     reed_solomon::encode(c.n, c.t, c.k, number, block, piece)
 }
 
 fn decode(c: Case, slots: &[u8], block: &mut [u8]) -> Answer {
-    match reed_solomon::decode(c.n, c.t, wire::layout_with(c.run, c.k), slots, block) {
-        Decoded::Block(named) => Answer { number: 0, named },
-        Decoded::Beyond => Answer {
-            number: 9,
-            named: 0,
-        },
-        Decoded::Refused(x) => Answer {
-            number: x,
-            named: 0,
-        },
-    }
+    reed_solomon::decode(c.n, c.t, wire::layout_with(c.run, c.k), slots, block)
 }
 
 fn send(c: Case, slots: &mut [u8], number: usize, piece: &[u8]) {
@@ -178,7 +203,32 @@ fn slots_length(c: Case) -> usize
     wire::outbox_length(c.n, c.t, c.k, 3 * c.t + 8)
 }
 
-fn case_of(n: usize, t: usize, k: usize, run: u16, manner: usize) -> Case
+// The number that is printed for coding's answer.
+fn coded(a: Result<(), Refusal>) -> u8 {
+    match a {
+        Ok(()) => 0,
+        Err(refusal) => u8::from(refusal),
+    }
+}
+
+// The number that is printed for an answer: 0 a block, 9 beyond, else that of the refusal.
+fn number(a: Answer) -> u8 {
+    match a {
+        Ok(Some(_)) => 0,
+        Ok(None) => 9,
+        Err(refusal) => u8::from(refusal),
+    }
+}
+
+// The row of marks, empty where there is no block.
+fn row(a: Answer) -> u16 {
+    match a {
+        Ok(Some(named)) => named,
+        _ => 0,
+    }
+}
+
+fn case_of(n: usize, t: usize, k: usize, run: u16, manner: Manner) -> Case
     ensures { (result.n ≡ n) × (result.t ≡ t) × (result.k ≡ k) }
 {
     Case {
@@ -187,22 +237,15 @@ fn case_of(n: usize, t: usize, k: usize, run: u16, manner: usize) -> Case
         k,
         run,
         manner,
-        seed: cases::seed(n as u64, t, k, manner),
+        seed: cases::seed(n as u64, t, k, usize::from(manner)),
         mask: 0,
     }
-}
-
-fn root_row(t: usize) -> [u8; 6]
-    requires { t ≤ 5 }
-{
-    ROOTS[t]
 }
 
 fn root_byte(t: usize, b: usize) -> u8
     requires { t ≤ 5 }
 {
-    let row = root_row(t);
-    row[b % (t + 1)]
+    ROOTS[t][b % (t + 1)]
 }
 
 fn block_byte(seed: u64, t: usize, b: usize) -> u8
@@ -216,10 +259,8 @@ fn block_byte(seed: u64, t: usize, b: usize) -> u8
 fn fill(block: &mut [u8], seed: u64, t: usize)
     requires { t ≤ 5 }
 {
-    let mut b: usize = 0;
-    while b < block.len() {
-        block[b] = block_byte(seed, t, b);
-        b += 1;
+    for (b, byte) in block.iter_mut().enumerate() {
+        *byte = block_byte(seed, t, b);
     }
 }
 
@@ -229,48 +270,39 @@ fn is_false(mask: u64, i: usize) -> bool
     (mask >> i) % 2 == 1
 }
 
-// What slot i holds: 0 its piece, 1 all bytes false, 2 those of one stripe, 3 absent, 4 the piece of the other block. In manner 5 it is any of
-// 1 to 4.
-fn kind(c: Case, i: usize) -> usize
+// What makes the piece in slot i false; none where it is to be true.
+fn fault_of(c: Case, i: usize) -> Option<Fault>
     requires { i < 16 }
 {
     if !is_false(c.mask, i) {
-        return 0;
+        return None;
     }
-    if c.manner < 5 {
-        return c.manner;
+    match c.manner {
+        Manner::Code => None,
+        Manner::By(fault) => Some(fault),
+        Manner::Any => Some(FAULTS[cases::draw(c.seed, 1, i, 0) % 4]),
     }
-    1 + cases::draw(c.seed, 1, i, 0) % 4
 }
 
 // Whether byte b of a piece of k bytes is to be false.
 fn is_spoilt(c: Case, i: usize, k: usize, b: usize) -> bool
     requires { (i < 16) × (b < k) }
 {
-    let what = kind(c, i);
-    if what == 2 {
-        return cases::draw(c.seed, 3, i, 0) % k == b;
+    match fault_of(c, i) {
+        Some(Fault::Bytes) => true,
+        Some(Fault::Stripe) => cases::draw(c.seed, 3, i, 0) % k == b,
+        _ => false,
     }
-    what == 1
-}
-
-// x, or another byte.
-fn spoilt(x: u8, c: Case, i: usize, k: usize, b: usize) -> u8
-    requires { (i < 16) × (b < k) }
-{
-    if is_spoilt(c, i, k, b) {
-        return x ^ cases::byte(1 + cases::draw(c.seed, 2, i, b) % 255);
-    }
-    x
 }
 
 fn spoil(m: &mut [u8], c: Case, i: usize)
     requires { i < 16 }
 {
-    let mut b: usize = 0;
-    while b < m.len() {
-        m[b] = spoilt(m[b], c, i, m.len(), b);
-        b += 1;
+    let k = m.len();
+    for (b, byte) in m.iter_mut().enumerate() {
+        if is_spoilt(c, i, k, b) {
+            *byte ^= cases::byte(1 + cases::draw(c.seed, 2, i, b) % 255);
+        }
     }
 }
 
@@ -292,7 +324,7 @@ fn hide(slots: &mut [u8], c: Case, i: usize, a: usize) {
 fn put(slots: &mut [u8], m: &mut [u8], block: &[u8], c: Case, i: usize, d: u64) -> u64
     requires { i < 16 }
 {
-    let a = encode(c, i + 1, block, m);
+    let a = coded(encode(c, i + 1, block, m));
     let r = cases::digest(cases::mix(d, a as u64), m);
     spoil(m, c, i);
     send(c, slots, i + 1, m);
@@ -312,46 +344,33 @@ fn slot(
 ) -> u64
     requires { i < 16 }
 {
-    let what = kind(c, i);
-    if what == 4 {
-        return put(slots, m, other, c, i, d);
+    match fault_of(c, i) {
+        Some(Fault::Other) => put(slots, m, other, c, i, d),
+        Some(Fault::Absent) => {
+            let r = put(slots, m, block, c, i, d);
+            hide(slots, c, i, a);
+            r
+        }
+        _ => put(slots, m, block, c, i, d),
     }
-    let r = put(slots, m, block, c, i, d);
-    if what == 3 {
-        hide(slots, c, i, a);
-    }
-    r
 }
 
 // All slots, and a digest of the pieces.
 fn gather(slots: &mut [u8], m: &mut [u8], block: &[u8], other: &[u8], c: Case) -> u64
     requires { (c.n ≤ 16) × (c.k ≤ 128) }
 {
-    let n = c.n;
     let width = c.k + 3;
     let mut d: u64 = 0;
-    let mut a: usize = 0;
-    let mut i: usize = 0;
-    while i < n {
-        d = slot(slots, m, block, other, c, i, a, d);
-        a += width;
-        i += 1;
+    for i in 0..c.n {
+        d = slot(slots, m, block, other, c, i, i * width, d);
     }
     d
 }
 
-// 1 where the row has a mark, else 0: for a count of cases.
-fn is_marked(row: u16) -> u64 {
-    if row == 0 {
-        return 0;
-    }
-    1
-}
-
 // A digest of d, an answer and what it left in the block.
 fn digest_answer(d: u64, a: Answer, block: &[u8]) -> u64 {
-    let number = cases::mix(d, a.number as u64);
-    cases::digest(cases::mix(number, a.named as u64), block)
+    let number = cases::mix(d, number(a) as u64);
+    cases::digest(cases::mix(number, row(a) as u64), block)
 }
 
 // The slots of a case decoded.
@@ -369,9 +388,11 @@ fn play(
     gather(slots, m, block, other, c);
     let a = decode(c, slots, out);
     Tally {
-        blocks: std::num::wrapping_add_u64(so_far.blocks, cases::is_same(a.number, 0)),
-        beyond: std::num::wrapping_add_u64(so_far.beyond, cases::is_same(a.number, 9)),
-        naming: std::num::wrapping_add_u64(so_far.naming, is_marked(a.named)),
+        blocks: so_far
+            .blocks
+            .wrapping_add(u64::from(matches!(a, Ok(Some(_))))),
+        beyond: so_far.beyond.wrapping_add(u64::from(matches!(a, Ok(None)))),
+        naming: so_far.naming.wrapping_add(u64::from(row(a) != 0)),
         digest: digest_answer(so_far.digest, a, out),
     }
 }
@@ -386,24 +407,7 @@ fn is_before(seed: u64, i: usize, j: usize) -> bool {
 fn rank(n: usize, seed: u64, i: usize) -> usize
     requires { n ≤ 16 }
 {
-    let mut r: usize = 0;
-    let mut j: usize = 0;
-    while j < n {
-        let before = is_before(seed, j, i);
-        j += 1;
-        if before {
-            r += 1;
-        }
-    }
-    r
-}
-
-// One bit more, if it is to be there.
-fn with_bit(mask: u64, bit: u64, there: bool) -> u64 {
-    if there {
-        return std::num::wrapping_add_u64(mask, bit);
-    }
-    mask
+    (0..n).filter(|j| is_before(seed, *j, i)).count()
 }
 
 // A set of `size` of n controllers.
@@ -411,12 +415,10 @@ fn scattered(n: usize, size: usize, seed: u64) -> u64
     requires { n ≤ 16 }
 {
     let mut mask: u64 = 0;
-    let mut bit: u64 = 1;
-    let mut i: usize = 0;
-    while i < n {
-        mask = with_bit(mask, bit, rank(n, seed, i) < size);
-        bit = std::num::wrapping_add_u64(bit, bit);
-        i += 1;
+    for i in 0..n {
+        if rank(n, seed, i) < size {
+            mask |= 1 << i;
+        }
     }
     mask
 }
@@ -479,10 +481,8 @@ fn play_sets(
         naming: 0,
         digest: 0,
     };
-    let mut x: usize = 0;
-    while x < end {
+    for x in 0..end {
         r = play_set(slots, m, block, other, out, c, x, r);
-        x += 1;
     }
     r
 }
@@ -495,11 +495,11 @@ fn print_code(rt: &impl Print, c: Case, d: u64) -> io::Result<()> {
 
 // A text, the answer's number and its row.
 fn print_answer(rt: &impl Print, name: &[u8], a: Answer) -> io::Result<()> {
-    cases::numbers(rt, name, &[a.number as usize, a.named as usize])
+    cases::numbers(rt, name, &[number(a) as usize, row(a) as usize])
 }
 
 fn print_tally(rt: &impl Print, c: Case, r: Tally) -> io::Result<()> {
-    cases::numbers(rt, b"decode", &[c.n, c.t, c.k, c.manner])?;
+    cases::numbers(rt, b"decode", &[c.n, c.t, c.k, usize::from(c.manner)])?;
     cases::numbers(
         rt,
         b":",
@@ -508,7 +508,7 @@ fn print_tally(rt: &impl Print, c: Case, r: Tally) -> io::Result<()> {
     cases::end_digest(rt, r.digest)
 }
 
-// The pieces in manner 0, else all sets of false slots.
+// The pieces alone, or all sets of false slots.
 fn play_blocks(
     rt: &impl Print,
     slots: &mut [u8],
@@ -522,10 +522,10 @@ fn play_blocks(
 {
     fill(block, c.seed, 0);
     fill(other, c.seed, c.t);
-    if c.manner == 0 {
-        return print_code(rt, c, gather(slots, m, block, other, c));
+    match c.manner {
+        Manner::Code => print_code(rt, c, gather(slots, m, block, other, c)),
+        _ => print_tally(rt, c, play_sets(slots, m, block, other, out, c)),
     }
-    print_tally(rt, c, play_sets(slots, m, block, other, out, c))
 }
 
 // The same on the parts of the lent bytes that n, t and k ask for.
@@ -558,7 +558,7 @@ fn play_parts(
 }
 
 // A manner with settings, if n allows t.
-fn play_case(rt: &impl Print, n: usize, t: usize, k: usize, manner: usize) -> io::Result<()>
+fn play_case(rt: &impl Print, n: usize, t: usize, k: usize, manner: Manner) -> io::Result<()>
     requires { (n ≤ 16) × (t ≤ 5) × (k ≤ 128) }
 {
     if n <= 3 * t {
@@ -576,124 +576,89 @@ fn play_case(rt: &impl Print, n: usize, t: usize, k: usize, manner: usize) -> io
         &mut block,
         &mut other,
         &mut out,
-        case_of(n, t, k, cases::some_run(n % 4 + manner % 4), manner),
+        case_of(
+            n,
+            t,
+            k,
+            cases::some_run(n % 4 + usize::from(manner) % 4),
+            manner,
+        ),
     )
 }
 
-fn stripes(x: usize) -> usize
-    ensures { result ≤ 128 }
-{
-    match x {
-        0 => 1,
-        1 => 2,
-        2 => 32,
-        _ => 128,
-    }
-}
-
 // n from 4 to 16, t from 1 to 5, four numbers of stripes and six manners.
-fn play_at(rt: &impl Print, x: usize) -> io::Result<()>
-    requires { x < 1560 }
-{
-    play_case(rt, 4 + x / 120, 1 + x / 24 % 5, stripes(x / 6 % 4), x % 6)
-}
-
 fn play_all(rt: &impl Print) -> io::Result<()> {
-    let mut x: usize = 0;
-    while x < 1560 {
-        play_at(rt, x)?;
-        x += 1;
+    for n in 4..17 {
+        for t in 1..6 {
+            for k in [1, 2, 32, 128] {
+                for manner in MANNERS {
+                    play_case(rt, n, t, k, manner)?;
+                }
+            }
+        }
     }
     Ok(())
 }
 
-// Coding with a block and a piece of these lengths. All bytes of both slices count for the digest.
-fn try_encode(rt: &impl Print, r: [usize; 6], block: &[u8], piece: &mut [u8]) -> io::Result<()> {
-    let size = cases::fitting(r[4], block);
-    let end = cases::fitting(r[5], piece);
-    let a = encode(
-        case_of(r[0], r[1], r[2], 0, 0),
-        r[3],
-        &block[..size],
-        &mut piece[..end],
-    );
-    cases::numbers(rt, b"encode", &r)?;
+// Coding with a block and a piece of the lengths in a row. All bytes of both slices count for the digest.
+fn try_encode(rt: &impl Print, row: [usize; 6], block: &[u8], piece: &mut [u8]) -> io::Result<()> {
+    let [n, t, k, number, size, end] = row;
+    let size = cases::fitting(size, block);
+    let end = cases::fitting(end, piece);
+    let c = case_of(n, t, k, 0, Manner::Code);
+    let a = coded(encode(c, number, &block[..size], &mut piece[..end]));
+    cases::numbers(rt, b"encode", &row)?;
     cases::numbers(rt, b":", &[a as usize])?;
     cases::end_digest(rt, cases::digest(cases::digest(0, block), piece))
 }
 
 // The same for decoding.
-fn try_decode(rt: &impl Print, r: [usize; 6], slots: &[u8], block: &mut [u8]) -> io::Result<()> {
-    let end = cases::fitting(r[4], slots);
-    let size = cases::fitting(r[5], block);
-    let a = decode(
-        case_of(r[0], r[1], r[2], cases::word(r[3]), 0),
-        &slots[..end],
-        &mut block[..size],
-    );
-    cases::numbers(rt, b"decode", &r)?;
+fn try_decode(rt: &impl Print, row: [usize; 6], slots: &[u8], block: &mut [u8]) -> io::Result<()> {
+    let [n, t, k, run, end, size] = row;
+    let end = cases::fitting(end, slots);
+    let size = cases::fitting(size, block);
+    let c = case_of(n, t, k, cases::word(run), Manner::Code);
+    let a = decode(c, &slots[..end], &mut block[..size]);
+    cases::numbers(rt, b"decode", &row)?;
     print_answer(rt, b":", a)?;
     cases::end_digest(rt, cases::digest(cases::digest(0, slots), block))
 }
 
-fn encoding(i: usize) -> [usize; 6]
-    requires { i < 43 }
-{
-    ENCODINGS[i]
-}
-
-fn decoding(i: usize) -> [usize; 6]
-    requires { i < 41 }
-{
-    DECODINGS[i]
-}
-
-fn try_encoding(rt: &impl Print, i: usize) -> io::Result<()>
-    requires { i < 43 }
-{
-    let mut block_space = [0u8; 4096];
-    let mut piece_space = [0u8; 4096];
-    let block: &mut [u8] = &mut block_space;
-    let piece: &mut [u8] = &mut piece_space;
-    cases::fill(block, 85);
-    cases::fill(piece, 170);
-    try_encode(rt, encoding(i), block, piece)
+fn try_encoding(rt: &impl Print, row: [usize; 6]) -> io::Result<()> {
+    let block = [85u8; 4096];
+    let mut piece = [170u8; 4096];
+    try_encode(rt, row, &block, &mut piece)
 }
 
 // All slots are present in run 257, with pieces of 01.
-fn try_decoding(rt: &impl Print, i: usize) -> io::Result<()>
-    requires { i < 41 }
-{
-    let mut slots_space = [0u8; 4096];
-    let mut block_space = [0u8; 4096];
-    let slots: &mut [u8] = &mut slots_space;
-    let block: &mut [u8] = &mut block_space;
-    cases::fill(slots, 1);
-    cases::fill(block, 170);
-    try_decode(rt, decoding(i), slots, block)
+fn try_decoding(rt: &impl Print, row: [usize; 6]) -> io::Result<()> {
+    let slots = [1u8; 4096];
+    let mut block = [170u8; 4096];
+    try_decode(rt, row, &slots, &mut block)
 }
 
 fn try_encodings(rt: &impl Print) -> io::Result<()> {
-    let mut i: usize = 0;
-    while i < 43 {
-        try_encoding(rt, i)?;
-        i += 1;
+    for row in &ENCODINGS {
+        try_encoding(rt, *row)?;
     }
     Ok(())
 }
 
 fn try_decodings(rt: &impl Print) -> io::Result<()> {
-    let mut i: usize = 0;
-    while i < 41 {
-        try_decoding(rt, i)?;
-        i += 1;
+    for row in &DECODINGS {
+        try_decoding(rt, *row)?;
     }
     Ok(())
 }
 
 fn example_piece(rt: &impl Print, number: usize) -> io::Result<()> {
     let mut piece = [0u8; 1];
-    encode(case_of(4, 1, 1, 0, 0), number, b"\x0a\x14", &mut piece);
+    let _answer = encode(
+        case_of(4, 1, 1, 0, Manner::Code),
+        number,
+        b"\x0a\x14",
+        &mut piece,
+    );
     cases::text(rt, b"c")?;
     cases::hex(rt, &piece)?;
     cases::newline(rt)
@@ -714,7 +679,13 @@ fn example_decoded(
 
 fn example_slots(rt: &impl Print, name: &[u8], run: u16, slots: &[u8]) -> io::Result<()> {
     let mut block = [255u8; 2];
-    example_decoded(rt, name, case_of(4, 1, 1, run, 0), slots, &mut block)
+    example_decoded(
+        rt,
+        name,
+        case_of(4, 1, 1, run, Manner::Code),
+        slots,
+        &mut block,
+    )
 }
 
 // Slots of three stripes 0a14: 4 is false in the first, 1 in the second, 2 in the third.
@@ -723,7 +694,7 @@ fn example_stripes(rt: &impl Print) -> io::Result<()> {
     example_decoded(
         rt,
         b"apart",
-        case_of(4, 1, 3, 0, 0),
+        case_of(4, 1, 3, 0, Manner::Code),
         b"\x01\x00\x00\x1e\x00\x1e\x01\x00\x00\x22\x22\x00\x01\x00\x00\x36\x36\x36\x01\x00\x00\x00\x5a\x5a",
         &mut block,
     )
@@ -732,7 +703,13 @@ fn example_stripes(rt: &impl Print) -> io::Result<()> {
 // Slots of seven controllers, t 2: those that are present have their pieces of 0a141e.
 fn example_present(rt: &impl Print, name: &[u8], slots: &[u8]) -> io::Result<()> {
     let mut block = [255u8; 3];
-    example_decoded(rt, name, case_of(7, 2, 1, 256, 0), slots, &mut block)
+    example_decoded(
+        rt,
+        name,
+        case_of(7, 2, 1, 256, Manner::Code),
+        slots,
+        &mut block,
+    )
 }
 
 // Examples c, d and e of document 01, example d with slot 1 absent too; zeros, which code to zeros, with slot 1 absent.

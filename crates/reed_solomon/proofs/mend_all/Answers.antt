@@ -5,6 +5,12 @@ use Rattle.reed_solomon.specs.Steps.{Checked, Rebuilds}
 use Rattle.reed_solomon.proofs.Mending.{none_at, mended, all_right}
 use Rattle.reed_solomon.proofs.mend_all.Goals as goal
 
+-- written out, so that a guess that is not looked at is seen to be wrong
+pub loop-compared-init : goal.loop-compared-init
+loop-compared-init c =
+    let bytes : Bytes c.args.block.now = search rules in
+    (c.check-compared.ensures, c.requires, bytes)
+
 pub returns-in_err-known : goal.returns-in_err-known
 returns-in_err-known c =
     let p = c.args.pieces.now in

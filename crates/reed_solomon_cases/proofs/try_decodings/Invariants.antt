@@ -1,9 +1,0 @@
--- `reed_solomon_cases::try_decodings` is safe and ends.
-use Rattle.std.proofs.Common.{◌-◌, ◌≤◌}
-use Rattle.reed_solomon_cases.proofs.try_decodings.Given as goal
-
-abbrev pub invariant-loop-i : goal.invariant-loop-i
-invariant-loop-i g l = l.i ≤ 41
-
-abbrev pub decreases-loop-i : goal.decreases-loop-i
-decreases-loop-i g l = 41 - l.i
