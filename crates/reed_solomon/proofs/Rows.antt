@@ -1,10 +1,11 @@
 -- Laws of bytes laid out column by column. The main ones: `rows_step`, a step of Horner's rule for many polynomials, said of columns by `row_step` and of
 -- a block's stripes by `piece_step`; `row_piece`, the values of the rows of a block that was transposed are its piece.
-use mathlib.Core.Path.{◌≡◌, sym, ap, ap₂, ◌∙◌}
+use mathlib.Core.Path.{◌≡◌, refl, sym, ap, ap₂, ◌∙◌}
 use mathlib.Core.List.{List}
 use mathlib.Core.Logic.{⊎_elim}
-use Prim.Native.Nat.{ℕ, ◌+◌, ◌*◌, ◌≤◌, ◌<◌}
-use native.Mathlib.Nat.{mul_comm}
+use Prim.Native.Nat.{ℕ, zero, suc, ◌+◌, ◌*◌, ◌≤◌, ◌<◌}
+use native.Mathlib.Nat.{zero-mul, suc-mul, mul_comm}
+use native.Mathlib.Numerals.{add-one}
 use native.Mathlib.Omega.{arith}
 use lib.ListN.{length, get_or, take, drop, length-drop, get_or-eq_default}
 use lib.Seq.{get_or-take, get_or-drop}
@@ -41,6 +42,15 @@ bytes-every w l j n b i =
 -- column j of w columns of h bytes lies within
 pub column-within : (h w j n : ℕ) → j < w → n ≡ h * w → j * h + h ≤ n
 column-within h w j n g e = omega (arith, slot_within w h j g, mul_comm w h)
+
+-- ---- offsets that are multiples
+pub multiple_less : (j a r : ℕ) → a ≡ j * r → 0 < a → (i : ℕ) × (j ≡ i + 1) × (a ≡ i * r + r)
+multiple_less zero a r e h = absurd (omega (arith, zero-mul r))
+multiple_less (suc i) a r e h = (i, sym (add-one i), e ∙ suc-mul i r)
+
+pub multiple_zero : (j r : ℕ) → 1 ≤ r → j * r ≡ 0 → j ≡ 0
+multiple_zero zero r h e = refl
+multiple_zero (suc i) r h e = absurd (omega (arith, suc-mul i r))
 
 -- ---- the values at x of the polynomials row 0, .., row (k - 1), by their coefficients from j on
 module _ (k : ℕ) (row : ℕ → List ℕ) (x : ℕ) where

@@ -26,13 +26,16 @@ pub(crate) fn transpose(l: &[u8], h: usize, w: usize, out: &mut [u8])
 
 // The values at x of polynomials with t + 1 coefficients, as many as out has bytes, whose coefficients stand in cols column by column, into out.
 pub(crate) fn values(cols: &[u8], t: usize, x: u8, out: &mut [u8])
-    requires { (length cols.now ≡ length out.old * (t + 1)) × (length out.old ≤ 128) × (t ≤ 5) }
+    requires { (length cols.now ≡ length out.old * (t + 1)) × (1 ≤ length out.old) × (length out.old ≤ 128) × (t ≤ 5) }
     ensures { out.new ≡ row_values (length out.old) t cols.now x }
 {
     let rows = out.len();
-    out.copy_from_slice(&cols[t * rows..]);
-    for j in (0..t).rev() {
-        let a = j * rows;
-        gf256::horner_at_point(out, x, &cols[a..a + rows]);
+    let mut a = t * rows;
+    out.copy_from_slice(&cols[a..]);
+    // `for j in (0..t).rev()` is slower by a half: compiled, it adds a byte at a time
+    while 0 < a {
+        let e = a;
+        a -= rows;
+        gf256::horner_at_point(out, x, &cols[a..e]);
     }
 }

@@ -29,7 +29,7 @@ fn load_column(pieces: &Pieces, j: usize, from: usize, column: &mut [u8]) {
 fn load(pieces: &Pieces, c: &[u8], from: usize, rows: usize, cols: &mut [u8])
     requires { 0 < rows }
 {
-    for (column, j) in cols.chunks_exact_mut(rows).zip(c) {
+    for (column, j) in cols.chunks_mut(rows).zip(c) {
         load_column(pieces, *j as usize, from, column);
     }
 }
@@ -40,7 +40,7 @@ fn newton_value(c: &[u8], x: u8, cols: &[u8], tmp: &mut [u8]) -> u8
 {
     tmp.fill(0);
     let mut weight: u8 = 1;
-    for (point, column) in c.iter().rev().zip(cols.rchunks_exact(tmp.len())) {
+    for (point, column) in c.iter().rev().zip(cols.rchunks(tmp.len())) {
         let d = gf256::add(x, *point);
         weight = gf256::mul(weight, d);
         gf256::horner_at_point(tmp, d, column);
@@ -70,22 +70,15 @@ fn newton(c: &[u8], cols: &mut [u8], tmp: &mut [u8])
     }
 }
 
-// A point of Newton's form expanded: x times each column of `rows` bytes but the first is added to the one before it.
-fn expand_point(x: u8, rows: usize, cols: &mut [u8])
-    requires { (length cols.old ≤ 768) × (0 < rows) }
-{
-    for i in 1..cols.len() / rows {
-        let (before, rest) = cols.split_at_mut(i * rows);
-        gf256::add_multiple(&mut before[(i - 1) * rows..], x, rest);
-    }
-}
-
-// From Newton's form to coefficients, a point at a time.
+// From Newton's form to coefficients, a point at a time: the point times each column behind it is added to the one before that.
 fn expand(c: &[u8], rows: usize, cols: &mut [u8])
-    requires { (length cols.old ≡ length c.now * rows) × (length cols.old ≤ 768) × (0 < rows) }
+    requires { (length cols.old ≡ length c.now * rows) × (length cols.old ≤ 768) }
 {
     for (j, x) in c.iter().enumerate().rev() {
-        expand_point(*x, rows, &mut cols[j * rows..]);
+        for i in j + 1..c.len() {
+            let (before, column) = cols.split_at_mut(i * rows);
+            gf256::add_multiple(&mut before[(i - 1) * rows..], *x, column);
+        }
     }
 }
 
