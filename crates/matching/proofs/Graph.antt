@@ -15,15 +15,15 @@ use Rattle.graph.specs.Neighbour.{missing}
 use Rattle.graph.specs.Pairs.{Pair}
 use Rattle.graph.proofs.Laws.{missing-member, missing_past, missing_out}
 use Rattle.matching.specs.Matching.{FirstLargest, Missing}
-use Rattle.matching.specs.Answer.{stored, pairs_of, IsFirstLargest}
-use Rattle.matching.specs.Steps.{complement, In, Edge, Symmetric, Within, Largest}
+use Rattle.matching.specs.Answer.{complement, stored, pairs_of, IsFirstLargest}
+use Rattle.matching.specs.Steps.{In, Edge, Symmetric, Within, Largest}
 use Rattle.matching.specs.declared.Matching.{Matching}
 use Rattle.matching.proofs.Sets.{not_in, set_in}
 use Rattle.matching.proofs.Sizes.{same_largest, matching_half}
 use Rattle.matching.proofs.Stored.{pairs-stored}
 
 module _ (n : ℕ) (adj : ℕ → ℕ → Bool) (most : n ≤ 16) where
-  complement_row : (i : ℕ) → i < 16 → get_or (complement n adj) i 0 ≡ missing n adj i
+  pub complement_row : (i : ℕ) → i < 16 → get_or (complement n adj) i 0 ≡ missing n adj i
   unfolding complement
   complement_row i l = get_or-tabulate (missing n adj) 16 i 0 l
 

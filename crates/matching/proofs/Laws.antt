@@ -1,6 +1,7 @@
 -- What a crate above may know of matchings besides the contracts and the definitions.
 --   Sets
 --     in_set, set_in, some_in   members of the set of a test, of any set
+--   complement_row      row i of the missing pairs
 --   The first largest matching M
 --     one_matching       no two lists are that (`OneMatching`); one_answer: so no two answers (`OneAnswer`)
 --     matching_first     `matching_of n adj` is that (`MatchingFirst`)
@@ -17,6 +18,7 @@
 --     any_in, any_of     a test that some pair passes
 --     pigeonhole         members that have a pair each, no two the same, are no more than the pairs
 --     one_each           pairs that have a member each are no more than the members
+pub use Rattle.matching.proofs.Graph.{complement_row}
 pub use Rattle.matching.proofs.Sets.{in_set, set_in, some_in}
 pub use Rattle.matching.proofs.One.{one_matching, one_answer, same_graph}
 pub use Rattle.matching.proofs.First.{matching_first}

@@ -1,6 +1,5 @@
 -- For the contracts of private functions; a reader of the public contracts needs none of it.
 -- What the search promises. A graph is given by rows of sets, as `complement` makes them.
---   complement n adj   row i has those with whom i makes a missing pair: 16 rows, empty from n on
 --   In s x             x is a member of the set s
 --   Edge graph x y     row x of the graph has y
 --   Symmetric graph    row x has y where row y has x
@@ -13,17 +12,12 @@
 --   Found graph s k m  m is the first matching of k pairs within s
 --   Searched ..        what a search for k pairs within s answers: none, or the first one
 --   Largest graph s r  r is the first largest matching within s
-use Rattle.std.specs.Prelude.{◌≡◌, List, Bool, true, ℕ, ◌≤◌, ◌<◌, length, get_or, Option, MatchOption}
-use Rattle.lists.specs.Fill.{tabulate}
+use Rattle.std.specs.Prelude.{◌≡◌, List, true, ℕ, ◌≤◌, ◌<◌, length, get_or, Option, MatchOption}
 use Rattle.bitset.specs.Set.{member}
-use Rattle.graph.specs.Neighbour.{missing}
 use Rattle.graph.specs.Pairs.{Pair}
 use Rattle.matching.specs.Matching.{IsMatching, NotAfter, FirstLargest}
 use Rattle.matching.specs.Answer.{stored}
 use Rattle.matching.specs.declared.Matching.{Matching}
-
-unfoldable pub complement : ℕ → (ℕ → ℕ → Bool) → List ℕ
-complement n adj = tabulate (missing n adj) 16
 
 abbrev pub In : ℕ → ℕ → Type 0
 In s x = member s x ≡ true

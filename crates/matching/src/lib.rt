@@ -4,8 +4,8 @@
 
 ghost use Rattle.std.specs.Prelude.{◌≡◌, true, [], ◌+◌, ◌<◌, ◌≤◌, min, set, take};
 ghost use Rattle.graph.specs.Bits.{adjacent};
-ghost use Rattle.matching.specs.Answer.{stored, IsFirstLargest};
-ghost use Rattle.matching.specs.Steps.{complement, In, Symmetric, Within, AtMost, NoneOfSize, Closed, Searched, Largest};
+ghost use Rattle.matching.specs.Answer.{complement, stored, IsFirstLargest};
+ghost use Rattle.matching.specs.Steps.{In, Symmetric, Within, AtMost, NoneOfSize, Closed, Searched, Largest};
 
 use bitset::{below, difference, insert, intersection, lowest, member, remove, size, union};
 use graph::missing_row;
@@ -47,8 +47,9 @@ impl Matching {
     }
 }
 
-// The rows that the search works on: row i has those with whom i makes a missing pair below n.
-fn complement(bits: [u8; 15], n: usize) -> [u16; 16]
+// The missing pairs below n as rows: row i has those with whom i makes one.
+// Shut out: the rows for 16 whatever n; the row of 0 everywhere.
+pub fn complement(bits: [u8; 15], n: usize) -> [u16; 16]
     ensures { result ≡ complement (min n 16) (adjacent bits) }
 {
     let mut graph = [0; 16];

@@ -6,13 +6,13 @@ ghost use Rattle.bitset.specs.Set.{member, set_of, size_of, removed, intersectio
 ghost use Rattle.graph.specs.Neighbour.{neighbour, missing};
 ghost use Rattle.graph.specs.Bits.{adjacent};
 ghost use Rattle.matching.specs.Matching.{matched};
-ghost use Rattle.matching.specs.Answer.{pairs_of};
+ghost use Rattle.matching.specs.Answer.{complement, pairs_of};
 ghost use Rattle.star.specs.Star.{set_C, lacks, at_least, four, sets_of, sets_from, is_large, IsStar};
 ghost use Rattle.star.specs.Steps.{Below};
 
 use bitset::{below, difference, insert, intersection, member, remove, select, size};
-use graph::{bits_of, missing_row};
-use matching::{Matching, largest};
+use graph::bits_of;
+use matching::{Matching, complement, largest};
 use settings::{Refusal, star_refusal};
 
 // The sets C, D, F and E, of which E is the core. All four are empty where no core is found.
@@ -43,24 +43,28 @@ fn matched_set(pairs: &[(u8, u8)]) -> u16
     s
 }
 
-// A graph of n controllers, by the bits of its missing pairs.
+// A graph of n controllers, by the bits of its missing pairs, and these as rows.
 #[derive(Clone, Copy)]
 struct Graph {
     bits: [u8; 15],
     n: usize,
+    rows: [u16; 16],
     ghost few: { n ≤ 16 },
+    ghost missing: { rows ≡ complement n (adjacent bits) },
 }
 
 impl Graph {
     // The non-neighbours of i.
     fn missing(&self, i: usize) -> u16
+        requires { i < 16 }
         ensures { result ≡ missing self.now.n (adjacent self.now.bits) i }
     {
-        missing_row(self.bits, self.n, i)
+        self.rows[i]
     }
 
     // Those that are left of c with the pair (a, b): neither an end nor a non-neighbour of both.
     fn left_by(&self, c: u16, a: usize, b: usize) -> u16
+        requires { (a < 16) × (b < 16) }
         ensures { result ≡ difference (removed (removed c a) b) (intersection (missing self.now.n (adjacent self.now.bits) a) (missing self.now.n (adjacent self.now.bits) b)) }
     {
         let struck = intersection(self.missing(a), self.missing(b));
@@ -134,7 +138,11 @@ pub fn of_bits(bits: [u8; 15], n: usize, t: usize) -> Result<Sets, Refusal>
     ensures { IsStar n t (adjacent bits) (sets_of result) }
 {
     star_refusal(n, t)?;
-    let graph = Graph { bits, n };
+    let graph = Graph {
+        bits,
+        n,
+        rows: complement(bits, n),
+    };
     let sets = graph.sets(t, largest(bits, n));
     if is_large(n, t, sets) {
         return Ok(sets);

@@ -2,7 +2,7 @@
 use Rattle.graph.specs.Neighbour.{missing}
 use Rattle.graph.specs.Bits.{adjacent}
 use Rattle.graph.proofs.Laws.{missing_16}
-use Rattle.matching.specs.Steps.{complement}
+use Rattle.matching.specs.Answer.{complement}
 use Rattle.lists.proofs.Fills.{filled_none, fill_more, fill_end}
 use lib.ListN.{replicate}
 use native.Mathlib.Omega.{arith}

@@ -7,10 +7,11 @@ use Rattle.settings.specs.Valid.{Quorum}
 use Rattle.settings.specs.declared.Refusal.{Refusal}
 use Rattle.std.proofs.Common.{Result, Err}
 use Rattle.graph.specs.Bits.{adjacent}
+use Rattle.matching.specs.Answer.{complement}
 use borrow.Author.Rules.{rules}
-use Prim.Native.Nat.{ℕ}
+use Prim.Native.Nat.{ℕ, min}
 use native.Mathlib.Omega.{arith}
-use mathlib.Core.Path.{◌≡◌, refl, sym, subst, ◌∙◌}
+use mathlib.Core.Path.{◌≡◌, refl, sym, ap, subst, ◌∙◌}
 use Rattle.star.proofs.of_bits.Goals as goal
 
 pub returns-in_err-star_refusal : goal.returns-in_err-star_refusal
@@ -30,7 +31,11 @@ quorum : (n t : ℕ) → 0 ≡ star_refusal n t → Quorum n t
 quorum n t e = refusal_0 n t (taken n t e)
 
 pub invariant_of-graph : goal.invariant_of-graph
-invariant_of-graph c = record { few = (quorum c.args.n c.args.t c.in_ok-star_refusal.ensures).n_most }
+invariant_of-graph c =
+    let a = c.args in
+    let few = (quorum a.n a.t c.in_ok-star_refusal.ensures).n_most in
+    let all : min a.n 16 ≡ a.n = omega (arith, few) in
+    record { few = few; missing = c.complement.ensures ∙ ap (λ (n : ℕ). complement n (adjacent a.bits)) all }
 
 pub sets-sets-requires : goal.sets-sets-requires
 sets-sets-requires c =

@@ -17,6 +17,11 @@ loop-p-init c =
     let e : min g.n 16 ≡ g.n = omega (arith, g.few) in
     c.below-c.ensures ∙ ap (λ (x : ℕ). set_of x (λ _. true)) e ∙ c_start g.n (adjacent g.bits)
 
+pub left_by-c-requires : goal.left_by-c-requires
+left_by-c-requires c =
+    let low = each_reverse _ c.args.pairs.now c.loop-p.p-index c.requires c.loop-p-test.true in
+    (omega (arith, low.0, c.args.self.now.few), omega (arith, low.1, c.args.self.now.few))
+
 pub loop-p-preserved : goal.loop-p-preserved
 loop-p-preserved c =
     let g = c.args.self.now in
