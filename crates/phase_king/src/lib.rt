@@ -54,7 +54,7 @@ fn zeros_row(inbox: &Inbox, t: usize, r: usize) -> u16
     inbox.row_of(|j| zero_seen(&said, inbox.n, t, j))
 }
 
-// Row r of where one is seen.
+// Row r of where one is seen. One function for this row and that of the zeros would hand the rule on as a closure within a closure: no shorter.
 fn ones_row(inbox: &Inbox, t: usize, r: usize) -> u16
     ensures { result ≡ set_of inbox.now.n (λ j. one_seen inbox.now.n t (said inbox.now.slots.now inbox.now.layout inbox.now.n r j)) }
 {
