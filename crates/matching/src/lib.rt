@@ -94,18 +94,20 @@ fn halves(graph: &[u16; 16], s: u16) -> usize
 fn champion<F: Fn(usize, usize) -> bool>(graph: &[u16; 16], s: u16, wins: F) -> Option<usize>
     requires { F.IsAlwaysCallable wins }
 {
-    let mut best = None;
-    let mut most: usize = 0;
+    let mut best: Option<(usize, usize)> = None;
     for (i, row) in graph.iter().enumerate() {
         if member(s, i) {
             let partners = size(intersection(*row, s));
-            if 0 < partners && (most == 0 || wins(partners, most)) {
-                best = Some(i);
-                most = partners;
+            let first = match best {
+                Some((_, most)) => wins(partners, most),
+                None => true,
+            };
+            if 0 < partners && first {
+                best = Some((i, partners));
             }
         }
     }
-    best
+    best.map(|(i, _)| i)
 }
 
 // The member of s that has the most partners within s.
