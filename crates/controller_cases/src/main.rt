@@ -16,9 +16,7 @@
 //     cargo run --release --bin controller_vectors > crates/controller_cases/stdout
 #![tactic(auto)]
 
-ghost use Rattle.std.specs.Prelude.{◌<◌};
-
-use protocol::{Started, State, Stepped};
+use protocol::{Refused, State};
 use reconstruction::Outcome;
 use settings::Settings;
 use std::io;
@@ -129,17 +127,13 @@ const STEPS: [[usize; 9]; 43] = [
 // The row of marks of states that are given: controllers 1, 6, 11 and 16.
 const MARKS: u16 = 33825;
 
-// How many are heard, where nothing arrives.
-const SILENT: usize = 17;
-
 // The library's functions, each called in one place.
-fn begin(s: State, block: &[u8]) -> Started {
-    let settings = s.settings;
-    controller::start(settings, s.own, s.run, block)
+fn begin(s: State, block: &[u8]) -> Answer {
+    answered(controller::start(s.settings, s.own, s.run, block))
 }
 
-fn advance(s: State, block: &mut [u8], inbox: &[u8], outbox: &mut [u8]) -> Stepped {
-    controller::step(s, block, inbox, outbox)
+fn advance(s: State, block: &mut [u8], inbox: &[u8], outbox: &mut [u8]) -> Answer {
+    answered(controller::step(s, block, inbox, outbox))
 }
 
 fn block_length(s: State) -> usize {
@@ -163,11 +157,25 @@ fn call_count(t: usize) -> usize {
     wire::calls(t)
 }
 
-fn same(rt: &impl Print, yes: bool) -> io::Result<()> {
-    if yes {
-        return cases::text(rt, b" same");
+// What is printed of an answer: the number, 0 where nothing is refused, and the state.
+#[derive(Clone, Copy)]
+struct Answer {
+    number: u8,
+    state: State,
+}
+
+fn answered(r: Result<State, Refused>) -> Answer {
+    match r {
+        Ok(state) => Answer { number: 0, state },
+        Err(Refused { refusal, state }) => Answer {
+            number: u8::from(refusal),
+            state,
+        },
     }
-    cases::text(rt, b" changed")
+}
+
+fn same(rt: &impl Print, yes: bool) -> io::Result<()> {
+    cases::text(rt, if yes { b" same" } else { b" changed" })
 }
 
 // The byte that a lent slice has at index p before a call; no byte is 00 or 01.
@@ -176,125 +184,40 @@ fn pattern(p: usize) -> u8 {
 }
 
 fn fill(s: &mut [u8]) {
-    for p in 0..s.len() {
-        s[p] = pattern(p);
+    for (p, x) in s.iter_mut().enumerate() {
+        *x = pattern(p);
     }
 }
 
 fn is_filled(s: &[u8]) -> bool {
-    let mut p: usize = 0;
-    while p < s.len() {
-        if s[p] != pattern(p) {
-            return false;
-        }
-        p += 1;
-    }
-    true
+    s.iter().enumerate().all(|(p, x)| *x == pattern(p))
 }
 
-fn same_rows(a: &[u16; 16], b: &[u16; 16]) -> bool {
-    let mut r: usize = 0;
-    while r < 16 {
-        if a[r] != b[r] {
-            return false;
-        }
-        r += 1;
-    }
-    true
-}
-
-fn outcome_number(o: Outcome) -> u8 {
-    match o {
-        Outcome::Open => 0,
-        Outcome::Agreed => 1,
-        Outcome::None => 2,
-        Outcome::Beyond => 3,
-    }
-}
-
-fn same_settings(a: State, b: State) -> bool {
-    if a.settings.n != b.settings.n {
-        return false;
-    }
-    if a.settings.t != b.settings.t {
-        return false;
-    }
-    if a.settings.k != b.settings.k {
-        return false;
-    }
-    if a.own != b.own {
-        return false;
-    }
-    a.settings.sender == b.settings.sender
-}
-
-fn same_progress(a: State, b: State) -> bool {
-    let x = a.outcome;
-    let y = b.outcome;
-    if a.next != b.next {
-        return false;
-    }
-    if outcome_number(x) != outcome_number(y) {
-        return false;
-    }
-    if a.core != b.core {
-        return false;
-    }
-    if a.run != b.run {
-        return false;
-    }
-    a.named == b.named
-}
-
-fn same_matrix(a: State, b: State) -> bool {
-    let x = a.matrix;
-    let y = b.matrix;
-    same_rows(&x, &y)
-}
-
-fn same_weak(a: State, b: State) -> bool {
-    let x = a.weak;
-    let y = b.weak;
-    same_rows(&x, &y)
+fn same_settings(a: Settings, b: Settings) -> bool {
+    a.n == b.n && a.t == b.t && a.k == b.k && a.sender == b.sender
 }
 
 // Whether all fields are the same.
 fn same_state(a: State, b: State) -> bool {
-    if !same_settings(a, b) {
-        return false;
-    }
-    if !same_progress(a, b) {
-        return false;
-    }
-    if !same_matrix(a, b) {
-        return false;
-    }
-    same_weak(a, b)
+    same_settings(a.settings, b.settings)
+        && a.own == b.own
+        && a.run == b.run
+        && a.next == b.next
+        && a.outcome == b.outcome
+        && a.matrix == b.matrix
+        && a.weak == b.weak
+        && a.core == b.core
+        && a.named == b.named
 }
 
 // The state of a run that begins with call `next`; the zero state for zeros.
 fn plain(n: usize, t: usize, k: usize, own: usize, sender: usize, run: u16, next: usize) -> State {
-    let settings = Settings { n, t, k, sender };
-    State {
-        settings,
-        own,
-        next,
-        outcome: Outcome::Open,
-        matrix: [0u16; 16],
-        weak: [0u16; 16],
-        core: 0,
-        named: 0,
-        run,
-    }
+    protocol::initial(Settings { n, t, k, sender }, own, run, next)
 }
 
 // A state with every other field set.
 fn given(n: usize, t: usize, k: usize, own: usize, sender: usize, next: usize) -> State {
-    let settings = Settings { n, t, k, sender };
     State {
-        settings,
-        own,
-        next,
         outcome: Outcome::Beyond,
         matrix: [
             1, 2, 4, 8, 16, 32, 64, 128, 256, 512, 1024, 2048, 4096, 8192, 16384, 32768,
@@ -302,125 +225,74 @@ fn given(n: usize, t: usize, k: usize, own: usize, sender: usize, next: usize) -
         weak: [65535, 2, 3, 4, 5, 6, 7, 8, 9, 10, 11, 12, 13, 14, 15, 65534],
         core: 43981,
         named: MARKS,
-        run: 40961,
+        ..plain(n, t, k, own, sender, 40961, next)
     }
 }
 
 // A name and the settings.
 fn print_settings(rt: &impl Print, name: &[u8], s: State) -> io::Result<()> {
-    let x = s.settings;
-    cases::numbers(rt, name, &[x.n, x.t, x.k, s.own, x.sender])
+    let Settings { n, t, k, sender } = s.settings;
+    cases::numbers(rt, name, &[n, t, k, s.own, sender])
 }
 
 // Which state a start with these settings answered.
 fn print_started(rt: &impl Print, s: State, r: State) -> io::Result<()> {
     if same_state(r, plain(0, 0, 0, 0, 0, 0, 0)) {
-        return cases::text(rt, b" zero");
+        cases::text(rt, b" zero")
+    } else if same_state(r, s) {
+        cases::text(rt, b" begun")
+    } else {
+        cases::text(rt, b" other")
     }
-    if same_state(r, s) {
-        return cases::text(rt, b" begun");
-    }
-    cases::text(rt, b" other")
 }
 
 // A start with the settings of s.
-fn start_with(rt: &impl Print, s: State, block: &mut [u8]) -> io::Result<()> {
+fn start(rt: &impl Print, s: State, length: usize) -> io::Result<()> {
+    let mut space = [0u8; 4096];
+    let b = cases::fitting(length, &space);
+    let block = &mut space[..b];
     fill(block);
     let r = begin(s, block);
-    let state = r.state;
     print_settings(rt, b"start", s)?;
     cases::numbers(rt, b"", &[s.run as usize, block.len()])?;
-    cases::numbers(rt, b":", &[r.number as usize])?;
-    print_started(rt, s, state)?;
+    cases::numbers(rt, b":", &[r.number])?;
+    print_started(rt, s, r.state)?;
     same(rt, is_filled(block))?;
     cases::newline(rt)
 }
 
-fn start_cut(rt: &impl Print, s: State, length: usize, block: &mut [u8]) -> io::Result<()> {
-    let b = cases::fitting(length, block);
-    start_with(rt, s, &mut block[..b])
-}
-
-fn start(rt: &impl Print, s: State, length: usize) -> io::Result<()> {
-    let mut space = [0u8; 4096];
-    let block: &mut [u8] = &mut space;
-    start_cut(rt, s, length, block)
-}
-
-fn print_step(rt: &impl Print, s: State, b: usize, i: usize, o: usize) -> io::Result<()> {
+// A step on s with lent lengths b, i and o, on lent bytes that are filled.
+fn step(rt: &impl Print, s: State, b: usize, i: usize, o: usize) -> io::Result<()> {
+    let mut block_space = [0u8; 4096];
+    let mut inbox_space = [0u8; 4096];
+    let mut outbox_space = [0u8; 4096];
+    let b = cases::fitting(b, &block_space);
+    let i = cases::fitting(i, &inbox_space);
+    let o = cases::fitting(o, &outbox_space);
+    let block = &mut block_space[..b];
+    let inbox = &mut inbox_space[..i];
+    let outbox = &mut outbox_space[..o];
+    fill(block);
+    fill(inbox);
+    fill(outbox);
     print_settings(rt, b"step", s)?;
-    cases::numbers(rt, b"", &[s.next, b, i, o])
-}
-
-// Steps, on lent bytes that are filled.
-fn step_on(
-    rt: &impl Print,
-    s: State,
-    block: &mut [u8],
-    inbox: &[u8],
-    outbox: &mut [u8],
-) -> io::Result<()> {
+    cases::numbers(rt, b"", &[s.next, b, i, o])?;
     let r = advance(s, block, inbox, outbox);
-    let state = r.state;
-    cases::numbers(rt, b":", &[r.number as usize])?;
-    same(rt, same_state(s, state))?;
+    cases::numbers(rt, b":", &[r.number])?;
+    same(rt, same_state(s, r.state))?;
     same(rt, is_filled(block))?;
     same(rt, is_filled(outbox))?;
     cases::newline(rt)
 }
 
-fn step_with(
-    rt: &impl Print,
-    s: State,
-    block: &mut [u8],
-    inbox: &mut [u8],
-    outbox: &mut [u8],
-) -> io::Result<()> {
-    fill(block);
-    fill(inbox);
-    fill(outbox);
-    step_on(rt, s, block, inbox, outbox)
-}
-
-fn step_cut(
-    rt: &impl Print,
-    s: State,
-    b: usize,
-    i: usize,
-    o: usize,
-    block: &mut [u8],
-    inbox: &mut [u8],
-    outbox: &mut [u8],
-) -> io::Result<()> {
-    let x = cases::fitting(b, block);
-    let y = cases::fitting(i, inbox);
-    let z = cases::fitting(o, outbox);
-    print_step(rt, s, x, y, z)?;
-    step_with(rt, s, &mut block[..x], &mut inbox[..y], &mut outbox[..z])
-}
-
-// A step on s with lent lengths b, i and o.
-fn step(rt: &impl Print, s: State, b: usize, i: usize, o: usize) -> io::Result<()> {
-    let mut block_space = [0u8; 4096];
-    let mut inbox_space = [0u8; 4096];
-    let mut outbox_space = [0u8; 4096];
-    let block: &mut [u8] = &mut block_space;
-    let inbox: &mut [u8] = &mut inbox_space;
-    let outbox: &mut [u8] = &mut outbox_space;
-    step_cut(rt, s, b, i, o, block, inbox, outbox)
-}
-
 // One byte more.
 fn longer(x: usize) -> usize {
-    std::num::wrapping_add_usize(x, 1)
+    x.wrapping_add(1)
 }
 
 // One byte less; of no byte, two more.
 fn shorter(x: usize) -> usize {
-    if x == 0 {
-        return 2;
-    }
-    x - 1
+    x.checked_sub(1).unwrap_or(2)
 }
 
 // Each lent length of a call too long and too short by one byte, and all three.
@@ -439,53 +311,23 @@ fn lengths_at(rt: &impl Print, n: usize, t: usize, k: usize, c: usize) -> io::Re
 }
 
 fn lengths(rt: &impl Print, n: usize, t: usize, k: usize) -> io::Result<()> {
-    let last = call_count(t);
-    let mut c: usize = 0;
-    while c < last {
-        c += 1;
+    for c in 1..=call_count(t) {
         lengths_at(rt, n, t, k, c)?;
     }
     Ok(())
 }
 
-fn start_at(i: usize) -> [usize; 7]
-    requires { i < 49 }
-{
-    STARTS[i]
-}
-
-// A start of the table.
-fn start_row(rt: &impl Print, r: [usize; 7]) -> io::Result<()> {
-    let run = cases::word(r[5]);
-    start(rt, plain(r[0], r[1], r[2], r[3], r[4], run, 1), r[6])
-}
-
 fn starts(rt: &impl Print) -> io::Result<()> {
-    let mut i: usize = 0;
-    while i < 49 {
-        start_row(rt, start_at(i))?;
-        i += 1;
+    for [n, t, k, own, sender, run, length] in &STARTS {
+        let s = plain(*n, *t, *k, *own, *sender, cases::word(*run), 1);
+        start(rt, s, *length)?;
     }
     Ok(())
 }
 
-fn step_at(i: usize) -> [usize; 9]
-    requires { i < 43 }
-{
-    STEPS[i]
-}
-
-// A step of the table.
-fn step_row(rt: &impl Print, r: [usize; 9]) -> io::Result<()> {
-    let s = given(r[0], r[1], r[2], r[3], r[4], r[5]);
-    step(rt, s, r[6], r[7], r[8])
-}
-
 fn steps(rt: &impl Print) -> io::Result<()> {
-    let mut i: usize = 0;
-    while i < 43 {
-        step_row(rt, step_at(i))?;
-        i += 1;
+    for [n, t, k, own, sender, next, b, i, o] in &STEPS {
+        step(rt, given(*n, *t, *k, *own, *sender, *next), *b, *i, *o)?;
     }
     Ok(())
 }
@@ -499,330 +341,226 @@ fn print_outcome(rt: &impl Print, o: Outcome) -> io::Result<()> {
     }
 }
 
-// The number and the state that call c answered, and what it left in block and outbox.
-fn print_call(
-    rt: &impl Print,
-    c: usize,
-    n: u8,
-    s: State,
-    block: &[u8],
-    outbox: &[u8],
-) -> io::Result<()> {
-    let outcome = s.outcome;
+// What call c answered, and what it left in block and outbox.
+fn print_call(rt: &impl Print, c: usize, r: Answer, block: &[u8], outbox: &[u8]) -> io::Result<()> {
+    let s = r.state;
     cases::numbers(rt, b"call", &[c])?;
-    cases::numbers(rt, b":", &[n as usize, s.next])?;
-    print_outcome(rt, outcome)?;
-    cases::numbers(rt, b"", &[s.named as usize, s.run as usize])?;
+    cases::numbers(rt, b":", &[r.number as usize, s.next])?;
+    print_outcome(rt, s.outcome)?;
+    cases::numbers(rt, b"", &[s.named, s.run])?;
     cases::hex(rt, block)?;
     cases::hex(rt, outbox)?;
     cases::newline(rt)
-}
-
-// The state with the row of marks of states that are given.
-fn with_marks(s: State) -> State {
-    let mut r = s;
-    r.named = MARKS;
-    r
 }
 
 // Of slot j of the outbox of s, what arrives in slot j: the message, in a slot of another run where j is above `heard`.
 fn deliver_slot(mail: &mut [u8], outbox: &[u8], s: State, heard: usize, j: usize) {
     let own = layout(s);
     let m = wire::message(outbox, own, j);
-    if j <= heard {
-        wire::send_one(mail, own, j, m);
-        return;
+    let run = if j <= heard {
+        own.run
+    } else {
+        cases::other_run(own.run, s.next)
+    };
+    wire::send_one(mail, wire::layout_with(run, own.length), j, m);
+}
+
+// What arrives of the outbox of s, for four controllers: all that is sent, or nothing.
+fn deliver(mail: &mut [u8], outbox: &[u8], s: State, heard: Option<usize>) {
+    mail.fill(0);
+    if let Some(heard) = heard {
+        for j in 1..=4 {
+            deliver_slot(mail, outbox, s, heard, j);
+        }
     }
-    let other = wire::layout_with(cases::other_run(own.run, s.next), own.length);
-    wire::send_one(mail, other, j, m);
 }
 
-// What arrives of the outbox of s, for four controllers: all that is sent.
-fn deliver(mail: &mut [u8], outbox: &[u8], s: State, heard: usize) {
-    deliver_slot(mail, outbox, s, heard, 1);
-    deliver_slot(mail, outbox, s, heard, 2);
-    deliver_slot(mail, outbox, s, heard, 3);
-    deliver_slot(mail, outbox, s, heard, 4);
-}
-
-fn step_in_run(
-    rt: &impl Print,
-    s: State,
-    block: &mut [u8],
-    inbox: &[u8],
-    outbox: &mut [u8],
-) -> io::Result<State> {
-    fill(outbox);
-    let r = advance(with_marks(s), block, inbox, outbox);
-    let state = r.state;
-    print_call(rt, s.next, r.number, state, block, outbox)?;
-    Ok(state)
-}
-
-// A step of a run, on the mail that the one before left; it leaves what arrives.
-fn call_with(
-    rt: &impl Print,
-    s: State,
-    heard: usize,
-    block: &mut [u8],
-    mail: &mut [u8],
-    outbox: &mut [u8],
-) -> io::Result<State> {
-    let i = cases::fitting(inbox_length(s), mail);
-    let state = step_in_run(rt, s, block, &mail[..i], outbox)?;
-    cases::fill(mail, 0);
-    if heard != SILENT {
-        deliver(mail, outbox, s, heard);
-    }
-    Ok(state)
-}
-
-fn call_cut(
-    rt: &impl Print,
-    s: State,
-    heard: usize,
-    block: &mut [u8],
-    mail: &mut [u8],
-    outbox: &mut [u8],
-) -> io::Result<State> {
-    let o = cases::fitting(outbox_length(s), outbox);
-    call_with(rt, s, heard, block, mail, &mut outbox[..o])
-}
-
-// A step, the lengths being those of the next call; the outbox is lent with other bytes.
+// A step of a run, on the mail that the one before left, the lengths being those of the next call; the outbox is lent with other bytes. It leaves what
+// arrives.
 fn call(
     rt: &impl Print,
     s: State,
-    heard: usize,
+    heard: Option<usize>,
     block: &mut [u8],
     mail: &mut [u8],
 ) -> io::Result<State> {
     let mut space = [0u8; 4096];
-    let outbox: &mut [u8] = &mut space;
-    call_cut(rt, s, heard, block, mail, outbox)
+    let o = cases::fitting(outbox_length(s), &space);
+    let outbox = &mut space[..o];
+    fill(outbox);
+    let i = cases::fitting(inbox_length(s), mail);
+    let r = advance(s.with_named(MARKS), block, &mail[..i], outbox);
+    print_call(rt, s.next, r, block, outbox)?;
+    deliver(mail, outbox, s, heard);
+    Ok(r.state)
 }
 
-// So many steps.
-fn calls(
-    rt: &impl Print,
-    s: State,
-    count: usize,
-    heard: usize,
-    block: &mut [u8],
-    mail: &mut [u8],
-) -> io::Result<()> {
-    let mut state = s;
-    let mut c: usize = 0;
-    while c < count {
-        state = call(rt, state, heard, block, mail)?;
-        c += 1;
+fn print_heard(rt: &impl Print, heard: Option<usize>) -> io::Result<()> {
+    match heard {
+        None => cases::text(rt, b" silent"),
+        Some(heard) => cases::numbers(rt, b"", &[heard]),
+    }
+}
+
+// All calls, and two more steps.
+fn run(rt: &impl Print, s: State, heard: Option<usize>, block: &mut [u8]) -> io::Result<()> {
+    let mut state = begin(s, block).state;
+    print_settings(rt, b"run", state)?;
+    cases::numbers(rt, b"", &[state.run])?;
+    print_heard(rt, heard)?;
+    cases::hex(rt, block)?;
+    cases::newline(rt)?;
+    let mut mail = [0u8; 4096];
+    for _ in 0..longer(longer(call_count(s.settings.t))) {
+        state = call(rt, state, heard, block, &mut mail)?;
     }
     Ok(())
 }
 
-fn print_heard(rt: &impl Print, heard: usize) -> io::Result<()> {
-    if heard == SILENT {
-        return cases::text(rt, b" silent");
-    }
-    cases::numbers(rt, b"", &[heard])
-}
-
-// All calls, and two more steps.
-fn run(rt: &impl Print, s: State, heard: usize, block: &mut [u8]) -> io::Result<()> {
-    let r = begin(s, block);
-    let state = r.state;
-    print_settings(rt, b"run", state)?;
-    cases::numbers(rt, b"", &[state.run as usize])?;
-    print_heard(rt, heard)?;
-    cases::hex(rt, block)?;
-    cases::newline(rt)?;
-    let mut space = [0u8; 4096];
-    let mail: &mut [u8] = &mut space;
-    calls(
-        rt,
-        state,
-        longer(longer(call_count(s.settings.t))),
-        heard,
-        block,
-        mail,
-    )
-}
-
 // Of four controllers the sender, with a block whose pieces are all alike, so that it marks whomever it hears.
-fn run_small(rt: &impl Print, run_number: u16, heard: usize) -> io::Result<()> {
-    let mut block = [10u8, 0];
-    run(rt, plain(4, 1, 1, 1, 1, run_number, 1), heard, &mut block)
+fn run_small(rt: &impl Print, run_number: u16, heard: Option<usize>) -> io::Result<()> {
+    run(rt, plain(4, 1, 1, 1, 1, run_number, 1), heard, &mut [10, 0])
 }
 
-fn run_sender(rt: &impl Print) -> io::Result<()> {
-    let mut block = [10u8, 20, 30, 40, 50, 60];
-    run(rt, plain(7, 2, 2, 2, 2, 256, 1), SILENT, &mut block)
-}
-
-fn run_other(rt: &impl Print) -> io::Result<()> {
-    let mut block = [10u8, 20, 30, 40, 50, 60];
-    run(rt, plain(7, 2, 2, 4, 2, 65535, 1), SILENT, &mut block)
+// Of seven controllers the sender, 2, or another.
+fn run_of_seven(rt: &impl Print, own: usize, run_number: u16) -> io::Result<()> {
+    let mut block = [10, 20, 30, 40, 50, 60];
+    run(rt, plain(7, 2, 2, own, 2, run_number, 1), None, &mut block)
 }
 
 // Without a sender (document 02, U6) the block is kept until the last call.
 fn run_without_sender(rt: &impl Print) -> io::Result<()> {
-    let mut block = [10u8, 20];
-    run(rt, plain(4, 1, 1, 3, 0, 1, 1), SILENT, &mut block)
+    run(rt, plain(4, 1, 1, 3, 0, 1, 1), None, &mut [10, 20])
 }
 
 // Nobody heard; all in slots of another run, which is the same; all but controller 4; and all.
 fn runs(rt: &impl Print) -> io::Result<()> {
-    run_small(rt, 0, SILENT)?;
-    run_sender(rt)?;
-    run_other(rt)?;
+    run_small(rt, 0, None)?;
+    run_of_seven(rt, 2, 256)?;
+    run_of_seven(rt, 4, 65535)?;
     run_without_sender(rt)?;
-    run_small(rt, 0, 0)?;
-    run_small(rt, 256, 3)?;
-    run_small(rt, 65535, 3)?;
-    run_small(rt, 258, 4)
+    run_small(rt, 0, Some(0))?;
+    run_small(rt, 256, Some(3))?;
+    run_small(rt, 65535, Some(3))?;
+    run_small(rt, 258, Some(4))
 }
 
 // The state of controller 1, the sender, before its last call.
 fn before_last(n: usize, t: usize, k: usize, run: u16, core: u16) -> State {
-    let mut s = given(n, t, k, 1, 1, call_count(t));
-    s.run = run;
-    s.core = core;
-    s
-}
-
-fn last_with(
-    rt: &impl Print,
-    s: State,
-    block: &mut [u8],
-    inbox: &[u8],
-    outbox: &mut [u8],
-) -> io::Result<()> {
-    let r = advance(s, block, inbox, outbox);
-    let state = r.state;
-    print_call(rt, s.next, r.number, state, block, outbox)
+    State {
+        run,
+        core,
+        ..given(n, t, k, 1, 1, call_count(t))
+    }
 }
 
 // The outbox of the last call has no byte.
-fn last_cut(
-    rt: &impl Print,
-    s: State,
-    block: &mut [u8],
-    inbox: &[u8],
-    outbox: &mut [u8],
-) -> io::Result<()> {
-    let o = cases::fitting(outbox_length(s), outbox);
-    last_with(rt, s, block, inbox, &mut outbox[..o])
-}
-
 fn last(rt: &impl Print, s: State, block: &mut [u8], inbox: &[u8]) -> io::Result<()> {
-    let mut space = [0u8; 4096];
-    let outbox: &mut [u8] = &mut space;
     print_settings(rt, b"last", s)?;
-    cases::numbers(rt, b"", &[s.run as usize, s.core as usize])?;
+    cases::numbers(rt, b"", &[s.run, s.core])?;
     cases::hex(rt, inbox)?;
     cases::newline(rt)?;
-    last_cut(rt, s, block, inbox, outbox)
+    let r = advance(s, block, inbox, &mut []);
+    print_call(rt, s.next, r, block, &[])
 }
 
 // n 4, t 1 and k 1.
 fn last_small(rt: &impl Print, run: u16, core: u16, inbox: &[u8]) -> io::Result<()> {
-    let mut block = [255u8; 2];
-    last(rt, before_last(4, 1, 1, run, core), &mut block, inbox)
+    last(rt, before_last(4, 1, 1, run, core), &mut [255; 2], inbox)
 }
 
 // Pieces of 0a14: all true; examples d and e of document 01, and d with slot 1 absent; all true, and no member of the core within n.
 fn last_examples(rt: &impl Print) -> io::Result<()> {
-    last_small(
-        rt,
-        0,
-        15,
-        b"\x01\x00\x00\x1e\x01\x00\x00\x22\x01\x00\x00\x36\x01\x00\x00\x5a",
-    )?;
-    last_small(
-        rt,
-        1,
-        15,
-        b"\x01\x01\x00\x00\x01\x01\x00\x22\x01\x01\x00\x36\x01\x01\x00\x5a",
-    )?;
-    last_small(
-        rt,
-        256,
-        15,
-        b"\x00\x00\x01\x1e\x01\x00\x01\x22\x01\x00\x01\x36\x01\x00\x01\x5a",
-    )?;
-    last_small(
-        rt,
-        65535,
-        15,
-        b"\x01\xff\xff\x1e\x01\xff\xff\x22\x01\xff\xff\x37\x01\xff\xff\x5b",
-    )?;
-    last_small(
-        rt,
-        0,
-        65520,
-        b"\x01\x00\x00\x1e\x01\x00\x00\x22\x01\x00\x00\x36\x01\x00\x00\x5a",
-    )
+    let lasts = [
+        (
+            0,
+            15,
+            b"\x01\x00\x00\x1e\x01\x00\x00\x22\x01\x00\x00\x36\x01\x00\x00\x5a",
+        ),
+        (
+            1,
+            15,
+            b"\x01\x01\x00\x00\x01\x01\x00\x22\x01\x01\x00\x36\x01\x01\x00\x5a",
+        ),
+        (
+            256,
+            15,
+            b"\x00\x00\x01\x1e\x01\x00\x01\x22\x01\x00\x01\x36\x01\x00\x01\x5a",
+        ),
+        (
+            65535,
+            15,
+            b"\x01\xff\xff\x1e\x01\xff\xff\x22\x01\xff\xff\x37\x01\xff\xff\x5b",
+        ),
+        (
+            0,
+            65520,
+            b"\x01\x00\x00\x1e\x01\x00\x00\x22\x01\x00\x00\x36\x01\x00\x00\x5a",
+        ),
+    ];
+    for (run, core, inbox) in &lasts {
+        last_small(rt, *run, *core, *inbox)?;
+    }
+    Ok(())
 }
 
 // The same pieces in run 258: slot 3 is of run 2 or 257, with its true piece, or of run 2 with a false one. Then 1 and 4 are of run 513, and two pieces
 // are left; then 2 is of run 0 besides, and one piece determines nothing. Last, the slots before these in run 513, in which 1 and 4 are left.
 fn last_late(rt: &impl Print) -> io::Result<()> {
-    last_small(
-        rt,
-        258,
-        15,
-        b"\x01\x02\x01\x1e\x01\x02\x01\x22\x01\x02\x00\x36\x01\x02\x01\x5a",
-    )?;
-    last_small(
-        rt,
-        258,
-        15,
-        b"\x01\x02\x01\x1e\x01\x02\x01\x22\x01\x01\x01\x36\x01\x02\x01\x5a",
-    )?;
-    last_small(
-        rt,
-        258,
-        15,
-        b"\x01\x02\x01\x1e\x01\x02\x01\x22\x01\x02\x00\x37\x01\x02\x01\x5a",
-    )?;
-    last_small(
-        rt,
-        258,
-        15,
-        b"\x01\x01\x02\x1e\x01\x02\x01\x22\x01\x02\x01\x36\x01\x01\x02\x5a",
-    )?;
-    last_small(
-        rt,
-        258,
-        15,
-        b"\x01\x01\x02\x1e\x01\x00\x00\x22\x01\x02\x01\x36\x01\x01\x02\x5a",
-    )?;
-    last_small(
-        rt,
-        513,
-        15,
-        b"\x01\x01\x02\x1e\x01\x02\x01\x22\x01\x02\x01\x36\x01\x01\x02\x5a",
-    )
+    let lasts = [
+        (
+            258,
+            15,
+            b"\x01\x02\x01\x1e\x01\x02\x01\x22\x01\x02\x00\x36\x01\x02\x01\x5a",
+        ),
+        (
+            258,
+            15,
+            b"\x01\x02\x01\x1e\x01\x02\x01\x22\x01\x01\x01\x36\x01\x02\x01\x5a",
+        ),
+        (
+            258,
+            15,
+            b"\x01\x02\x01\x1e\x01\x02\x01\x22\x01\x02\x00\x37\x01\x02\x01\x5a",
+        ),
+        (
+            258,
+            15,
+            b"\x01\x01\x02\x1e\x01\x02\x01\x22\x01\x02\x01\x36\x01\x01\x02\x5a",
+        ),
+        (
+            258,
+            15,
+            b"\x01\x01\x02\x1e\x01\x00\x00\x22\x01\x02\x01\x36\x01\x01\x02\x5a",
+        ),
+        (
+            513,
+            15,
+            b"\x01\x01\x02\x1e\x01\x02\x01\x22\x01\x02\x01\x36\x01\x01\x02\x5a",
+        ),
+    ];
+    for (run, core, inbox) in &lasts {
+        last_small(rt, *run, *core, *inbox)?;
+    }
+    Ok(())
 }
 
 // Three stripes 0a14, each with another false value.
 fn last_stripes(rt: &impl Print) -> io::Result<()> {
-    let mut block = [255u8; 6];
     last(
         rt,
         before_last(4, 1, 3, 1, 7),
-        &mut block,
+        &mut [255; 6],
         b"\x01\x01\x00\x1e\x00\x1e\x01\x01\x00\x22\x22\x00\x01\x01\x00\x36\x36\x36\x01\x01\x00\x00\x5a\x5a",
     )
 }
 
 // Four pieces of 0a141e and three silent slots, n 7 and t 2 (document 02, U2).
 fn last_silent(rt: &impl Print) -> io::Result<()> {
-    let mut block = [255u8; 3];
     last(
         rt,
         before_last(7, 2, 1, 256, 127),
-        &mut block,
+        &mut [255; 3],
         b"\x01\x00\x01\x00\x00\x00\x00\x00\x01\x00\x01\x50\x01\x00\x01\xa7\x00\x00\x00\x00\x00\x00\x00\x00\x01\x00\x01\xfd",
     )
 }
