@@ -13,8 +13,7 @@ use Rattle.bitset.specs.Set.{member}
 use Rattle.settings.specs.Valid.{Quorum}
 use Rattle.graph.specs.Neighbour.{neighbour}
 use Rattle.graph.proofs.Laws.{neighbour_self, neighbour_other}
-use Rattle.star.specs.declared.Sets.{Sets}
-use Rattle.star.specs.Star.{star_of, refusal_for, found}
+use Rattle.star.specs.Star.{Star, star_of, refusal_for, found}
 use Rattle.star.proofs.Laws.{e-below, e_size, not_found, no_sets_lem, clique_core, one_word}
 use Rattle.protocol.specs.Calls.{core_of}
 
@@ -51,7 +50,7 @@ graph_laws n t q rows = record {
   core_lt = e-below rows n t;
   core_size = λ z.
       ⊎_elim (λ (y : found (star_of rows n t) ≡ true). e_size rows n t y)
-      (λ (y : found (star_of rows n t) ≡ false). absurd (z (ap (λ (s : Sets). s.e) (not_found rows n t y) ∙ (no_sets_lem (refusal_for n t)).3)))
+      (λ (y : found (star_of rows n t) ≡ false). absurd (z (ap (λ (s : Star). s.e) (not_found rows n t y) ∙ (no_sets_lem (refusal_for n t)).3)))
       (either (found (star_of rows n t)));
   clique_in = λ H clique many. clique_core rows n t q H clique many;
   one_word = λ G few word code near a b la lb ga gb ma mb.

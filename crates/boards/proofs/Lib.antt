@@ -1,4 +1,3 @@
 -- Laws for the crates above (Laws), and those that the functions' proofs cite.
 pub mod Laws
-mod Answers
 mod Bytes

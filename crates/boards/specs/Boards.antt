@@ -30,16 +30,12 @@ use Rattle.bitset.specs.Row.{rows_in, row_byte}
 use Rattle.settings.specs.declared.Settings.{Settings}
 use Rattle.wire.specs.declared.slot.Layout.{Layout}
 use Rattle.wire.specs.Length.{block_size}
-use Rattle.reed_solomon.specs.declared.Decoded.{Decoded}
-use Rattle.reed_solomon.specs.declared.Decoded.TheVariants.{Block, Beyond, Refused}
-use Rattle.reed_solomon.specs.Decode.{Answers}
+use Rattle.reed_solomon.specs.Decode.{Decoded, Block, Beyond, Refused, Answers}
 use Rattle.reconstruction.specs.Outcomes.{outcome_number}
 use Rattle.graph.specs.Neighbour.{neighbour}
 use Rattle.graph.specs.Bits.{bits_of}
-use Rattle.star.specs.declared.Sets.{Sets}
-use Rattle.star.specs.Star.{star_of, star_of_bits}
-use Rattle.protocol.specs.declared.Started.{Started}
-use Rattle.protocol.specs.Step.{After, start_of, step_of}
+use Rattle.star.specs.Star.{Star, star_of, star_of_bits}
+use Rattle.protocol.specs.Step.{Answer, After, start_of, step_of}
 use Rattle.state_bytes.specs.State.{state_length, state_bytes, state_of}
 
 abbrev pub bad_length : ℕ
@@ -55,7 +51,7 @@ pub record Returned : Type 0 where
 abbrev pub returned : ℕ → List ℕ → Returned
 returned r bytes = record { number = r; bytes = bytes }
 
-abbrev pub start_returned : List ℕ → Started → Returned
+abbrev pub start_returned : List ℕ → Answer → Returned
 start_returned state a = cond (eqb a.number 0) (returned 0 (state_bytes a.state)) (returned a.number state)
 
 unfoldable pub start_bytes : Settings → (own run b : ℕ) → List ℕ → Returned
@@ -112,13 +108,13 @@ named_after (Refused r) m = m
 abbrev pub DecodeLeaves : (n t : ℕ) (layout : Layout) (slots b : List ℕ) (m r : ℕ) (b' : List ℕ) (m' : ℕ) → Type 0
 DecodeLeaves n t layout slots b m r b' m' = (d : Decoded) × (r ≡ decode_number d) × Answers n t layout slots b d b' × (m' ≡ named_after d m)
 
-abbrev pub set_rows : Sets → List ℕ
+abbrev pub set_rows : Star → List ℕ
 set_rows s = s.c ∷ s.d ∷ s.f ∷ s.e ∷ replicate 12 0
 
-unfoldable pub set_bytes : Sets → List ℕ
+unfoldable pub set_bytes : Star → List ℕ
 set_bytes s = tabulate (row_byte 16 (set_rows s)) 8
 
-unfoldable pub star_returned : Sets → List ℕ → Returned
+unfoldable pub star_returned : Star → List ℕ → Returned
 star_returned s sets = cond (eqb s.refusal 0) (returned 0 (set_bytes s)) (returned s.refusal sets)
 
 abbrev pub of_lengths : ℕ → List ℕ → ℕ → List ℕ → Returned → Returned

@@ -1,2 +1,3 @@
--- What the exported functions answer.
+-- What the exported functions answer, and definitions for private contracts.
 pub mod Boards
+pub mod Steps

@@ -1,11 +1,13 @@
 // The code and the star by themselves: coding, decoding, and the star of rows of marks or of missing pairs.
 ghost use Rattle.std.specs.Prelude.{◌≡◌, length};
+ghost use Rattle.settings.specs.Number.{number_of};
+ghost use Rattle.star.specs.Star.{four};
 ghost use Rattle.wire.specs.Slot.{layout_with};
 ghost use Rattle.reed_solomon.specs.Encode.{encoded, encode_of};
-ghost use Rattle.boards.specs.Boards.{returned, decode_number, named_after, DecodeLeaves, set_bytes, star_returned, star_bytes, pair_bytes, pair_star_bytes};
+ghost use Rattle.boards.specs.Boards.{returned, DecodeLeaves, set_bytes, star_returned, star_bytes, pair_bytes, pair_star_bytes};
 
-use crate::BAD_LENGTH;
-use reed_solomon::Decoded;
+use crate::{fits, row_number};
+use settings::Refusal;
 use star::Sets;
 
 // What decoding answers where no block meets the rule.
@@ -23,29 +25,7 @@ pub fn potekawhi_encode(
 ) -> u8
     ensures { encoded result piece.new ≡ encode_of n t k number block.now piece.old }
 {
-    reed_solomon::encode(n, t, k, number, block, piece)
-}
-
-// The number for an answer of decoding.
-fn decoded_number(r: Decoded) -> u8
-    ensures { result ≡ decode_number r }
-{
-    match r {
-        Decoded::Block(_) => 0,
-        Decoded::Beyond => BEYOND,
-        Decoded::Refused(number) => number,
-    }
-}
-
-// The marks that an answer of decoding leaves in the place of `named`.
-fn decoded_marks(r: Decoded, named: u16) -> u16
-    ensures { result ≡ named_after r named }
-{
-    match r {
-        Decoded::Block(marks) => marks,
-        Decoded::Beyond => 0,
-        Decoded::Refused(_) => named,
-    }
+    row_number(reed_solomon::encode(n, t, k, number, block, piece))
 }
 
 // Decoding of slots of the run `run`: the block to the lent bytes and its marks to the lent number, by the relation `Answers`.
@@ -62,35 +42,39 @@ pub fn potekawhi_decode(
     ensures { DecodeLeaves n t (layout_with run k) slots.now block.old named.old result block.new named.new }
 {
     let layout = wire::layout_with(run, k);
-    let decoded = reed_solomon::decode(n, t, layout, slots, block);
-    *named = decoded_marks(decoded, *named);
-    decoded_number(decoded)
+    match reed_solomon::decode(n, t, layout, slots, block) {
+        Ok(Some(marks)) => {
+            *named = marks;
+            0
+        }
+        Ok(None) => {
+            *named = 0;
+            BEYOND
+        }
+        Err(refusal) => refusal.into(),
+    }
 }
 
 // The four sets as rows of marks.
 fn put_sets(s: Sets, sets: &mut [u8])
     requires { length sets.old ≡ 8 }
-    ensures { sets.new ≡ set_bytes s }
+    ensures { sets.new ≡ set_bytes (four s) }
 {
     let mut rows = [0u16; 16];
-    rows[0] = s.c;
-    rows[1] = s.d;
-    rows[2] = s.f;
-    rows[3] = s.e;
+    rows[..4].copy_from_slice(&[s.c, s.d, s.f, s.e]);
     bitset::write_rows(sets, &rows, 16);
 }
 
-// An answer of the star: its number, and where that is 0 the four sets to the lent bytes.
-fn put_star(s: Sets, sets: &mut [u8]) -> u8
-    requires { length sets.old ≡ 8 }
-    ensures { returned result sets.new ≡ star_returned s sets.old }
+// The star of rows, with the refusal itself.
+#[tactic(auto, using(star::proofs::Laws::star_of_lem), unfolding(crate::specs::Boards::star_bytes, crate::specs::Boards::star_returned, star::specs::Star::no_sets))]
+fn star(n: usize, t: usize, rows: &[u8], sets: &mut [u8]) -> Result<(), Refusal>
+    ensures { returned (number_of result) sets.new ≡ star_bytes n t rows.now sets.old }
 {
-    let number = s.refusal;
-    if number != 0 {
-        return number;
-    }
-    put_sets(s, sets);
-    0
+    fits(rows, 32)?;
+    fits(sets, 8)?;
+    let found = star::find(&state_bytes::get_rows(rows), n, t)?;
+    put_sets(found, sets);
+    Ok(())
 }
 
 // The star of the rows in the lent bytes, its four sets to others.
@@ -98,15 +82,18 @@ fn put_star(s: Sets, sets: &mut [u8]) -> u8
 pub fn potekawhi_star(n: usize, t: usize, rows: &[u8], sets: &mut [u8]) -> u8
     ensures { returned result sets.new ≡ star_bytes n t rows.now sets.old }
 {
-    if rows.len() != 32 {
-        return BAD_LENGTH;
-    }
-    if sets.len() != 8 {
-        return BAD_LENGTH;
-    }
-    let graph = state_bytes::get_rows(rows);
-    let found = star::find(&graph, n, t);
-    put_star(found, sets)
+    row_number(star(n, t, rows, sets))
+}
+
+// The missing pairs, with the refusal itself.
+#[tactic(auto, unfolding(crate::specs::Boards::pair_bytes))]
+fn missing_pairs(n: usize, rows: &[u8], pairs: &mut [u8]) -> Result<(), Refusal>
+    ensures { returned (number_of result) pairs.new ≡ pair_bytes n rows.now pairs.old }
+{
+    fits(rows, 32)?;
+    fits(pairs, 15)?;
+    pairs.copy_from_slice(&graph::bits_of(&state_bytes::get_rows(rows), n));
+    Ok(())
 }
 
 // The missing pairs of the rows in the lent bytes, to others.
@@ -114,16 +101,21 @@ pub fn potekawhi_star(n: usize, t: usize, rows: &[u8], sets: &mut [u8]) -> u8
 pub fn potekawhi_missing_pairs(n: usize, rows: &[u8], pairs: &mut [u8]) -> u8
     ensures { returned result pairs.new ≡ pair_bytes n rows.now pairs.old }
 {
-    if rows.len() != 32 {
-        return BAD_LENGTH;
-    }
-    if pairs.len() != 15 {
-        return BAD_LENGTH;
-    }
-    let graph = state_bytes::get_rows(rows);
-    let bits = graph::bits_of(&graph, n);
-    wire::copy(pairs, &bits);
-    0
+    row_number(missing_pairs(n, rows, pairs))
+}
+
+// The star of missing pairs, with the refusal itself.
+#[tactic(auto, unfolding(crate::specs::Boards::pair_star_bytes))]
+fn star_of_pairs(n: usize, t: usize, pairs: &[u8], sets: &mut [u8]) -> Result<(), Refusal>
+    ensures { returned (number_of result) sets.new ≡ pair_star_bytes n t pairs.now sets.old }
+{
+    let Ok(bits) = <[u8; 15]>::try_from(pairs) else {
+        return Err(Refusal::Length);
+    };
+    fits(sets, 8)?;
+    let found = star::of_bits(bits, n, t)?;
+    put_sets(found, sets);
+    Ok(())
 }
 
 // The star of the missing pairs in the lent bytes, its four sets to others.
@@ -131,14 +123,5 @@ pub fn potekawhi_missing_pairs(n: usize, rows: &[u8], pairs: &mut [u8]) -> u8
 pub fn potekawhi_star_of_pairs(n: usize, t: usize, pairs: &[u8], sets: &mut [u8]) -> u8
     ensures { returned result sets.new ≡ pair_star_bytes n t pairs.now sets.old }
 {
-    if pairs.len() != 15 {
-        return BAD_LENGTH;
-    }
-    if sets.len() != 8 {
-        return BAD_LENGTH;
-    }
-    let mut bits = [0u8; 15];
-    wire::copy(&mut bits, pairs);
-    let found = star::of_bits(bits, n, t);
-    put_star(found, sets)
+    row_number(star_of_pairs(n, t, pairs, sets))
 }

@@ -4,22 +4,70 @@
 
 mod code;
 
-ghost use Rattle.std.specs.Prelude.{◌≡◌, cond, length};
+ghost use Rattle.std.specs.Prelude.{◌≡◌, ◌≢◌, cond, length, MatchResult};
+ghost use Rattle.settings.specs.declared.Refusal.TheVariants.{Length};
 ghost use Rattle.settings.specs.Refusal.{outside};
+ghost use Rattle.settings.specs.Number.{number_of};
 ghost use Rattle.wire.specs.Round.{call_count};
 ghost use Rattle.wire.specs.Length.{block_size, message_length, inbox_length, outbox_length};
 ghost use Rattle.wire.specs.Slot.{layout_with, message_of, offset_of};
-ghost use Rattle.state_bytes.specs.State.{state_of};
+ghost use Rattle.state_bytes.specs.State.{state_length, state_of};
 ghost use Rattle.boards.specs.Boards.{returned, start_bytes, returned_step, step_bytes, outcome_in, named_in, final_bytes};
+ghost use Rattle.boards.specs.Steps.{outcome_or_row};
 
 pub use code::{
     potekawhi_decode, potekawhi_encode, potekawhi_missing_pairs, potekawhi_star,
     potekawhi_star_of_pairs,
 };
-use settings::Settings;
+use protocol::State;
+use reconstruction::Outcome;
+use settings::{Refusal, Settings};
 
-// The number of a lent length that is wrong.
-pub(crate) const BAD_LENGTH: u8 = 6;
+// The number that C is given for an answer: 0, or that of the row.
+pub(crate) fn row_number(answer: Result<(), Refusal>) -> u8
+    ensures { result ≡ number_of answer }
+{
+    match answer {
+        Ok(()) => 0,
+        Err(refusal) => refusal.into(),
+    }
+}
+
+// Whether a lent list has the stated length.
+pub(crate) fn fits(bytes: &[u8], stated: usize) -> Result<(), Refusal>
+    ensures { MatchResult result (λ _. length bytes.now ≡ stated) (λ r. (length bytes.now ≢ stated) × (r ≡ Length)) }
+{
+    if bytes.len() == stated {
+        Ok(())
+    } else {
+        Err(Refusal::Length)
+    }
+}
+
+// The state in lent bytes.
+fn state_in(bytes: &[u8]) -> Result<State, Refusal>
+    ensures { MatchResult result (λ s. (length bytes.now ≡ state_length) × (s ≡ state_of bytes.now)) (λ r. (length bytes.now ≢ state_length) × (r ≡ Length)) }
+{
+    fits(bytes, state_bytes::length())?;
+    Ok(state_bytes::read(bytes))
+}
+
+// Start, with the refusal itself.
+#[tactic(auto, unfolding(crate::specs::Boards::start_bytes))]
+fn start(
+    settings: Settings,
+    own: usize,
+    run: u16,
+    block: &[u8],
+    state: &mut [u8],
+) -> Result<(), Refusal>
+    ensures { returned (number_of result) state.new ≡ start_bytes settings own run (length block.now) state.old }
+{
+    fits(state, state_bytes::length())?;
+    let fresh = controller::start(settings, own, run, block).map_err(|refused| refused.refusal)?;
+    state_bytes::write(fresh, state);
+    Ok(())
+}
 
 // Start of the run `run`: the number, and the state to the lent bytes. Refused: no lent byte changes.
 // Shut out: own number and sender the other way round; run 0, whatever is given; 6 whatever start answers; must-fail/refused_start_written.
@@ -35,18 +83,19 @@ pub fn potekawhi_start(
 ) -> u8
     ensures { returned result state.new ≡ start_bytes (record { n = n; t = t; k = k; sender = sender }) own run (length block.now) state.old }
 {
-    if state.len() != state_bytes::length() {
-        return BAD_LENGTH;
-    }
     let settings = Settings { n, t, k, sender };
-    let started = controller::start(settings, own, run, block);
-    let refused = started.number;
-    if refused != 0 {
-        return refused;
-    }
-    let fresh = started.state;
-    state_bytes::write(fresh, state);
-    0
+    row_number(start(settings, own, run, block, state))
+}
+
+// A step, with the refusal itself.
+#[tactic(auto, unfolding(crate::specs::Boards::step_bytes, crate::specs::Boards::step_returned))]
+fn step(state: &mut [u8], block: &mut [u8], inbox: &[u8], outbox: &mut [u8]) -> Result<(), Refusal>
+    ensures { returned_step (number_of result) state.new block.new outbox.new ≡ step_bytes state.old block.old inbox.now outbox.old }
+{
+    let before = state_in(state)?;
+    let after = controller::step(before, block, inbox, outbox).map_err(|refused| refused.refusal)?;
+    state_bytes::write(after, state);
+    Ok(())
 }
 
 // One step on the state in the lent bytes. Refused: no lent byte changes.
@@ -54,18 +103,7 @@ pub fn potekawhi_start(
 pub fn potekawhi_step(state: &mut [u8], block: &mut [u8], inbox: &[u8], outbox: &mut [u8]) -> u8
     ensures { returned_step result state.new block.new outbox.new ≡ step_bytes state.old block.old inbox.now outbox.old }
 {
-    if state.len() != state_bytes::length() {
-        return BAD_LENGTH;
-    }
-    let before = state_bytes::read(state);
-    let stepped = controller::step(before, block, inbox, outbox);
-    let number = stepped.number;
-    if number != 0 {
-        return number;
-    }
-    let next = stepped.state;
-    state_bytes::write(next, state);
-    0
+    row_number(step(state, block, inbox, outbox))
 }
 
 // The number of the next call; 0 where the state has another length.
@@ -73,21 +111,26 @@ pub fn potekawhi_step(state: &mut [u8], block: &mut [u8], inbox: &[u8], outbox: 
 pub fn potekawhi_next_call(state: &[u8]) -> usize
     ensures { result ≡ (state_of state.now).next }
 {
-    let s = state_bytes::read(state);
-    s.next
+    state_bytes::read(state).next
+}
+
+// The number that C is given for an outcome: its own, or that of the row.
+fn outcome_number(answer: Result<Outcome, Refusal>) -> u8
+    ensures { result ≡ outcome_or_row answer }
+{
+    match answer {
+        Ok(outcome) => outcome.into(),
+        Err(refusal) => refusal.into(),
+    }
 }
 
 // The number of the outcome.
 // Shut out: 9 where the state has another length; open whatever the state says.
+#[tactic(auto, unfolding(crate::specs::Boards::outcome_in))]
 pub fn potekawhi_outcome(state: &[u8]) -> u8
     ensures { result ≡ outcome_in state.now }
 {
-    if state.len() != state_bytes::length() {
-        return BAD_LENGTH;
-    }
-    let s = state_bytes::read(state);
-    let outcome = s.outcome;
-    state_bytes::outcome_number(outcome)
+    outcome_number(state_in(state).map(|s| s.outcome))
 }
 
 // The marks of those whom the controller names; none where the state has another length.
@@ -95,8 +138,23 @@ pub fn potekawhi_outcome(state: &[u8]) -> u8
 pub fn potekawhi_named(state: &[u8]) -> u16
     ensures { result ≡ named_in state.now }
 {
-    let s = state_bytes::read(state);
-    s.named
+    state_bytes::read(state).named
+}
+
+// The outcome, and the final block, once there is one.
+#[tactic(auto, unfolding(crate::specs::Boards::final_bytes, crate::specs::Boards::outcome_in))]
+fn final_block(state: &[u8], block: &[u8], out: &mut [u8]) -> Result<Outcome, Refusal>
+    ensures { returned (outcome_or_row result) out.new ≡ final_bytes state.now block.now out.old }
+{
+    let s = state_in(state)?;
+    let size = wire::block_length(s.settings.n, s.settings.t, s.settings.k);
+    fits(block, size)?;
+    fits(out, size)?;
+    match s.outcome {
+        Outcome::Open => (),
+        _ => out.copy_from_slice(block),
+    }
+    Ok(s.outcome)
 }
 
 // The number of the outcome, and the final block, once there is one.
@@ -104,23 +162,7 @@ pub fn potekawhi_named(state: &[u8]) -> u16
 pub fn potekawhi_final_block(state: &[u8], block: &[u8], out: &mut [u8]) -> u8
     ensures { returned result out.new ≡ final_bytes state.now block.now out.old }
 {
-    if state.len() != state_bytes::length() {
-        return BAD_LENGTH;
-    }
-    let s = state_bytes::read(state);
-    let size = wire::block_length(s.settings.n, s.settings.t, s.settings.k);
-    if block.len() != size {
-        return BAD_LENGTH;
-    }
-    if out.len() != size {
-        return BAD_LENGTH;
-    }
-    let number = potekawhi_outcome(state);
-    if number == 0 {
-        return 0;
-    }
-    wire::copy(out, block);
-    number
+    outcome_number(final_block(state, block, out))
 }
 
 // The length of the message in slot j of an inbox of the run `run` with messages of `len` bytes, and to `offset` where it starts; 0 and 0 where there
@@ -130,10 +172,8 @@ pub fn potekawhi_message(inbox: &[u8], run: u16, len: usize, j: usize, offset: &
     ensures { (result ≡ length (message_of inbox.now (layout_with run len) j)) × (offset.new ≡ offset_of inbox.now (layout_with run len) j) }
 {
     let layout = wire::layout_with(run, len);
-    let start = wire::offset(inbox, layout, j);
-    *offset = start;
-    let m = wire::message(inbox, layout, j);
-    m.len()
+    *offset = wire::offset(inbox, layout, j);
+    wire::message(inbox, layout, j).len()
 }
 
 // The length of a block; 0 outside the settings.
