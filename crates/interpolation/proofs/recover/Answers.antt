@@ -3,8 +3,17 @@ use Rattle.interpolation.specs.Steps.{ratio_of, ratios_of}
 use Rattle.interpolation.specs.Interpolation.{smaller, series}
 use Rattle.interpolation.proofs.Laws.{smaller_first, smaller-second, candidate-series}
 use native.Mathlib.Omega.{arith}
-use mathlib.Core.Path.{sym, ap, ◌∙◌}
+use mathlib.Core.Path.{refl, sym, ap, ◌∙◌}
+use Rattle.lists.proofs.Zeros.{take-zeros}
+use lib.ListN.{length}
+use Prim.Native.Nat.{◌+◌}
 use Rattle.interpolation.proofs.recover.Goals as goal
+
+pub interpolate-requires : goal.interpolate-requires
+interpolate-requires c =
+    let w = length c.args.xs.now + c.args.t + 1 in
+    let z = take-zeros 22 w c.requires.1 in
+    record { values = c.requires.0; few = omega arith; least = refl; zero_q = z; zero_e = z; zero_q' = z; zero_e' = z }
 
 pub divide-requires : goal.divide-requires
 divide-requires c =
