@@ -1,11 +1,11 @@
--- The length of a block, tested with no product, and two lengths tested. The main law: `whole_block`.
-use mathlib.Core.Path.{◌≡◌, refl, sym, ap, ◌∙◌}
-use mathlib.Core.Bool.{true, false, ◌&&◌}
-use Prim.Native.Nat.{ℕ, zero, suc, ◌+◌, ◌-◌, ◌*◌, ◌/◌, ◌%◌, ◌<◌, ◌≤◌}
-use native.Mathlib.Nat.{zero-mul, mul-suc, mul-mod_right, div-add-mod, div-eq_of_eq-mul_right}
+-- The length of a block, tested with no sum or product that can overflow, and two lengths tested. The main law: `whole_block`.
+use mathlib.Core.Path.{◌≡◌, ap, ◌∙◌}
+use mathlib.Core.Bool.{true, ◌&&◌}
+use Prim.Native.Nat.{ℕ, min, ◌+◌, ◌*◌, ◌<◌}
+use native.Mathlib.Nat.{mul-suc}
 use native.Mathlib.Numerals.{add-one}
 use native.Mathlib.Omega.{arith}
-use borrow.Author.Tests.{ne_eqb, eq-eqb, eqb-true}
+use borrow.Author.Tests.{eq-eqb, eqb-true}
 use lib.Dec.{eqb}
 use Rattle.lists.proofs.Tests.{bool_ext, and_left, and_right, and_both}
 use Rattle.wire.specs.Length.{block_length}
@@ -22,28 +22,12 @@ module _ (len k t : ℕ) where
   size : block_length k t ≡ k * t + k
   size = block_length_is k t ∙ ap (λ n. k * n) (add-one t) ∙ mul-suc k t
 
-  pub no_block : k ≡ 0 → eqb len 0 ≡ eqb len (block_length k t)
-  no_block e = ap (eqb len) (sym (block_length_is k t ∙ ap (λ n. n * (t + 1)) e ∙ zero-mul (t + 1)))
-
-  pub short_block : len < k → eqb len (block_length k t) ≡ false
-  short_block l = ne_eqb len (block_length k t) (λ e. omega (arith, size))
-
-  pub part_block : (len % k ≡ 0 → ⊥) → eqb len (block_length k t) ≡ false
-  part_block n = ne_eqb len (block_length k t) (λ e. n (ap (λ x. x % k) (e ∙ block_length_is k t) ∙ mul-mod_right k (t + 1)))
-
-  pub some_stripes : 0 < k → k ≤ len → len % k ≡ 0 → 1 ≤ len / k
-  some_stripes p l e = some (len / k) refl
-    where
-      some : (q : ℕ) → len / k ≡ q → 1 ≤ q
-      some zero h = absurd (omega (arith, div-add-mod len k, ap (λ x. k * x) h))
-      some (suc q) h = omega arith
-
-  pub whole_block : 0 < k → k ≤ len → len % k ≡ 0 → eqb (len / k - 1) t ≡ eqb len (block_length k t)
-  whole_block p l e =
-      bool_ext (eqb (len / k - 1) t) (eqb len (block_length k t))
+  -- no list is as long as the most that a number can be
+  pub whole_block : (most : ℕ) → len < most → eqb len (min (min (k * t) most + k) most) ≡ eqb len (block_length k t)
+  whole_block most l =
+      bool_ext (eqb len (min (min (k * t) most + k) most)) (eqb len (block_length k t))
       (λ h.
-      let q : len / k ≡ t + 1 = omega (arith, eqb-true (len / k - 1) t h, some_stripes p l e) in
-      eq-eqb len (block_length k t) (omega (arith, div-add-mod len k, ap (λ x. k * x) q, block_length_is k t)))
+      let e : len ≡ min (min (k * t) most + k) most = eqb-true len (min (min (k * t) most + k) most) h in eq-eqb len (block_length k t) (omega (arith, size)))
       (λ h.
-      let q : len / k ≡ t + 1 = div-eq_of_eq-mul_right p (eqb-true len (block_length k t) h ∙ block_length_is k t) in
-      eq-eqb (len / k - 1) t (omega (arith, q)))
+      let e : len ≡ block_length k t = eqb-true len (block_length k t) h in
+      eq-eqb len (min (min (k * t) most + k) most) (omega (arith, size)))

@@ -27,7 +27,7 @@ fn has_piece(slots: &[u8], layout: Layout, j: usize) -> bool
     1 <= wire::message(slots, layout, j).len()
 }
 
-// The points of the present ones of n slots, rising, into the front of xs; how many they are.
+// The points of the present ones of n slots, rising, into the front of xs; how many they are. (With no heap there is no list to collect them in.)
 fn list_points(n: usize, layout: Layout, slots: &[u8], xs: &mut [u8]) -> usize
     requires { (n ≤ 16) × (n ≤ length xs.old) }
     ensures { Listed n layout slots.now result xs.new }
@@ -150,20 +150,11 @@ fn decode_slots(
     decode_present(&pieces, block)
 }
 
-// Whether a list is exactly as long as a block of k stripes.
+// Whether a list is exactly as long as a block of k stripes, whose length may be past every list's.
 fn is_block(block: &[u8], t: usize, k: usize) -> bool
     ensures { result ≡ eqb (length block.now) (block_length k t) }
 {
-    if k == 0 {
-        return block.len() == 0;
-    }
-    if block.len() < k {
-        return false;
-    }
-    if block.len() % k != 0 {
-        return false;
-    }
-    block.len() / k - 1 == t
+    block.len() == k.saturating_mul(t).saturating_add(k)
 }
 
 fn decode_fits(n: usize, t: usize, layout: Layout, slots: &[u8], block: &[u8]) -> bool
@@ -224,7 +215,7 @@ fn encode_columns(t: usize, block: &[u8], x: u8, column: &mut [u8], piece: &mut 
     }
 }
 
-// The same, with bytes of its own for the columns.
+// The same, with bytes of its own for the columns: with no heap an array of fixed size, lent as far as it is needed.
 fn encode_piece(t: usize, block: &[u8], x: u8, piece: &mut [u8])
     requires { (t ≤ 5) × (length piece.old ≤ 128) × (length block.now ≡ length piece.old * (t + 1)) }
     ensures { piece.new ≡ piece_of (length piece.old) t block.now x }

@@ -7,7 +7,7 @@ ghost use Rattle.reed_solomon.specs.Steps.{column, values_at, unequal, different
 use crate::guessing;
 use crate::pieces::{Choice, Pieces};
 
-// The values of the polynomial m at the points xs, into out.
+// The values of the polynomial m at the points xs, into out. (`columns::values` has many polynomials at one point: the field's loop is another.)
 fn values(m: &[u8], xs: &[u8], out: &mut [u8])
     requires { length out.old ≡ length xs.now }
     ensures { out.new ≡ values_at m.now xs.now }
@@ -23,13 +23,7 @@ fn mark_unequal(a: &[u8], b: &[u8]) -> u16
     requires { (length a.now ≡ length b.now) × (length a.now ≤ 16) }
     ensures { result ≡ unequal a.now b.now }
 {
-    let mut marks: u16 = 0;
-    for (i, x) in a.iter().enumerate() {
-        if *x != b[i] {
-            marks = bitset::insert(marks, i);
-        }
-    }
-    marks
+    bitset::select(a.len(), |i| a[i] != b[i])
 }
 
 // The marks, by index, of the points xs at which the message m does not take the value that ys has, by way of vs.
@@ -41,7 +35,7 @@ fn mark_values(xs: &[u8], ys: &[u8], m: &[u8], vs: &mut [u8]) -> u16
     mark_unequal(vs, ys)
 }
 
-// The same, with bytes of its own for the values of m.
+// The same, with bytes of its own for the values of m: with no heap an array of fixed size, lent as far as it is needed.
 fn mark_different(xs: &[u8], ys: &[u8], m: &[u8]) -> u16
     requires { (length ys.now ≡ length xs.now) × (length xs.now ≤ 16) }
     ensures { result ≡ different xs.now ys.now m.now }
@@ -148,7 +142,7 @@ fn settle_column(
     })
 }
 
-// The same, with bytes of its own for the values received.
+// The same, with bytes of its own for the values received: with no heap an array of fixed size, lent as far as it is needed.
 pub(crate) fn settle(pieces: &Pieces, s: usize, marks: u16, m: &mut [u8]) -> Option<Choice>
     requires { length m.old ≡ pieces.now.t + 1 }
     ensures { Settled pieces.now.t pieces.now.points.now (column pieces.now.layout pieces.now.slots.now s pieces.now.points.now) result m.new }

@@ -1,23 +1,15 @@
 -- `is_block` meets its contract.
-use Rattle.reed_solomon.proofs.Sizes.{no_block, short_block, part_block, some_stripes, whole_block}
-use lib.ListN.{length}
+use mathlib.Core.Path.{ap, ◌∙◌}
+use Prim.Native.Nat.{ℕ, ◌<◌, ◌+◌, ◌-◌, ◌^◌, min}
 use native.Mathlib.Omega.{arith}
-use mathlib.Core.Path.{sym}
+use lib.Dec.{eqb}
+use lib.ListN.{length}
+use Rattle.reed_solomon.proofs.Sizes.{whole_block}
 use Rattle.reed_solomon.proofs.is_block.Goals as goal
 
-pub returns-then-k-eq0 : goal.returns-then-k-eq0
-returns-then-k-eq0 c = let a = c.args in no_block (length a.block.now) a.k a.t c.if-k-eq0.true
-
-pub returns-then-block-k : goal.returns-then-block-k
-returns-then-block-k c = let a = c.args in sym (short_block (length a.block.now) a.k a.t (omega arith))
-
-pub returns-then-block-k-ne0 : goal.returns-then-block-k-ne0
-returns-then-block-k-ne0 c = let a = c.args in sym (part_block (length a.block.now) a.k a.t c.if-block-k-ne0.true)
-
-pub overflow_sub-result : goal.overflow_sub-result
-overflow_sub-result c =
-    let a = c.args in
-    omega (arith, some_stripes (length a.block.now) a.k a.t (omega arith) (omega arith) c.if-block-k-ne0.false)
-
 pub returns : goal.returns
-returns c = let a = c.args in whole_block (length a.block.now) a.k a.t (omega arith) (omega arith) c.if-block-k-ne0.false
+returns c =
+    let a = c.args in
+    let len = length a.block.now in
+    let short : len < 2 ^ 64 - 1 = omega arith in
+    ap (eqb len) (c.saturating_add.ensures ∙ ap (λ (x : ℕ). min (x + a.k) (2 ^ 64 - 1)) c.saturating_mul.ensures) ∙ whole_block len a.k a.t (2 ^ 64 - 1) short
