@@ -23,10 +23,9 @@ use Rattle.reconstruction.specs.declared.Outcome.TheVariants.{Open}
 use Rattle.reconstruction.specs.Reconstruction.{finished}
 use Rattle.reconstruction.proofs.Laws.{finished_lt}
 use Rattle.protocol.specs.declared.State.{State}
-use Rattle.protocol.specs.declared.Started.{Started}
 use Rattle.protocol.specs.State.{zero_state, fresh_state, advanced, with_matrix, with_votes, with_core, with_named}
 use Rattle.protocol.specs.Calls.{Carried, inbox_layout, read_phase, core_of, settled_matrix, call_of}
-use Rattle.protocol.specs.Step.{start_refusal, start_of, step_refusal, After, step_of}
+use Rattle.protocol.specs.Step.{Answer, start_refusal, start_of, step_refusal, After, step_of}
 use Rattle.protocol.proofs.Laws.{
   start_0,
   start_number,
@@ -84,73 +83,31 @@ pub start_words : (s : Settings) (own run b : ℕ) → run < 2 ^ 16 → Words (s
 start_words s own run b u =
     ⊎_elim
     (λ (z : start_refusal s own b ≡ 0).
-    subst (λ (a : Started). Words a.state) (sym (start_found s own b run (start_refusal s own b) refl z))
+    subst (λ (a : Answer). Words a.state) (sym (start_found s own b run (start_refusal s own b) refl z))
     (fresh_words s own run (start_0 s own run b (start_number s own run b ∙ z)).0 u))
     (λ (z : start_refusal s own b ≡ 0 → ⊥).
-    subst (λ (a : Started). Words a.state) (sym (start_refused s own b run (start_refusal s own b) refl z)) zero_words)
+    subst (λ (a : Answer). Words a.state) (sym (start_refused s own b run (start_refusal s own b) refl z)) zero_words)
     (same_or_not (start_refusal s own b) 0)
 
 -- ---- the changes of a call
 advanced_words : (s : State) (w : Outcome) → Words s → s.next ≤ 24 → Words (advanced s w)
-advanced_words s w h l = record {
-  numbers = numbers_lt (advanced s w) (h.numbers 0) (h.numbers 1) (h.numbers 2) (h.numbers 3) (h.numbers 4) (omega arith);
-  matrix_length = h.matrix_length;
-  matrix_rows = h.matrix_rows;
-  weak-length = h.weak-length;
-  weak_rows = h.weak_rows;
-  core_row = h.core_row;
-  named_row = lit< tt;
-  run_word = h.run_word;
-}
+advanced_words s w h l =
+    let below : (i : ℕ) → get_or (six_numbers (advanced s w)) i 0 < 2 ^ 64 =
+    numbers_lt (advanced s w) (h.numbers 0) (h.numbers 1) (h.numbers 2) (h.numbers 3) (h.numbers 4) (omega arith) in
+    grind arith
 
 matrix_words : (s : State) (m : List ℕ) → Words s → length m ≡ 16 → ((i : ℕ) → get_or m i 0 < 2 ^ 16) → Words (with_matrix s m)
-matrix_words s m h l r = record {
-  numbers = h.numbers;
-  matrix_length = l;
-  matrix_rows = r;
-  weak-length = h.weak-length;
-  weak_rows = h.weak_rows;
-  core_row = h.core_row;
-  named_row = h.named_row;
-  run_word = h.run_word;
-}
+matrix_words s m h l r = grind arith
 
 votes_words : (s : State) (m w : List ℕ) → Words s → length m ≡ 16 → ((i : ℕ) → get_or m i 0 < 2 ^ 16) → length w ≡ 16 → ((i : ℕ) → get_or w i 0 < 2 ^ 16)
     → Words (with_votes s m w)
-votes_words s m w h l r l' r' = record {
-  numbers = h.numbers;
-  matrix_length = l;
-  matrix_rows = r;
-  weak-length = l';
-  weak_rows = r';
-  core_row = h.core_row;
-  named_row = h.named_row;
-  run_word = h.run_word;
-}
+votes_words s m w h l r l' r' = grind arith
 
 core_words : (s : State) (m : List ℕ) (e : ℕ) → Words s → length m ≡ 16 → ((i : ℕ) → get_or m i 0 < 2 ^ 16) → e < 2 ^ 16 → Words (with_core s m e)
-core_words s m e h l r c = record {
-  numbers = h.numbers;
-  matrix_length = l;
-  matrix_rows = r;
-  weak-length = h.weak-length;
-  weak_rows = h.weak_rows;
-  core_row = c;
-  named_row = h.named_row;
-  run_word = h.run_word;
-}
+core_words s m e h l r c = grind arith
 
 named_words : (s : State) (m : ℕ) → Words s → m < 2 ^ 16 → Words (with_named s m)
-named_words s m h l = record {
-  numbers = h.numbers;
-  matrix_length = h.matrix_length;
-  matrix_rows = h.matrix_rows;
-  weak-length = h.weak-length;
-  weak_rows = h.weak_rows;
-  core_row = h.core_row;
-  named_row = l;
-  run_word = h.run_word;
-}
+named_words s m h l = grind arith
 
 -- ---- each call
 module _ (s : State) (b i o : List ℕ) (h : Words s) (few : s.settings.n ≤ 16) (l : s.next ≤ 24) where
