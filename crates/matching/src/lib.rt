@@ -48,7 +48,7 @@ impl Matching {
 }
 
 // The missing pairs below n as rows: row i has those with whom i makes one.
-// Shut out: the rows for 16 whatever n; the row of 0 everywhere.
+// Shut out: must-fail/pairs_past_n; the row of 0 everywhere.
 pub fn complement(bits: [u8; 15], n: usize) -> [u16; 16]
     ensures { result ≡ complement (min n 16) (adjacent bits) }
 {
