@@ -64,7 +64,7 @@ pub fn outcome_number(outcome: Outcome) -> u8
     u8::from(outcome)
 }
 
-// Writes field i to as many bytes as it takes.
+// Writes field i to as many bytes as it takes. A match on i, as `field_bytes s i` counts the fields.
 #[tactic(auto, unfolding(crate::specs::State::field_bytes))]
 fn put_field(bytes: &mut [u8], s: State, i: usize)
     requires { (i < length widths) × (length bytes.old ≡ width_of i) }
