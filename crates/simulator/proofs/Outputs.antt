@@ -9,13 +9,16 @@ use native.Mathlib.Omega.{arith}
 use Rattle.bitset.specs.Set.{member, set_of}
 use Rattle.wire.specs.Length.{message_length}
 use Rattle.reconstruction.specs.declared.Outcome.{Outcome}
+use Rattle.std.specs.Prelude.{Ok}
+use Rattle.text.specs.Write.{padded}
+use Rattle.system_file.specs.declared.SystemFile.{SystemFile}
 use Rattle.system_file.specs.Form.{Contents, wrong, right, read_of}
-use Rattle.system_file.specs.Table.{is_faulty, text_of, said_of, table_of, place_in}
+use Rattle.system_file.specs.Table.{is_faulty, text_of, said_of, table_of, place_in, file_of}
 use Rattle.system_file.proofs.Laws.{read_right, said_is, said_cases, said_bytes, table_place, faulty-member}
 use Rattle.simulation.specs.Run.{Scenario, Playing, Proper, ended}
 use Rattle.simulation.proofs.Laws.{played-alike}
 use Rattle.simulator.specs.Output.{names_line, result_line, results, output_of, bad_line, scenario_of, written_for, simulated}
-use Rattle.simulator.specs.Steps.{table_scenario}
+use Rattle.simulator.specs.Steps.{scene}
 
 pub results-alike : (faulty faulty' : ℕ → Bool) (w w' : ℕ → Outcome) (b b' : ℕ → List ℕ) (n : ℕ) → ((i : ℕ) → 1 ≤ i → i ≤ n → faulty i ≡ faulty' i)
     → ((i : ℕ) → 1 ≤ i → i ≤ n → faulty i ≡ false → (w i ≡ w' i) × (b i ≡ b' i)) → results faulty w b n ≡ results faulty' w' b' n
@@ -57,14 +60,14 @@ scenario_proper input c e =
     }
 
 -- the scenario of the table
-pub table_output : (input : List ℕ) (c : Contents) → read_of input ≡ right c
-    → output_of (table_scenario c.settings c.block (set_of 16 (λ i. is_faulty c.messages (i + 1))) (table_of c.messages) input)
+reader_output : (input : List ℕ) (c : Contents) → read_of input ≡ right c
+    → output_of (scene input (record { settings = c.settings; block = padded 192 c.block; faulty = set_of 16 (λ i. is_faulty c.messages (i + 1)); places = table_of c.messages }) c.block)
     ≡ output_of (scenario_of input c)
-table_output input c e =
+reader_output input c e =
     let q = read_right input c e in
     let few = q.coded.quorum.n_most in
     let set = set_of 16 (λ i. is_faulty c.messages (i + 1)) in
-    let T = table_scenario c.settings c.block set (table_of c.messages) input in
+    let T = scene input (record { settings = c.settings; block = padded 192 c.block; faulty = set; places = table_of c.messages }) c.block in
     let F = scenario_of input c in
     let faulty : (j : ℕ) → 1 ≤ j → j ≤ c.settings.n → member set (j - 1) ≡ is_faulty c.messages j =
     λ j a b.
@@ -86,3 +89,16 @@ table_output input c e =
     (λ i. (ended T i).block) (λ i. (ended F i).block) c.settings.n faulty
     (λ i a b _. (ap (λ (p : Playing). p.state.outcome) (same i a b), ap (λ (p : Playing). p.block) (same i a b))))
     ∙ sym (output_is F)
+
+-- whatever holds the reader's answer
+pub table_output : (input : List ℕ) (c : Contents) → read_of input ≡ right c → (file : SystemFile) → Ok file ≡ file_of (right c)
+    → output_of (scene input file c.block) ≡ output_of (scenario_of input c)
+table_output input c e file is =
+    let answer : SystemFile = record {
+      settings = c.settings;
+      block = padded 192 c.block;
+      faulty = set_of 16 (λ i. is_faulty c.messages (i + 1));
+      places = table_of c.messages;
+    } in
+    let u : file ≡ answer = cc in
+    ap (λ (f : SystemFile). output_of (scene input f c.block)) u ∙ reader_output input c e

@@ -1,143 +1,135 @@
--- All calls. The main law: `held_next`, what each controller holds after one call more.
-use mathlib.Core.Path.{◌≡◌, sym, ap, subst, ◌∙◌}
+-- All calls. The main laws: `call_is` (a step is the call of the definition), `held_next` (what each controller holds after one call more), `start_turn` and
+-- `start_end` (what the run begins with).
+use mathlib.Core.Path.{◌≡◌, refl, sym, ap, subst, ◌∙◌}
 use mathlib.Core.Bool.{true, false}
 use mathlib.Core.List.{List, [], ◌++◌}
 use mathlib.Core.Logic.{⊎_elim}
 use Prim.Native.Nat.{ℕ, suc, ◌+◌, ◌-◌, ◌*◌, ◌≤◌, ◌<◌}
-use native.Mathlib.Nat.{mul-le-mul}
 use native.Mathlib.Numerals.{add-one}
 use native.Mathlib.Omega.{arith}
-use lib.ListN.{length, get_or, set, take, drop, replicate, get_or-replicate}
-use lib.Seq.{get_or-set_same, get_or-set_other}
-use Rattle.lists.specs.Join.{part}
+use lib.ListN.{length, get_or, set, take, replicate, length-set, length-replicate, get_or-replicate}
+use lib.Seq.{get_or-set_same, get_or-set_other, take_at}
+use Rattle.protocol.specs.declared.State.{State}
 use Rattle.lists.proofs.Tests.{either}
 use Rattle.lists.proofs.Sums.{below_suc}
-use Rattle.lists.proofs.Parts.{slot_within, length_put, length-lent}
-use Rattle.lists.proofs.Joins.{part_put_same, part_put_other}
 use Rattle.bitset.specs.Set.{member}
-use Rattle.settings.specs.declared.Settings.{Settings}
-use Rattle.wire.specs.Length.{block_length, message_length, inbox_length, outbox_length}
-use Rattle.wire.specs.Slot.{copied}
-use Rattle.wire.proofs.Laws.{length_pos, inbox_is, outbox_is, copied_all}
-use Rattle.protocol.specs.declared.State.{State}
-use Rattle.protocol.specs.State.{zero_state}
-use Rattle.protocol.specs.Step.{start_of}
+use Rattle.wire.specs.Length.{message_length}
+use Rattle.wire.proofs.Laws.{length_pos, inbox_is, outbox_is, first_inbox}
+use Rattle.protocol.specs.Step.{step_of}
+use Rattle.system_file.specs.declared.SystemFile.{SystemFile}
 use Rattle.system_file.specs.Table.{text_of, place_in}
-use Rattle.simulation.specs.Run.{run_number, Scenario, Playing, played}
-use Rattle.simulation.proofs.Laws.{called_ext, called_other, played_correct, played-faulty}
-use Rattle.simulator.specs.Steps.{FileSettings, Rooms, Calling, Called, AfterCalls, table_scenario, now_of}
-use Rattle.simulator.proofs.Running.{inbox_le, outbox_le}
+use Rattle.simulation.specs.Run.{run_number, Scenario, Playing, began, inbox_of, called, played}
+use Rattle.simulation.proofs.Laws.{began_is, called_is, cleared, inbox_ext, called_ext, called_other, played_start, played_correct, played-faulty}
+use Rattle.simulator.specs.declared.run.Controller.{Controller}
+use Rattle.simulator.specs.Steps.{FileSettings, Called, AfterCalls, block_in, inbox_in, outbox_in, given, scene, zero_controller, sent_by, held, now_of, taken}
 
--- a run finds what each call finds
-pub playable_calling : (input places : List ℕ) (S : Settings) (c : ℕ) (blocks₀ blocks sent sending : List ℕ) → FileSettings S → Rooms input places S
-    → S.n * block_length S.k S.t ≤ length blocks₀ → length blocks ≡ length blocks₀ → length sent ≡ 49920 → length sending ≡ 49920 → c ≤ 3 * S.t + 8
-    → Calling input places S c blocks sent sending
-playable_calling input places S c blocks₀ blocks sent sending v rooms room same is-sent is-sending most =
-    let few = v.coded.quorum.n_most in
-    record {
-      small = v;
-      rooms = rooms;
-      calls-most = most;
-      blocks_room = omega (arith, room, same);
-      sent_room = omega (arith, is-sent, mul-le-mul {n₁ = S.n} {m₁ = inbox_length S.n S.t S.k (c + 1)} {n₂ = 16} {m₂ = 3120} few (inbox_le v c most));
-      sent_most = omega (arith, is-sent);
-      sending_room = omega (
-        arith,
-        is-sending,
-        mul-le-mul {n₁ = S.n} {m₁ = outbox_length S.n S.t S.k (c + 1)} {n₂ = 16} {m₂ = 3120} few
-            (outbox_le v (c + 1) (omega arith) (omega arith)),
-      );
-    }
+-- ---- one call
+abbrev pub playing : List ℕ → List ℕ → State → Playing
+playing v y s = record { state = s; block = v; outbox = y }
 
-module _ (S : Settings) (block : List ℕ) (faulty : ℕ) (places input : List ℕ) (v : FileSettings S) where
+-- the lent fronts of the arrays came back as v and y
+pub held_fronts : {s : State} {v : List ℕ} (d : List ℕ) {y : List ℕ} (z : List ℕ) {b o : ℕ} → length v ≡ b → length y ≡ o
+    → held (record { state = s; block = v ++ d; outbox = y ++ z }) b o ≡ record { state = s; block = v; outbox = y }
+held_fronts {s} {v} d {y} z {b} {o} e f = (λ x. record { state = s; block = take_at v d b e x; outbox = take_at y z o f x })
+
+-- x is the controller of index i, whose inbox was made
+pub call_is : (input : List ℕ) (file : SystemFile) (cs : List Controller) (c i : ℕ) {x : Controller} → x ≡ get_or cs i zero_controller → {inbox : List ℕ}
+    → inbox ≡ inbox_of (scene input file []) c (sent_by cs (inbox_in file.settings c)) (i + 1) → {b o : ℕ} → b ≡ block_in file.settings
+    → o ≡ outbox_in file.settings (c + 1)
+    → taken (step_of x.state (take b x.block) inbox (replicate o 0))
+    ≡ called (scene input file []) c (now_of cs file.settings (inbox_in file.settings c)) (i + 1)
+call_is input file cs c i {x} e {inbox} g {b} {o} f h =
+    let F = scene input file [] in
+    let now = now_of cs file.settings (inbox_in file.settings c) in
+    let back : i + 1 - 1 ≡ i = omega arith in
+    let d : x ≡ get_or cs (i + 1 - 1) zero_controller = e ∙ ap (λ (y : ℕ). get_or cs y zero_controller) (sym back) in
+    let m = g ∙ inbox_ext F c (sent_by cs (inbox_in file.settings c)) now (i + 1) (λ j _ _ _. refl) in
+    let z = ap (λ (y : ℕ). replicate y 0) h ∙ sym (cleared F (c + 1)) in
+    (λ y. taken (step_of (d y).state (take (f y) (d y).block) (m y) (z y))) ∙ sym (called_is F c now (i + 1))
+
+-- ---- one call of each
+module _ (input : List ℕ) (file : SystemFile) (v : FileSettings file.settings) (block : List ℕ) where
   F : Scenario
-  F = table_scenario S block faulty places input
+  F = scene input file block
 
-  module _ (c : ℕ) (states next : List State) (blocks blocks' sent sending : List ℕ) (most : c ≤ 3 * S.t + 8)
-      (H : AfterCalls (table_scenario S block faulty places input) c states blocks (block_length S.k S.t) sent (inbox_length S.n S.t S.k (c + 1)))
-      (C : Called (table_scenario S [] faulty places input) c (now_of states blocks (block_length S.k S.t) sent (inbox_length S.n S.t S.k (c + 1)))
-      (now_of next blocks' (block_length S.k S.t) sending (outbox_length S.n S.t S.k (c + 1)))) where
-    now : ℕ → Playing
-    now = now_of states blocks (block_length S.k S.t) sent (inbox_length S.n S.t S.k (c + 1))
-
-    after : ℕ → Playing
-    after = now_of next blocks' (block_length S.k S.t) sending (outbox_length S.n S.t S.k (c + 1))
-
-    correct_is : (i : ℕ) → 1 ≤ i → i ≤ S.n → member faulty (i - 1) ≡ false → after i ≡ played F (suc c) i
-    unfolding F now after
+  module _ {c : ℕ} {cs : List Controller} (after : List Controller) (most : c ≤ 3 * file.settings.t + 8) (H : AfterCalls (scene input file block) c cs (inbox_in file.settings c))
+      (C : Called (scene input file []) c (now_of cs file.settings (inbox_in file.settings c)) (now_of after file.settings (outbox_in file.settings (c + 1)))) where
+    correct_is : (i : ℕ) → 1 ≤ i → i ≤ file.settings.n → member file.faulty (i - 1) ≡ false
+        → now_of after file.settings (outbox_in file.settings (c + 1)) i ≡ played F (suc c) i
+    unfolding F
     correct_is i a b f =
+        let now = now_of cs file.settings (inbox_in file.settings c) in
         C.correct i a b f
-        ∙ called_other S [] block (λ j. member faulty (j - 1)) (λ r g j. text_of input (message_length S.n S.t S.k r) (place_in places r g j)) c now i
+        ∙ called_other file.settings [] block (λ j. member file.faulty (j - 1))
+        (λ r g j. text_of input (message_length file.settings.n file.settings.t file.settings.k r) (place_in file.places r g j)) c now i
         ∙ called_ext F c now (played F c) i (H.state i a b) (H.block i a b) (λ j d e g. H.outbox j d e most g)
         ∙ sym (played_correct F c i f)
 
-    -- one call more
-    pub held_next : (sent' : List ℕ) → sent' ≡ sending
-        → AfterCalls (table_scenario S block faulty places input) (c + 1) next blocks' (block_length S.k S.t) sent'
-        (inbox_length S.n S.t S.k (c + 1 + 1))
-    unfolding F now after
-    held_next sent' is-sent =
-        subst (λ (d : ℕ). AfterCalls F d next blocks' (block_length S.k S.t) sent' (inbox_length S.n S.t S.k (c + 1 + 1))) (sym (add-one c))
+    pub held_next : AfterCalls (scene input file block) (c + 1) after (inbox_in file.settings (c + 1))
+    unfolding F
+    held_next =
+        subst (λ (d : ℕ). AfterCalls F d after (inbox_in file.settings (c + 1))) (sym (add-one c))
         (record {
           state = λ i a b. ⊎_elim
-              (λ (f : member faulty (i - 1) ≡ true).
+              (λ (f : member file.faulty (i - 1) ≡ true).
               C.state i a b f ∙ H.state i a b ∙ ap (λ (p : Playing). p.state) (sym (played-faulty F c i f)))
-              (λ (f : member faulty (i - 1) ≡ false). ap (λ (p : Playing). p.state) (correct_is i a b f))
-              (either (member faulty (i - 1)));
+              (λ (f : member file.faulty (i - 1) ≡ false). ap (λ (p : Playing). p.state) (correct_is i a b f))
+              (either (member file.faulty (i - 1)));
           block = λ i a b. ⊎_elim
-              (λ (f : member faulty (i - 1) ≡ true).
+              (λ (f : member file.faulty (i - 1) ≡ true).
               C.block i a b f ∙ H.block i a b ∙ ap (λ (p : Playing). p.block) (sym (played-faulty F c i f)))
-              (λ (f : member faulty (i - 1) ≡ false). ap (λ (p : Playing). p.block) (correct_is i a b f))
-              (either (member faulty (i - 1)));
+              (λ (f : member file.faulty (i - 1) ≡ false). ap (λ (p : Playing). p.block) (correct_is i a b f))
+              (either (member file.faulty (i - 1)));
           outbox = λ i a b l f.
+              let S = file.settings in
               let pos = length_pos v.coded (c + 1) (omega arith) (omega arith) in
-              ap (λ (x : List ℕ). part (inbox_length S.n S.t S.k (c + 1 + 1)) x (i - 1)) is-sent
-              ∙ ap (λ (w : ℕ). part w sending (i - 1))
+              ap (λ (w : ℕ). take w (get_or after (i - 1) zero_controller).outbox)
               (inbox_is run_number S.n S.t S.k (c + 1) pos ∙ sym (outbox_is run_number S.n S.t S.k (c + 1) pos))
               ∙ ap (λ (p : Playing). p.outbox) (correct_is i a b f);
         })
 
 -- ---- what the run begins with
--- block i was copied behind the others
-module _ (n i : ℕ) (block blocks v : List ℕ) (l : i < n) (room : n * length block ≤ length blocks)
-    (is-v : v ≡ copied block (take (i * length block + length block - i * length block) (drop (i * length block) blocks))) where
-  copied_is : v ≡ block
-  copied_is = is-v ∙ copied_all block (take (i * length block + length block - i * length block) (drop (i * length block) blocks))
-      (sym (length-lent (i * length block) (length block) blocks (omega (arith, slot_within n (length block) i l))))
+-- the controllers before index i were started
+pub record StartedTo (input : List ℕ) (file : SystemFile) (i : ℕ) (cs : List Controller) : Type 0 where
+  pub size : length cs ≡ 16
+  pub each : (x : ℕ) → x < i → held (get_or cs x zero_controller) (block_in file.settings) 0 ≡ began (scene input file (given file)) (x + 1)
 
-  pub blocks_turn : ((x : ℕ) → x < i → part (length block) blocks x ≡ block) → (x : ℕ) → x < i + 1
-      → part (length block) (take (i * length block)
-      blocks ++ (v ++ drop (i * length block + length block - i * length block) (drop (i * length block) blocks))) x ≡ block
-  blocks_turn h x g =
-      ⊎_elim
-      (λ (e : x ≡ i).
-      ap (part (length block) (take (i * length block)
-      blocks ++ (v ++ drop (i * length block + length block - i * length block) (drop (i * length block) blocks)))) e
-      ∙ part_put_same (length block) blocks v n i l room (ap length copied_is) ∙ copied_is)
-      (λ (d : x < i). part_put_other (length block) blocks v n i l room (ap length copied_is) x (λ e. omega arith) ∙ h x d)
-      (below_suc (omega arith))
+pub start_first : (input : List ℕ) (file : SystemFile) (x : Controller) → held x (block_in file.settings) 0 ≡ began (scene input file (given file)) 1
+    → StartedTo input file 1 (replicate 16 x)
+start_first input file x e = record {
+  size = length-replicate {A = Controller} 16 x;
+  each = λ y l.
+      let z : y ≡ 0 = omega arith in
+      ap (λ (r : Controller). held r (block_in file.settings) 0) (get_or-replicate 16 y x zero_controller (omega arith)) ∙ e
+      ∙ ap (λ (r : ℕ). began (scene input file (given file)) (r + 1)) (sym z);
+}
 
-  pub blocks_kept : length (take (i * length block)
-      blocks ++ (v ++ drop (i * length block + length block - i * length block) (drop (i * length block) blocks))) ≡ length blocks
-  blocks_kept =
-      length_put blocks v (i * length block) (i * length block + length block) (omega arith) (omega (arith, slot_within n (length block) i l))
-      (ap length copied_is ∙ omega arith)
+module _ {input : List ℕ} {file : SystemFile} {i : ℕ} {cs : List Controller} (h : StartedTo input file i cs) where
 
--- the states that start returns
-pub first_state : (S : Settings) (block : List ℕ) (s : State) → s ≡ (start_of S 1 run_number (length block)).state → (x : ℕ) → x < 1
-    → get_or (replicate 16 s) x zero_state ≡ (start_of S (x + 1) run_number (length block)).state
-first_state S block s e x l =
-    let z : x ≡ 0 = omega arith in
-    get_or-replicate 16 x s zero_state (omega arith) ∙ e ∙ ap (λ (y : ℕ). (start_of S (y + 1) run_number (length block)).state) (sym z)
+  pub start_turn : i < 16 → (x : Controller) → held x (block_in file.settings) 0 ≡ began (scene input file (given file)) (i + 1)
+      → StartedTo input file (i + 1) (set cs i x)
+  start_turn l x e = record { size = length-set cs i x ∙ h.size; each = each }
+    where
+      each : (y : ℕ) → y < i + 1 → held (get_or (set cs i x) y zero_controller) (block_in file.settings) 0 ≡ began (scene input file (given file)) (y + 1)
+      each y g =
+          ⊎_elim
+          (λ (q : y ≡ i).
+          ap (λ (r : Controller). held r (block_in file.settings) 0)
+          (ap (λ (r : ℕ). get_or (set cs i x) r zero_controller) q ∙ get_or-set_same cs i x zero_controller (omega (arith, h.size)))
+          ∙ e ∙ ap (λ (r : ℕ). began (scene input file (given file)) (r + 1)) (sym q))
+          (λ (d : y < i).
+          ap (λ (r : Controller). held r (block_in file.settings) 0) (get_or-set_other cs i y x zero_controller (λ q. omega arith)) ∙ h.each y d)
+          (below_suc (omega arith))
 
-pub next_state : (S : Settings) (block : List ℕ) (states : List State) (i : ℕ) (s : State)
-    → i < length states → s ≡ (start_of S (i + 1) run_number (length block)).state
-    → ((x : ℕ) → x < i → get_or states x zero_state ≡ (start_of S (x + 1) run_number (length block)).state)
-    → (x : ℕ) → x < i + 1 → get_or (set states i s) x zero_state ≡ (start_of S (x + 1) run_number (length block)).state
-next_state S block states i s l e h x g =
-    ⊎_elim
-    (λ (q : x ≡ i).
-    ap (λ (y : ℕ). get_or (set states i s) y zero_state) q ∙ get_or-set_same states i s zero_state l ∙ e
-    ∙ ap (λ (y : ℕ). (start_of S (y + 1) run_number (length block)).state) (sym q))
-    (λ (d : x < i). get_or-set_other states i x s zero_state (λ q. omega arith) ∙ h x d)
-    (below_suc (omega arith))
+  pub start_end : file.settings.n ≤ i → AfterCalls (scene input file (given file)) 0 cs (inbox_in file.settings 0)
+  start_end l =
+      let F = scene input file (given file) in
+      let is : (j : ℕ) → 1 ≤ j → j ≤ file.settings.n → now_of cs file.settings 0 j ≡ played F 0 j
+      = λ j a b. let q : j - 1 + 1 ≡ j = omega arith in h.each (j - 1) (omega arith) ∙ ap (began F) q ∙ sym (played_start F j) in
+      record {
+        state = λ j a b. ap (λ (p : Playing). p.state) (is j a b);
+        block = λ j a b. ap (λ (p : Playing). p.block) (is j a b);
+        outbox = λ j a b _ _.
+            ap (λ (w : ℕ). take w (get_or cs (j - 1) zero_controller).outbox) (first_inbox file.settings.n file.settings.t file.settings.k)
+            ∙ ap (λ (p : Playing). p.outbox) (is j a b);
+      }

@@ -1,4 +1,5 @@
--- Laws of the run as the code does it. The main ones: `read_text` (the message that stands in the file, read).
+-- Laws of the run as the code does it. The main ones: `read_text` (the message that stands in the file, read), `turn_silent`, `turn_said` and `turn_sent`
+-- (a slot of an inbox more), `fill_end` (all of them).
 use mathlib.Core.Path.{◌≡◌, refl, sym, ap, ap₂, subst, ◌∙◌}
 use mathlib.Core.Bool.{Bool, true, false, cond}
 use mathlib.Core.List.{List, [], ◌∷◌, ◌++◌, append-nil, append_assoc}
@@ -6,15 +7,14 @@ use mathlib.Core.Logic.{⊎_elim}
 use Prim.Native.Nat.{ℕ, zero, suc, ◌+◌, ◌-◌, ◌*◌, ◌≤◌, ◌<◌}
 use native.Mathlib.Omega.{arith}
 use borrow.Author.Tests.{eq-eqb, ne_eqb}
-use native.Mathlib.Nat.{suc-mul, zero-mul, mul-le-mul}
+use native.Mathlib.Nat.{suc-mul, zero-mul, add-mul, mul-le-mul, mul-le-mul_right}
 use lib.Dec.{eqb}
-use lib.ListN.{length, take, drop, replicate, length-drop, drop_of_length-le}
+use lib.ListN.{length, get_or, take, drop, replicate, length-append, length-drop, drop_of_length-le}
 use lib.Seq.{length-take-le, take_all}
-use Rattle.lists.specs.Join.{joined, part}
+use Rattle.lists.specs.Join.{joined}
 use Rattle.lists.proofs.Tests.{cond_yes, cond_no, either, same_or_not}
-use Rattle.lists.proofs.Parts.{slot_within}
 use Rattle.lists.proofs.Zeros.{length-zeros, drop-zeros, zeros_split}
-use Rattle.lists.proofs.Joins.{part_take, joined_none, joined_more, length-joined, length_part}
+use Rattle.lists.proofs.Joins.{joined_none, joined_more}
 use Rattle.bitset.specs.Set.{member}
 use Rattle.text.specs.Read.{bytes_of}
 use Rattle.text.proofs.Laws.{length-bytes_of}
@@ -28,12 +28,14 @@ use Rattle.wire.specs.Slot.{width, slot_of, bytes, written, put_slot, relayed}
 use Rattle.wire.proofs.Laws.{width_le, message_length_is, block_length_is, row_block, row_pieces, row_marks, row_matrix, row_seen, row_king, row_forward}
 use Rattle.wire.proofs.Laws.{row_rebuild, row_outside, length_pos, outbox_is, inbox_is, first_inbox, last-outbox, sized_bytes, length_slot, silent_slot}
 use Rattle.wire.proofs.Laws.{put_into, relay_into}
-use Rattle.protocol.specs.declared.State.{State}
-use Rattle.system_file.specs.Table.{text_of, place_in}
+use Rattle.system_file.specs.declared.SystemFile.{SystemFile}
+use Rattle.std.specs.Prelude.{Some, None}
+use Rattle.system_file.specs.Table.{text_of, place_in, some_place}
 use Rattle.system_file.proofs.Laws.{text_none, text_some}
 use Rattle.simulation.specs.Run.{run_number, Scenario, Playing, sent_as, slot_to, inbox_of}
 use Rattle.simulation.proofs.Laws.{slot_faulty, slot_correct, inbox_first, inbox-later}
-use Rattle.simulator.specs.Steps.{layout_in, FileSettings, Filling, Making, Parted, table_scenario, sent_by}
+use Rattle.simulator.specs.declared.run.Controller.{Controller}
+use Rattle.simulator.specs.Steps.{layout_in, inbox_in, FileSettings, Making, scene, zero_controller, sent_by}
 
 -- the digits of a message that stands in the file, read into m
 pub read_text : (input m : List ℕ) (len place : ℕ) → (place ≡ 0 → ⊥) → length m ≡ len → place + 2 * len ≤ length input
@@ -49,11 +51,14 @@ read_text input m len place some size room =
     ∙ append-nil (bytes_of f)
     ∙ sym (text_some input len place some)
 
--- ---- a part that was lent
-pub part_lent : (w : ℕ) (l : List ℕ) (i : ℕ) → take (i * w + w - i * w) (drop (i * w) l) ≡ part w l i
-part_lent w l i =
-    let e : i * w + w - i * w ≡ w = omega arith in
-    ap (λ (x : ℕ). take x (drop (i * w) l)) e ∙ sym (part_take w l i)
+-- ---- a place that is answered
+pub place_is : (p x : ℕ) → Some p ≡ some_place x → (p ≡ x) × (1 ≤ p)
+place_is p zero e = let z : ◌≡◌ {A = ℕ} 0 1 = cc in absurd (omega arith)
+place_is p (suc x) e = let q : p ≡ suc x = cc in (q, omega (arith, q))
+
+pub no_place : (x : ℕ) → None ≡ some_place x → x ≡ 0
+no_place zero e = refl
+no_place (suc x) e = let z : ◌≡◌ {A = ℕ} 0 1 = cc in absurd (omega arith)
 
 -- ---- an inbox filled slot by slot
 sent_some : (m : List ℕ) → 0 < length m → sent_as m ≡ bytes m
@@ -66,165 +71,153 @@ zeros m = replicate m 0
 rest_zeros : (w m : ℕ) → drop w (zeros (w + m)) ≡ zeros m
 rest_zeros w m = let e : w + m - w ≡ m = omega arith in drop-zeros w (w + m) ∙ ap zeros e
 
+-- the outbox of the controller of index x, as the code keeps it
+abbrev pub sent : List Controller → ℕ → ℕ → List ℕ
+sent cs o x = take o (get_or cs x zero_controller).outbox
+
 -- slot x of the inbox, counted from 0, and the inbox after j slots
-abbrev pub slot_at : (input places : List ℕ) (faulty : ℕ) (S : Settings) (c i o : ℕ) (sent : List ℕ) → ℕ → List ℕ
-slot_at input places faulty S c i o sent x = slot_to (table_scenario S [] faulty places input) c (sent_by sent o) i (x + 1)
+abbrev pub slot_at : (input : List ℕ) (file : SystemFile) (cs : List Controller) (c i : ℕ) → ℕ → List ℕ
+slot_at input file cs c i x = slot_to (scene input file []) c (sent_by cs (inbox_in file.settings c)) i (x + 1)
 
-abbrev pub filled_to : (input places : List ℕ) (faulty : ℕ) (S : Settings) (c i o : ℕ) (sent : List ℕ) → ℕ → List ℕ
-filled_to input places faulty S c i o sent j =
-    joined (slot_at input places faulty S c i o sent) j ++ zeros ((S.n - j) * width (layout_in S c))
+abbrev pub filled_to : (input : List ℕ) (file : SystemFile) (cs : List Controller) (c i : ℕ) → ℕ → List ℕ
+filled_to input file cs c i j =
+    joined (slot_at input file cs c i) j ++ zeros ((file.settings.n - j) * width (layout_in file.settings c))
 
-module _ (input places : List ℕ) (faulty : ℕ) (S : Settings) (c i o : ℕ) (sent m₀ inbox₀ : List ℕ) (h : Filling input places S c i o sent m₀ inbox₀) where
+-- the inbox of a later call
+later_inbox : (F : Scenario) (now : ℕ → Playing) (i c : ℕ) → 1 ≤ c → joined (λ x. slot_to F c now i (x + 1)) F.settings.n ≡ inbox_of F c now i
+later_inbox F now i zero l = absurd (omega arith)
+later_inbox F now i (suc c) l = sym (inbox-later F c now i)
+
+module _ {input : List ℕ} {file : SystemFile} {c i : ℕ} {inbox₀ : List ℕ} (cs : List Controller) (h : Making input file c i inbox₀) (later : 1 ≤ c) where
   abbrev slot : ℕ → List ℕ
-  slot = slot_at input places faulty S c i o sent
+  slot = slot_at input file cs c i
 
   abbrev filled : ℕ → List ℕ
-  filled = filled_to input places faulty S c i o sent
+  filled = filled_to input file cs c i
+
+  some : 0 < message_length file.settings.n file.settings.t file.settings.k c
+  some = length_pos h.playable.small.coded c later h.calls-most
+
+  outbox_fits : inbox_in file.settings c ≡ file.settings.n * width (layout_in file.settings c)
+  outbox_fits = inbox_is run_number file.settings.n file.settings.t file.settings.k c some
+
+  pub length-cleared : length inbox₀ ≡ inbox_in file.settings c
+  length-cleared = ap length h.cleared ∙ length-zeros (inbox_in file.settings c)
 
   said : ℕ → List ℕ
-  said x = text_of input (message_length S.n S.t S.k c) (place_in places c (x + 1) i)
+  said x = text_of input (message_length file.settings.n file.settings.t file.settings.k c) (place_in file.places c (x + 1) i)
 
-  said_length : (x : ℕ) → (place_in places c (x + 1) i ≡ 0 → ⊥) → length (said x) ≡ message_length S.n S.t S.k c
+  pub place-room : (x : ℕ) → (place_in file.places c (x + 1) i ≡ 0 → ⊥)
+      → place_in file.places c (x + 1) i + 2 * message_length file.settings.n file.settings.t file.settings.k c ≤ length input
+  place-room x n = h.playable.rooms.room c (x + 1) i n
+
+  said_length : (x : ℕ) → (place_in file.places c (x + 1) i ≡ 0 → ⊥) → length (said x) ≡ message_length file.settings.n file.settings.t file.settings.k c
   unfolding said
-  said_length x some =
-      ap length (text_some input (message_length S.n S.t S.k c) (place_in places c (x + 1) i) some)
-      ∙ length-bytes_of (message_length S.n S.t S.k c) (take (2 * message_length S.n S.t S.k c) (drop (place_in places c (x + 1) i) input))
-      (length-take-le (2 * message_length S.n S.t S.k c) (drop (place_in places c (x + 1) i) input)
-      (omega (arith, length-drop (place_in places c (x + 1) i) input, h.rooms.room c (x + 1) i some)))
+  said_length x n =
+      let len = message_length file.settings.n file.settings.t file.settings.k c in
+      let p = place_in file.places c (x + 1) i in
+      ap length (text_some input len p n)
+      ∙ length-bytes_of len (take (2 * len) (drop p input)) (length-take-le (2 * len) (drop p input) (omega (arith, length-drop p input, place-room x n)))
 
   back : (x : ℕ) → x + 1 - 1 ≡ x
   back x = omega arith
 
-  at_silent : (x : ℕ) → member faulty x ≡ true → place_in places c (x + 1) i ≡ 0 → slot x ≡ zeros (width (layout_in S c))
+  at_silent : (x : ℕ) → member file.faulty x ≡ true → place_in file.places c (x + 1) i ≡ 0 → slot x ≡ zeros (width (layout_in file.settings c))
   at_silent x f z =
-      slot_faulty (table_scenario S [] faulty places input) c (sent_by sent o) i (x + 1) (ap (member faulty) (back x) ∙ f)
-      ∙ ap (λ (p : ℕ). written (layout_in S c) (sent_as (text_of input (message_length S.n S.t S.k c) p))) z
-      ∙ ap (λ (s : List ℕ). written (layout_in S c) (sent_as s)) (text_none input (message_length S.n S.t S.k c))
-      ∙ silent_slot (layout_in S c)
+      let len = message_length file.settings.n file.settings.t file.settings.k c in
+      slot_faulty (scene input file []) c (sent_by cs (inbox_in file.settings c)) i (x + 1) (ap (member file.faulty) (back x) ∙ f)
+      ∙ ap (λ (p : ℕ). written (layout_in file.settings c) (sent_as (text_of input len p))) z
+      ∙ ap (λ (s : List ℕ). written (layout_in file.settings c) (sent_as s)) (text_none input len)
+      ∙ silent_slot (layout_in file.settings c)
 
-  at_said : (x : ℕ) → member faulty x ≡ true → (place_in places c (x + 1) i ≡ 0 → ⊥) → slot x ≡ written (layout_in S c) (bytes (said x))
+  at_said : (x : ℕ) → member file.faulty x ≡ true → (place_in file.places c (x + 1) i ≡ 0 → ⊥) → slot x ≡ written (layout_in file.settings c) (bytes (said x))
   unfolding said
   at_said x f z =
-      slot_faulty (table_scenario S [] faulty places input) c (sent_by sent o) i (x + 1) (ap (member faulty) (back x) ∙ f)
-      ∙ ap (written (layout_in S c)) (sent_some (said x) (omega (arith, said_length x z, h.some)))
+      slot_faulty (scene input file []) c (sent_by cs (inbox_in file.settings c)) i (x + 1) (ap (member file.faulty) (back x) ∙ f)
+      ∙ ap (written (layout_in file.settings c)) (sent_some (said x) (omega (arith, said_length x z, some)))
 
-  at_correct : (x : ℕ) → member faulty x ≡ false → slot x ≡ slot_of (part o sent x) (layout_in S c) i
+  at_correct : (x : ℕ) → member file.faulty x ≡ false → slot x ≡ slot_of (sent cs (inbox_in file.settings c) x) (layout_in file.settings c) i
   at_correct x f =
-      slot_correct (table_scenario S [] faulty places input) c (sent_by sent o) i (x + 1) (ap (member faulty) (back x) ∙ f)
-      ∙ ap (λ (y : ℕ). slot_of (part o sent y) (layout_in S c) i) (back x)
+      slot_correct (scene input file []) c (sent_by cs (inbox_in file.settings c)) i (x + 1) (ap (member file.faulty) (back x) ∙ f)
+      ∙ ap (λ (y : ℕ). slot_of (sent cs (inbox_in file.settings c) y) (layout_in file.settings c) i) (back x)
 
-  room_of : (x : ℕ) → x < S.n → i * width (layout_in S c) ≤ length (part o sent x)
-  room_of x l =
-      omega (
-        arith,
-        length_part o sent S.n x l h.sent_room,
-        h.outbox_is,
-        slot_within S.n (width (layout_in S c)) (i - 1)
-            (omega (arith, h.number-least, h.number-most)),
-        last_slot,
-      )
-    where
-      last_slot : (i - 1) * width (layout_in S c) + width (layout_in S c) ≡ i * width (layout_in S c)
-      last_slot =
-          let e : suc (i - 1) ≡ i = omega (arith, h.number-least) in
-          sym (suc-mul (i - 1) (width (layout_in S c))) ∙ ap (λ (y : ℕ). y * width (layout_in S c)) e
-
-  slot_size : (x : ℕ) → x < S.n → length (slot x) ≡ width (layout_in S c)
-  slot_size x l =
-      ⊎_elim
-      (λ (f : member faulty x ≡ true).
-      ⊎_elim
-      (λ (z : place_in places c (x + 1) i ≡ 0). ap length (at_silent x f z) ∙ length-zeros (width (layout_in S c)))
-      (λ (z : place_in places c (x + 1) i ≡ 0 → ⊥). ap length (at_said x f z) ∙ sized_bytes (layout_in S c) (said x) (said_length x z))
-      (same_or_not (place_in places c (x + 1) i) 0))
-      (λ (f : member faulty x ≡ false). ap length (at_correct x f) ∙ length_slot (part o sent x) (layout_in S c) i h.number-least (room_of x l))
-      (either (member faulty x))
-
-  module _ (j : ℕ) (l : j < S.n) where
-    rest_is : (S.n - j) * width (layout_in S c) ≡ width (layout_in S c) + (S.n - (j + 1)) * width (layout_in S c)
+  -- the inbox after j slots, which is as long as it was
+  module _ {j : ℕ} (l : j < file.settings.n) {inbox : List ℕ} (e : inbox ≡ filled_to input file cs c i j) (same : length inbox ≡ length inbox₀)
+      {layout : Layout} (lay : layout ≡ layout_in file.settings c) where
+    rest_is : (file.settings.n - j) * width (layout_in file.settings c) ≡ width (layout_in file.settings c) + (file.settings.n - (j + 1)) * width (layout_in file.settings c)
     rest_is =
-        let e : S.n - j ≡ suc (S.n - (j + 1)) = omega arith in
-        ap (λ (y : ℕ). y * width (layout_in S c)) e ∙ omega (arith, suc-mul (S.n - (j + 1)) (width (layout_in S c)))
+        let e : file.settings.n - j ≡ suc (file.settings.n - (j + 1)) = omega arith in
+        ap (λ (y : ℕ). y * width (layout_in file.settings c)) e ∙ omega (arith, suc-mul (file.settings.n - (j + 1)) (width (layout_in file.settings c)))
 
-    front_is : length (joined slot j) ≡ j * width (layout_in S c)
-    front_is = length-joined (width (layout_in S c)) slot j (λ x g. slot_size x (omega arith))
+    all_is : file.settings.n * width (layout_in file.settings c) ≡ j * width (layout_in file.settings c) + (file.settings.n - j) * width (layout_in file.settings c)
+    all_is =
+        let e : file.settings.n ≡ j + (file.settings.n - j) = omega arith in
+        ap (λ (y : ℕ). y * width (layout_in file.settings c)) e ∙ add-mul j (file.settings.n - j) (width (layout_in file.settings c))
+
+    front_is : length (joined slot j) ≡ j * width (layout_in file.settings c)
+    front_is =
+        let r = (file.settings.n - j) * width (layout_in file.settings c) in
+        omega (arith, sym (ap length e), length-append (joined slot j) (zeros r), length-zeros r, same, length-cleared, outbox_fits, all_is)
 
     -- a slot v written behind the first j
     goes_on : (v : List ℕ) → slot j ≡ v
-        → joined slot j ++ (v ++ drop (width (layout_in S c)) (zeros ((S.n - j) * width (layout_in S c)))) ≡ filled (j + 1)
-    goes_on v e =
-        ap₂ (λ (x y : List ℕ). joined slot j ++ (x ++ y)) (sym e)
-        (ap (λ (y : ℕ). drop (width (layout_in S c)) (zeros y)) rest_is ∙ rest_zeros (width (layout_in S c)) ((S.n - (j + 1)) * width (layout_in S c)))
-        ∙ sym (append_assoc (joined slot j) (slot j) (zeros ((S.n - (j + 1)) * width (layout_in S c))))
-        ∙ ap (λ (x : List ℕ). x ++ zeros ((S.n - (j + 1)) * width (layout_in S c))) (sym (joined_more slot j))
+        → joined slot j ++ (v ++ drop (width (layout_in file.settings c)) (zeros ((file.settings.n - j) * width (layout_in file.settings c)))) ≡ filled (j + 1)
+    goes_on v g =
+        ap₂ (λ (x y : List ℕ). joined slot j ++ (x ++ y)) (sym g)
+        (ap (λ (y : ℕ). drop (width (layout_in file.settings c)) (zeros y)) rest_is
+        ∙ rest_zeros (width (layout_in file.settings c)) ((file.settings.n - (j + 1)) * width (layout_in file.settings c)))
+        ∙ sym (append_assoc (joined slot j) (slot j) (zeros ((file.settings.n - (j + 1)) * width (layout_in file.settings c))))
+        ∙ ap (λ (x : List ℕ). x ++ zeros ((file.settings.n - (j + 1)) * width (layout_in file.settings c))) (sym (joined_more slot j))
 
-    room_left : width (layout_in S c) ≤ length (zeros ((S.n - j) * width (layout_in S c)))
-    room_left = omega (arith, rest_is, length-zeros ((S.n - j) * width (layout_in S c)))
+    room_left : width (layout_in file.settings c) ≤ length (zeros ((file.settings.n - j) * width (layout_in file.settings c)))
+    room_left = omega (arith, rest_is, length-zeros ((file.settings.n - j) * width (layout_in file.settings c)))
 
-    -- the turn of the loop
-    turn : (inbox' : List ℕ)
-        → inbox' ≡ cond (member faulty j)
-        (cond (eqb (place_in places c (j + 1) i) 0) (filled j)
-        (put_slot (filled j) (layout_in S c) (j + 1) (text_of input (message_length S.n S.t S.k c) (place_in places c (j + 1) i))))
-        (relayed (filled j) (layout_in S c) (j + 1) (part o sent j) i)
-        → inbox' ≡ filled (j + 1)
+    -- the turns of the loop
+    pub turn_silent : member file.faulty j ≡ true → place_in file.places c (j + 1) i ≡ 0 → inbox ≡ filled_to input file cs c i (j + 1)
+    turn_silent f z =
+        let v = width (layout_in file.settings c) in
+        let r = (file.settings.n - (j + 1)) * width (layout_in file.settings c) in
+        e ∙ ap (λ (x : List ℕ). joined slot j ++ x)
+        (ap zeros rest_is ∙ zeros_split v r
+        ∙ ap (λ (x : List ℕ). zeros v ++ x) (sym (ap (λ (y : ℕ). drop v (zeros y)) rest_is ∙ rest_zeros v r)))
+        ∙ goes_on (zeros v) (at_silent j f z)
+
+    pub turn_said : member file.faulty j ≡ true → (place_in file.places c (j + 1) i ≡ 0 → ⊥) → {place : ℕ} → place ≡ place_in file.places c (j + 1) i
+        → {inbox' : List ℕ}
+        → inbox' ≡ put_slot inbox layout (j + 1) (text_of input layout.length place)
+        → inbox' ≡ filled_to input file cs c i (j + 1)
     unfolding said
-    turn inbox' e =
-        ⊎_elim
-        (λ (f : member faulty j ≡ true).
-        ⊎_elim
-        (λ (z : place_in places c (j + 1) i ≡ 0).
-        e ∙ cond_yes (member faulty j) _ _ f ∙ cond_yes (eqb (place_in places c (j + 1) i) 0) _ _ (eq-eqb (place_in places c (j + 1) i) 0 z)
-        ∙ ap (λ (x : List ℕ). joined slot j ++ x)
-        (ap (λ (y : ℕ). zeros y) rest_is ∙ zeros_split (width (layout_in S c)) ((S.n - (j + 1)) * width (layout_in S c))
-        ∙ ap (λ (x : List ℕ). zeros (width (layout_in S c)) ++ x)
-        (sym (ap (λ (y : ℕ). drop (width (layout_in S c)) (zeros y)) rest_is ∙ rest_zeros (width (layout_in S c)) ((S.n - (j + 1)) * width (layout_in S c)))))
-        ∙ goes_on (zeros (width (layout_in S c))) (at_silent j f z))
-        (λ (z : place_in places c (j + 1) i ≡ 0 → ⊥).
-        e ∙ cond_yes (member faulty j) _ _ f ∙ cond_no (eqb (place_in places c (j + 1) i) 0) _ _ (ne_eqb (place_in places c (j + 1) i) 0 z)
-        ∙ put_into (layout_in S c) (joined slot j) (zeros ((S.n - j) * width (layout_in S c))) j front_is room_left (said j) (said_length j z)
-        ∙ goes_on (written (layout_in S c) (bytes (said j))) (at_said j f z))
-        (same_or_not (place_in places c (j + 1) i) 0))
-        (λ (f : member faulty j ≡ false).
-        e ∙ cond_no (member faulty j) _ _ f
-        ∙ relay_into (layout_in S c) (joined slot j) (zeros ((S.n - j) * width (layout_in S c))) j front_is room_left (part o sent j) i h.number-least
-        (room_of j l)
-        ∙ goes_on (slot_of (part o sent j) (layout_in S c) i) (at_correct j f))
-        (either (member faulty j))
+    turn_said f n {place} p d =
+        let len = message_length file.settings.n file.settings.t file.settings.k c in
+        d ∙ ap (λ (x : Layout). put_slot inbox x (j + 1) (text_of input x.length place)) lay ∙ ap₂ (λ (x : List ℕ) (y : ℕ). put_slot x (layout_in file.settings c) (j + 1) (text_of input len y)) e p
+        ∙ put_into (layout_in file.settings c) (joined slot j) (zeros ((file.settings.n - j) * width (layout_in file.settings c))) j front_is room_left
+        (said j) (said_length j n)
+        ∙ goes_on (written (layout_in file.settings c) (bytes (said j))) (at_said j f n)
 
-    pub fill_turn : (inbox inbox' src : List ℕ) (layout : Layout) (place : ℕ) (b : Bool) → inbox ≡ filled_to input places faulty S c i o sent j
-        → layout ≡ layout_in S c
-        → place ≡ place_in places c (j + 1) i → b ≡ member faulty j → src ≡ part o sent j
-        → inbox' ≡ cond b (cond (eqb place 0) inbox (put_slot inbox layout (j + 1) (text_of input layout.length place))) (relayed inbox layout (j + 1) src i)
-        → inbox' ≡ filled_to input places faulty S c i o sent (j + 1)
-    fill_turn inbox inbox' src layout place b is-inbox is_layout is-place is_b is-src e =
-        turn inbox'
-        (e
-        ∙ (λ x. cond (is_b x) (cond (eqb (is-place x) 0) (is-inbox x)
-        (put_slot (is-inbox x) (is_layout x) (j + 1) (text_of input (is_layout x).length (is-place x))))
-        (relayed (is-inbox x) (is_layout x) (j + 1) (is-src x) i)))
+    pub turn_sent : member file.faulty j ≡ false → {outbox : List ℕ} → outbox ≡ sent cs (inbox_in file.settings c) j → length outbox ≡ inbox_in file.settings c
+        → {inbox' : List ℕ} → inbox' ≡ relayed inbox layout (j + 1) outbox i → inbox' ≡ filled_to input file cs c i (j + 1)
+    turn_sent f {outbox} g size d =
+        let v = width (layout_in file.settings c) in
+        let room : i * v ≤ length (sent cs (inbox_in file.settings c) j) = omega (arith, size, ap length g, outbox_fits, mul-le-mul_right v h.number-most) in
+        d ∙ ap (λ (x : Layout). relayed inbox x (j + 1) outbox i) lay ∙ ap₂ (λ (x y : List ℕ). relayed x (layout_in file.settings c) (j + 1) y i) e g
+        ∙ relay_into (layout_in file.settings c) (joined slot j) (zeros ((file.settings.n - j) * v)) j front_is room_left (sent cs (inbox_in file.settings c) j) i
+        h.number-least room
+        ∙ goes_on (slot_of (sent cs (inbox_in file.settings c) j) (layout_in file.settings c) i) (at_correct j f)
 
-  pub fill_start : inbox₀ ≡ filled_to input places faulty S c i o sent 0
+  pub fill_start : inbox₀ ≡ filled_to input file cs c i 0
   fill_start =
-      let e : S.n - 0 ≡ S.n = omega arith in
-      h.cleared ∙ ap zeros (h.outbox_is ∙ ap (λ (y : ℕ). y * width (layout_in S c)) (sym e))
-      ∙ ap (λ (x : List ℕ). x ++ zeros ((S.n - 0) * width (layout_in S c))) (sym (joined_none slot))
+      let e : file.settings.n - 0 ≡ file.settings.n = omega arith in
+      h.cleared ∙ ap zeros (outbox_fits ∙ ap (λ (y : ℕ). y * width (layout_in file.settings c)) (sym e))
+      ∙ ap (λ (x : List ℕ). x ++ zeros ((file.settings.n - 0) * width (layout_in file.settings c))) (sym (joined_none slot))
 
-  pub fill_all : (j : ℕ) → j ≡ S.n → filled_to input places faulty S c i o sent j ≡ joined (slot_at input places faulty S c i o sent) S.n
-  fill_all j e =
-      let z : S.n - S.n ≡ 0 = omega arith in
-      ap filled e
-      ∙ ap (λ (x : List ℕ). joined slot S.n ++ x) (ap (λ (y : ℕ). zeros (y * width (layout_in S c))) z ∙ ap zeros (zero-mul (width (layout_in S c))))
-      ∙ append-nil (joined slot S.n)
-
-  pub length-filled : (j : ℕ) → j ≡ S.n → length (filled_to input places faulty S c i o sent j) ≡ o
-  length-filled j e =
-      ap length (fill_all j e) ∙ length-joined (width (layout_in S c)) slot S.n slot_size ∙ sym h.outbox_is
-
-  pub place-room : (j place len : ℕ) → len ≡ message_length S.n S.t S.k c → place ≡ place_in places c (j + 1) i → (place ≡ 0 → ⊥)
-      → place + 2 * len ≤ length input
-  place-room j place len is-len is-place some =
-      omega (arith, is-len, is-place, h.rooms.room c (j + 1) i (λ z. some (is-place ∙ z)))
+  pub fill_end : {inbox : List ℕ} {j : ℕ} → j ≡ file.settings.n → inbox ≡ filled_to input file cs c i j
+      → inbox ≡ inbox_of (scene input file []) c (sent_by cs (inbox_in file.settings c)) i
+  fill_end {inbox} {j} q e =
+      let z : file.settings.n - file.settings.n ≡ 0 = omega arith in
+      e ∙ ap filled q
+      ∙ ap (λ (x : List ℕ). joined slot file.settings.n ++ x)
+      (ap (λ (y : ℕ). zeros (y * width (layout_in file.settings c))) z ∙ ap zeros (zero-mul (width (layout_in file.settings c))))
+      ∙ append-nil (joined slot file.settings.n) ∙ later_inbox (scene input file []) (sent_by cs (inbox_in file.settings c)) i c later
 
 -- ---- sizes
 small_row : (r : Round) (n t k : ℕ) → n ≤ 16 → t ≤ 5 → k ≤ 32 → row_length r n t k ≤ 192
@@ -278,48 +271,10 @@ module _ {S : Settings} (v : FileSettings S) where
       omega (arith, outbox_is run_number S.n S.t S.k c (length_pos v.coded c least (omega arith)), box_most (layout_in S c) (message_le c)))
       (same_or_not c (3 * S.t + 9))
 
--- ---- the inbox of a call
+-- ---- the inbox of the first call
 pub first_made : (F : Scenario) (now : ℕ → Playing) (c i : ℕ) (inbox : List ℕ) → c ≡ 0
     → inbox ≡ zeros (inbox_length F.settings.n F.settings.t F.settings.k (c + 1)) → inbox ≡ inbox_of F c now i
 first_made F now c i inbox z e =
     e ∙ ap (λ (x : ℕ). zeros (inbox_length F.settings.n F.settings.t F.settings.k (x + 1))) z
     ∙ ap zeros (first_inbox F.settings.n F.settings.t F.settings.k)
     ∙ sym (ap (λ (x : ℕ). inbox_of F x now i) z ∙ inbox_first F now i)
-
-pub later_made : (input places : List ℕ) (faulty : ℕ) (S : Settings) (c i o : ℕ) (sent : List ℕ) → (c ≡ 0 → ⊥) → o ≡ inbox_length S.n S.t S.k (c + 1)
-    → joined (slot_at input places faulty S c i o sent) S.n
-    ≡ inbox_of (table_scenario S [] faulty places input) c (sent_by sent (inbox_length S.n S.t S.k (c + 1))) i
-later_made input places faulty S zero i o sent some e = absurd (some refl)
-later_made input places faulty S (suc c) i o sent some e =
-    ap (λ (x : ℕ). joined (slot_at input places faulty S (suc c) i x sent) S.n) e
-    ∙ sym (inbox-later (table_scenario S [] faulty places input) c (sent_by sent (inbox_length S.n S.t S.k (suc c + 1))) i)
-
-pub making_filling : (input places : List ℕ) (S : Settings) (c i : ℕ) (sent m inbox : List ℕ) → Making input places S c i sent m inbox → (c ≡ 0 → ⊥)
-    → Filling input places S c i (length inbox) sent m inbox
-making_filling input places S c i sent m inbox h some =
-    let pos = length_pos h.small.coded c (omega arith) h.calls-most in
-    let size : length inbox ≡ inbox_length S.n S.t S.k (c + 1) = ap length h.cleared ∙ length-zeros (inbox_length S.n S.t S.k (c + 1)) in
-    record {
-      rooms = h.rooms;
-      few = h.small.coded.quorum.n_most;
-      round-least = omega arith;
-      number-least = h.number-least;
-      number-most = h.number-most;
-      some = omega (arith, pos);
-      outbox_is = size ∙ inbox_is run_number S.n S.t S.k c pos;
-      sent_room = subst (λ (x : ℕ). S.n * x ≤ length sent) (sym size) h.sent_room;
-      sent_most = h.sent_most;
-      message_is = h.message_is;
-      cleared = h.cleared ∙ ap zeros (sym size);
-    }
-
--- ---- one call
-pub part_room : (n w w' i m : ℕ) → w ≡ w' → n * w' ≤ m → i < n → i * w + w ≤ m
-part_room n w w' i m e h l = omega (arith, slot_within n w i l, ap (λ (x : ℕ). n * x) e)
-
-pub parted_as : (b b' o o' i : ℕ) (s : State) (inbox inbox' blocks sending : List ℕ) (r : State) (blocks' sending' : List ℕ) → b ≡ b' → o ≡ o' → inbox ≡ inbox'
-    → Parted b o i s inbox blocks sending r blocks' sending' → Parted b' o' i s inbox' blocks sending r blocks' sending'
-parted_as b b' o o' i s inbox inbox' blocks sending r blocks' sending' e f g p =
-    subst (λ (x : ℕ). Parted x o' i s inbox' blocks sending r blocks' sending') e
-    (subst (λ (x : ℕ). Parted b x i s inbox' blocks sending r blocks' sending') f
-    (subst (λ (x : List ℕ). Parted b o i s x blocks sending r blocks' sending') g p))

@@ -8,11 +8,9 @@ use mathlib.Core.Logic.{⊎_elim}
 use Prim.Native.Nat.{ℕ, zero, suc, ◌+◌, ◌-◌, ◌*◌, ◌≤◌, ◌<◌}
 use native.Mathlib.Numerals.{add-one}
 use native.Mathlib.Omega.{arith}
-use lib.ListN.{length, get_or, take, drop, replicate, length-append, length-replicate}
+use lib.ListN.{length, get_or, take, drop, replicate, length-append, length-replicate, length-take}
 use lib.Seq.{length-take-le, take_at}
-use Rattle.lists.specs.Join.{part}
 use Rattle.lists.proofs.Tests.{either, cond_yes, cond_no}
-use Rattle.lists.proofs.Joins.{length_part}
 use Rattle.text.specs.Read.{newline, comma}
 use Rattle.text.specs.Write.{decimal, hexadecimal, appended, end_of, padded}
 use Rattle.text.proofs.Laws.{append-behind, padded_none, length-padded, append-padded, end_padded, decimal_short, length-hexadecimal}
@@ -20,10 +18,9 @@ use Rattle.reconstruction.specs.declared.Outcome.{Outcome}
 use Rattle.reconstruction.specs.declared.Outcome.TheVariants.{Open, Agreed, None, Beyond}
 use Rattle.reconstruction.specs.Outcomes.{outcome_word}
 use Rattle.bitset.specs.Set.{member}
-use Rattle.protocol.specs.declared.State.{State}
-use Rattle.protocol.specs.State.{zero_state}
+use Rattle.simulator.specs.declared.run.Controller.{Controller}
 use Rattle.simulator.specs.Output.{result_line, results}
-use Rattle.simulator.specs.Steps.{Room, Wrote}
+use Rattle.simulator.specs.Steps.{Room, Wrote, zero_controller}
 
 -- ---- text with zeros after it: the text is at the front
 padded_front : (m : ℕ) (x : List ℕ) → length x ≤ m → padded m x ≡ x ++ drop (length x) (replicate m 0)
@@ -114,11 +111,8 @@ word_le Agreed = omega arith
 word_le None = omega arith
 word_le Beyond = omega arith
 
--- the word of v, by a call, where the outcome is v
-pub wrote_word : {out : List ℕ} {at : ℕ} → Room out at 6 → {w : Outcome} (v : Outcome) → w ≡ v → {out' : List ℕ} {r : ℕ}
-    → (out' ≡ appended at (outcome_word v) out) × (r ≡ end_of at (outcome_word v) out) → Wrote out at (outcome_word w) out' r
-wrote_word {out} {at} h v e {out'} {r} p =
-    subst (λ (u : Outcome). Wrote out at (outcome_word u) out' r) (sym e) (added h (outcome_word v) (word_le v) p).wrote
+pub front_most : (b : ℕ) (l : List ℕ) → b ≤ 192 → length (take b l) ≤ 192
+front_most b l h = omega (arith, length-take b l)
 
 pub number_le : (i : ℕ) → i ≤ 16 → length (decimal i) ≤ 2
 number_le i h = decimal_short 2 i (omega arith) (omega arith)
@@ -165,41 +159,41 @@ module _ (f : ℕ → Bool) (w : ℕ → Outcome) (b : ℕ → List ℕ) where
       ))
       (either (f (suc i)))
 
--- ---- the loop that writes them: states and blocks are counted from 0
+-- ---- the loop that writes them: controllers are counted from 0
 -- an element that is there
-pub get_or_inside : (l : List State) (i : ℕ) (d e : State) → i < length l → get_or l i d ≡ get_or l i e
+pub get_or_inside : {A : Type 0} (l : List A) (i : ℕ) (d e : A) → i < length l → get_or l i d ≡ get_or l i e
 get_or_inside [] i d e h = absurd (omega arith)
 get_or_inside (x ∷ l) zero d e h = refl
 get_or_inside (x ∷ l) (suc i) d e h = get_or_inside l i d e (omega arith)
 
-module _ (faulty : ℕ) (states : List State) (blocks : List ℕ) (b : ℕ) where
+module _ (faulty : ℕ) (cs : List Controller) (b : ℕ) where
   abbrev faults : ℕ → Bool
   faults = λ i. member faulty (i - 1)
 
   abbrev outcomes : ℕ → Outcome
-  outcomes = λ i. (get_or states (i - 1) zero_state).outcome
+  outcomes = λ i. (get_or cs (i - 1) zero_controller).state.outcome
 
-  abbrev held : ℕ → List ℕ
-  held = λ i. part b blocks (i - 1)
+  abbrev blocks : ℕ → List ℕ
+  blocks = λ i. take b (get_or cs (i - 1) zero_controller).block
 
   abbrev pub lines : ℕ → List ℕ
-  lines n = results faults outcomes held n
+  lines n = results faults outcomes blocks n
 
-  pub lines_le : (n i : ℕ) → n ≤ 16 → b ≤ 192 → n * b ≤ length blocks → i ≤ n → length (lines i) ≤ i * 395
-  lines_le n i h k l m =
-      results-most faults outcomes held i (omega arith) (λ j p q. omega (arith, length_part b blocks n (j - 1) (omega arith) l))
+  pub lines_le : (i : ℕ) → i ≤ 16 → b ≤ 192 → length (lines i) ≤ i * 395
+  lines_le i h l = results-most faults outcomes blocks i h (λ j p q. omega (arith, length-take b (get_or cs (j - 1) zero_controller).block))
 
-  lines_correct : (i : ℕ) → member faulty i ≡ false → lines (i + 1) ≡ lines i ++ result_line (i + 1) (get_or states i zero_state).outcome (part b blocks i)
+  lines_correct : (i : ℕ) → member faulty i ≡ false
+      → lines (i + 1) ≡ lines i ++ result_line (i + 1) (get_or cs i zero_controller).state.outcome (take b (get_or cs i zero_controller).block)
   lines_correct i h =
       let e : suc i - 1 ≡ i = omega arith in
       rw add-one
-      (results_correct faults outcomes held i (ap (member faulty) e ∙ h)
-      ∙ ap (λ (j : ℕ). lines i ++ result_line (suc i) (get_or states j zero_state).outcome (part b blocks j)) e)
+      (results_correct faults outcomes blocks i (ap (member faulty) e ∙ h)
+      ∙ ap (λ (x : ℕ). lines i ++ result_line (suc i) (get_or cs x zero_controller).state.outcome (take b (get_or cs x zero_controller).block)) e)
 
   lines_faulty : (i : ℕ) → member faulty i ≡ true → lines (i + 1) ≡ lines i
   lines_faulty i h =
       let e : suc i - 1 ≡ i = omega arith in
-      rw add-one (results-faulty faults outcomes held i (ap (member faulty) e ∙ h))
+      rw add-one (results-faulty faults outcomes blocks i (ap (member faulty) e ∙ h))
 
   pub lines_start : {out : List ℕ} {at m : ℕ} → Room out at m → Wrote out at (lines 0) out at
   unfolding results
@@ -207,8 +201,8 @@ module _ (faulty : ℕ) (states : List State) (blocks : List ℕ) (b : ℕ) wher
 
   module _ (i : ℕ) {out : List ℕ} {at m : ℕ} {out' : List ℕ} {r : ℕ} (a : Added out at m (lines i) out' r) where
     -- v and x are the outcome and the block, as the code has them
-    pub turn_correct : member faulty i ≡ false → {v : Outcome} {x out'' : List ℕ} {r' : ℕ} → v ≡ (get_or states i zero_state).outcome → x ≡ part b blocks i
-        → Wrote out' r (result_line (i + 1) v x) out'' r' → Wrote out at (lines (i + 1)) out'' r'
+    pub turn_correct : member faulty i ≡ false → {v : Outcome} {x out'' : List ℕ} {r' : ℕ} → v ≡ (get_or cs i zero_controller).state.outcome
+        → x ≡ take b (get_or cs i zero_controller).block → Wrote out' r (result_line (i + 1) v x) out'' r' → Wrote out at (lines (i + 1)) out'' r'
     turn_correct c {v} {x} {out''} {r'} e f w =
         let g : lines i ++ result_line (i + 1) v x ≡ lines (i + 1) =
         ap₂ (λ (v : Outcome) (x : List ℕ). lines i ++ result_line (i + 1) v x) e f ∙ sym (lines_correct i c) in

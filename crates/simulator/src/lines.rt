@@ -1,70 +1,90 @@
 // The lines of the output.
-ghost use Rattle.std.specs.Prelude.{◌≡◌, ◌-◌, ◌*◌, ◌≤◌, length, get_or};
-ghost use Rattle.lists.specs.Join.{part};
+ghost use Rattle.std.specs.Prelude.{◌≡◌, ◌-◌, ◌*◌, ◌≤◌, ◌++◌, length, get_or, take};
 ghost use Rattle.text.specs.Write.{padded};
 ghost use Rattle.reconstruction.specs.Outcomes.{outcome_word};
 ghost use Rattle.bitset.specs.Set.{member};
-ghost use Rattle.protocol.specs.State.{zero_state};
-ghost use Rattle.simulator.specs.Output.{result_line, results, bad_line};
-ghost use Rattle.simulator.specs.Steps.{Room, Wrote};
+ghost use Rattle.simulator.specs.Output.{result_line, results, bad_line, names_line};
+ghost use Rattle.simulator.specs.Steps.{FileSettings, Room, Wrote, block_in, zero_controller};
 
 use crate::Output;
-use protocol::State;
+use crate::run::Controller;
 use reconstruction::Outcome;
+use system_file::SystemFile;
+use text::writer::Writer;
 
-// Appends document 01's word for an outcome.
-fn append_outcome(out: &mut [u8], at: usize, w: Outcome) -> usize
-    requires { Room out.old at 6 }
-    ensures { Wrote out.old at (outcome_word w) out.new result }
+// Document 01's word for an outcome.
+fn word(w: Outcome) -> &'static [u8]
+    ensures { result.now ≡ outcome_word w }
 {
     match w {
-        Outcome::Open => text::append(out, at, b"open"),
-        Outcome::Agreed => text::append(out, at, b"agreed"),
-        Outcome::None => text::append(out, at, b"none"),
-        Outcome::Beyond => text::append(out, at, b"beyond"),
+        Outcome::Open => b"open",
+        Outcome::Agreed => b"agreed",
+        Outcome::None => b"none",
+        Outcome::Beyond => b"beyond",
     }
 }
 
 // Appends the line of controller i.
-fn append_result(out: &mut [u8], at: usize, i: usize, w: Outcome, block: &[u8]) -> usize
-    requires { (i ≤ 16) × (length block.now ≤ 192) × Room out.old at 395 }
-    ensures { Wrote out.old at (result_line i w block.now) out.new result }
+fn append_result(w: &mut Writer, i: usize, outcome: Outcome, block: &[u8])
+    requires { (i ≤ 16) × (length block.now ≤ 192) × Room w.old.out.now w.old.end 395 }
+    ensures same { w.new.out.ghost_name ≡ w.old.out.ghost_name }
+    ensures wrote { Wrote w.old.out.now w.old.end (result_line i outcome block.now) w.new.out.now w.new.end }
 {
-    let number = text::append_decimal(out, at, i);
-    let first = text::append(out, number, b",");
-    let word = append_outcome(out, first, w);
-    let second = text::append(out, word, b",");
-    let bytes = text::append_hex(out, second, block);
-    text::append(out, bytes, b"\n")
+    w.append_decimal(i);
+    w.append(b",");
+    w.append(word(outcome));
+    w.append(b",");
+    w.append_hex(block);
+    w.append(b"\n");
 }
 
-// Appends the lines of the correct controllers.
-pub(crate) fn append_results(
-    out: &mut [u8],
-    at: usize,
-    n: usize,
-    faulty: u16,
-    states: [State; 16],
-    blocks: &[u8],
-    b: usize,
-) -> usize
-    requires { (n ≤ 16) × (b ≤ 192) × (n * b ≤ length blocks.now) × Room out.old at (n * 395) }
-    ensures { Wrote out.old at (results (λ i. member faulty (i - 1)) (λ i. (get_or states (i - 1) zero_state).outcome) (λ i. part b blocks.now (i - 1)) n) out.new result }
+// Appends the lines of the correct controllers, each with b bytes of its block.
+fn append_results(w: &mut Writer, file: &SystemFile, b: usize, controllers: &[Controller; 16])
+    requires { (file.now.settings.n ≤ 16) × (b ≤ 192) × Room w.old.out.now w.old.end (file.now.settings.n * 395) }
+    ensures same { w.new.out.ghost_name ≡ w.old.out.ghost_name }
+    ensures wrote { Wrote w.old.out.now w.old.end (results (λ i. member file.now.faulty (i - 1)) (λ i. (get_or controllers.now (i - 1) zero_controller).state.outcome) (λ i. take b (get_or controllers.now (i - 1) zero_controller).block) file.now.settings.n) w.new.out.now w.new.end }
 {
-    let mut end = at;
-    let mut i: usize = 0;
-    while i < n {
-        let x = i;
-        i += 1;
-        if !bitset::member(faulty, x) {
-            let s = states[x];
-            let w = s.outcome;
-            let a = x * b;
-            let e = a + b;
-            end = append_result(out, end, x + 1, w, &blocks[a..e]);
+    for i in 0..file.settings.n {
+        if !bitset::member(file.faulty, i) {
+            let outcome = controllers[i].state.outcome;
+            append_result(w, i + 1, outcome, &controllers[i].block[..b]);
         }
     }
-    end
+}
+
+// Writes the output for a file that has its form to a buffer of zeros; answers its length.
+fn write_results(out: &mut [u8], file: &SystemFile, b: usize, controllers: &[Controller; 16]) -> usize
+    requires { (file.now.settings.n ≤ 16) × (b ≤ 192) × Room out.old 0 6400 }
+    ensures { Wrote out.old 0 (names_line ++ results (λ i. member file.now.faulty (i - 1)) (λ i. (get_or controllers.now (i - 1) zero_controller).state.outcome) (λ i. take b (get_or controllers.now (i - 1) zero_controller).block) file.now.settings.n) out.new result }
+{
+    let mut w = Writer { out, end: 0 };
+    w.append(b"controller,outcome,block\n");
+    append_results(&mut w, file, b, controllers);
+    w.end
+}
+
+// Writes the line that says which line of the file is wrong to a buffer of zeros; answers its length.
+fn write_bad(out: &mut [u8], line: usize) -> usize
+    requires { Room out.old 0 25 }
+    ensures { Wrote out.old 0 (bad_line line) out.new result }
+{
+    let mut w = Writer { out, end: 0 };
+    w.append(b"bad,");
+    w.append_decimal(line);
+    w.append(b"\n");
+    w.end
+}
+
+// The output for a file that has its form, where the controllers end like this.
+pub(crate) fn results(file: &SystemFile, controllers: &[Controller; 16]) -> Output
+    requires { FileSettings file.now.settings }
+    ensures { (result.bytes ≡ padded 6400 (names_line ++ results (λ i. member file.now.faulty (i - 1)) (λ i. (get_or controllers.now (i - 1) zero_controller).state.outcome) (λ i. take (block_in file.now.settings) (get_or controllers.now (i - 1) zero_controller).block) file.now.settings.n)) × (result.length ≡ length (names_line ++ results (λ i. member file.now.faulty (i - 1)) (λ i. (get_or controllers.now (i - 1) zero_controller).state.outcome) (λ i. take (block_in file.now.settings) (get_or controllers.now (i - 1) zero_controller).block) file.now.settings.n)) }
+{
+    let s = file.settings;
+    let b = wire::block_length(s.n, s.t, s.k);
+    let mut bytes = [0u8; 6400];
+    let length = write_results(&mut bytes, file, b, controllers);
+    Output { bytes, length }
 }
 
 // The output for a file whose first wrong line is `line`.
@@ -72,8 +92,6 @@ pub(crate) fn bad(line: usize) -> Output
     ensures { (result.bytes ≡ padded 6400 (bad_line line)) × (result.length ≡ length (bad_line line)) }
 {
     let mut bytes = [0u8; 6400];
-    let word = text::append(&mut bytes, 0, b"bad,");
-    let number = text::append_decimal(&mut bytes, word, line);
-    let length = text::append(&mut bytes, number, b"\n");
+    let length = write_bad(&mut bytes, line);
     Output { bytes, length }
 }

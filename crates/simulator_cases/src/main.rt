@@ -3,40 +3,10 @@
 //     cargo run --release --bin system_files -- crates/simulator_cases
 #![tactic(auto)]
 
-ghost use Rattle.std.specs.Prelude.{◌≤◌, length, IfOk};
-
 use std::env::FillError;
-use std::io::{Read, Write};
+use std::io::Write;
 use std::rt::{Env, Files};
 use std::{fs, io};
-
-// Prints the first `length` bytes.
-fn print(rt: &impl Print, bytes: &[u8], length: usize) -> io::Result<()> {
-    let end = cases::fitting(length, bytes);
-    cases::text(rt, &bytes[..end])
-}
-
-// The simulator's output.
-fn simulate(rt: &impl Print, input: &[u8]) -> io::Result<()> {
-    let output = simulator::simulate(input);
-    let bytes = output.bytes;
-    print(rt, &bytes, output.length)
-}
-
-// Reads until buf is full or the input ends, and returns how many bytes it put at the start of buf.
-fn read_full(mut input: impl Read + Drop, buf: &mut [u8]) -> io::Result<usize>
-    ensures { IfOk result (λ n. n ≤ length buf.new) }
-{
-    let mut done: usize = 0;
-    while done < buf.len() {
-        let n = input.read(&mut buf[done..])?;
-        if n == 0 {
-            break;
-        }
-        done += n;
-    }
-    Ok(done)
-}
 
 // A name that is no UTF-8 is no name to std.
 fn open<R: Files>(rt: &R, name: &[u8]) -> io::Result<R::File> {
@@ -71,13 +41,14 @@ fn fail(rt: &impl Print, name: &[u8], error: io::Error) -> io::Result<()> {
 fn play(rt: &(impl Files + Print), err: &impl Print, name: &[u8]) -> io::Result<()> {
     cases::text(rt, name)?;
     cases::newline(rt)?;
-    let file = match open(rt, name) {
+    let mut file = match open(rt, name) {
         Ok(file) => file,
         Err(error) => return fail(err, name, error),
     };
     let mut input = [0u8; 65537];
-    let length = read_full(file, &mut input)?;
-    simulate(rt, &input[..length])
+    let length = simulator::read_full(&mut file, &mut input)?;
+    let output = simulator::simulate(&input[..length]);
+    cases::text(rt, output.as_slice())
 }
 
 // Argument i, and whether there is one. One that is too long has no name.

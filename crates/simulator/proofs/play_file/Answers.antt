@@ -1,31 +1,16 @@
--- `play_file` meets its contract: the arrays are lent to the run.
-use Rattle.simulator.proofs.Whole.{file_run}
+-- `play_file` meets its contract.
+use Rattle.std.proofs.Common.{arith, sym, ap, ◌∙◌, length}
 use Rattle.text.specs.Write.{padded}
-use lib.ListN.{length}
-use mathlib.Core.Path.{sym, ap, ◌∙◌}
+use Rattle.simulator.proofs.Whole.{file_playable, run_output}
 use Rattle.simulator.proofs.play_file.Goals as goal
 
-pub slice_bounds-block-end : goal.slice_bounds-block-end
-slice_bounds-block-end c =
-    (file_run c.args.input.now c.args.file c.block_length-b.result c.requires.0 c.requires.1
-    c.block_length-b.ensures).block_le
+pub play-controllers-requires : goal.play-controllers-requires
+play-controllers-requires c = file_playable c.args.input.now c.requires
 
-pub slice_bounds-write_run-end-2 : goal.slice_bounds-write_run-end-2
-slice_bounds-write_run-end-2 c =
-    sym (file_run c.args.input.now c.args.file c.block_length-b.result c.requires.0 c.requires.1
-    c.block_length-b.ensures).block_long
-
-pub write_run-length-requires : goal.write_run-length-requires
-write_run-length-requires c =
-    (file_run c.args.input.now c.args.file c.block_length-b.result
-    c.requires.0 c.requires.1 c.block_length-b.ensures).runnable
+pub results-requires : goal.results-requires
+results-requires c = (file_playable c.args.input.now c.requires).small
 
 pub returns : goal.returns
 returns c =
-    let r = file_run c.args.input.now c.args.file
-    c.block_length-b.result c.requires.0 c.requires.1
-    c.block_length-b.ensures in (
-      c.write_run-length.ensures.0 ∙ ap (padded 6400) r.output,
-      c.write_run-length.ensures.1
-          ∙ ap length r.output,
-    )
+    let e = run_output c.args.input.now c.requires c.play-controllers.result _ c.play-controllers.ensures in
+    (c.results.ensures.0 ∙ ap (padded 6400) e, c.results.ensures.1 ∙ ap length e)
