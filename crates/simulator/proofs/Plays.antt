@@ -19,7 +19,7 @@ use Rattle.protocol.specs.Step.{step_of}
 use Rattle.system_file.specs.declared.SystemFile.{SystemFile}
 use Rattle.system_file.specs.Table.{text_of, place_in}
 use Rattle.simulation.specs.Run.{run_number, Scenario, Playing, began, inbox_of, called, played}
-use Rattle.simulation.proofs.Laws.{began_is, called_is, cleared, inbox_ext, called_ext, called_other, played_start, played_correct, played-faulty}
+use Rattle.simulation.proofs.Laws.{called_is, cleared, inbox_ext, called_ext, called_other, played_start, played_correct, played-faulty}
 use Rattle.simulator.specs.declared.run.Controller.{Controller}
 use Rattle.simulator.specs.Steps.{FileSettings, Called, AfterCalls, block_in, inbox_in, outbox_in, given, scene, zero_controller, sent_by, held, now_of, taken}
 
@@ -105,7 +105,6 @@ start_first input file x e = record {
 }
 
 module _ {input : List ℕ} {file : SystemFile} {i : ℕ} {cs : List Controller} (h : StartedTo input file i cs) where
-
   pub start_turn : i < 16 → (x : Controller) → held x (block_in file.settings) 0 ≡ began (scene input file (given file)) (i + 1)
       → StartedTo input file (i + 1) (set cs i x)
   start_turn l x e = record { size = length-set cs i x ∙ h.size; each = each }

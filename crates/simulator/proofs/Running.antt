@@ -1,18 +1,16 @@
 -- Laws of the run as the code does it. The main ones: `read_text` (the message that stands in the file, read), `turn_silent`, `turn_said` and `turn_sent`
 -- (a slot of an inbox more), `fill_end` (all of them).
-use mathlib.Core.Path.{◌≡◌, refl, sym, ap, ap₂, subst, ◌∙◌}
-use mathlib.Core.Bool.{Bool, true, false, cond}
+use mathlib.Core.Path.{◌≡◌, refl, sym, ap, ap₂, ◌∙◌}
+use mathlib.Core.Bool.{true, false}
 use mathlib.Core.List.{List, [], ◌∷◌, ◌++◌, append-nil, append_assoc}
 use mathlib.Core.Logic.{⊎_elim}
 use Prim.Native.Nat.{ℕ, zero, suc, ◌+◌, ◌-◌, ◌*◌, ◌≤◌, ◌<◌}
 use native.Mathlib.Omega.{arith}
-use borrow.Author.Tests.{eq-eqb, ne_eqb}
 use native.Mathlib.Nat.{suc-mul, zero-mul, add-mul, mul-le-mul, mul-le-mul_right}
-use lib.Dec.{eqb}
 use lib.ListN.{length, get_or, take, drop, replicate, length-append, length-drop, drop_of_length-le}
 use lib.Seq.{length-take-le, take_all}
 use Rattle.lists.specs.Join.{joined}
-use Rattle.lists.proofs.Tests.{cond_yes, cond_no, either, same_or_not}
+use Rattle.lists.proofs.Tests.{same_or_not}
 use Rattle.lists.proofs.Zeros.{length-zeros, drop-zeros, zeros_split}
 use Rattle.lists.proofs.Joins.{joined_none, joined_more}
 use Rattle.bitset.specs.Set.{member}
@@ -26,7 +24,7 @@ use Rattle.wire.specs.Round.{round_kind}
 use Rattle.wire.specs.Length.{block_length, row_length, message_length, inbox_length, outbox_length}
 use Rattle.wire.specs.Slot.{width, slot_of, bytes, written, put_slot, relayed}
 use Rattle.wire.proofs.Laws.{width_le, message_length_is, block_length_is, row_block, row_pieces, row_marks, row_matrix, row_seen, row_king, row_forward}
-use Rattle.wire.proofs.Laws.{row_rebuild, row_outside, length_pos, outbox_is, inbox_is, first_inbox, last-outbox, sized_bytes, length_slot, silent_slot}
+use Rattle.wire.proofs.Laws.{row_rebuild, row_outside, length_pos, outbox_is, inbox_is, first_inbox, last-outbox, silent_slot}
 use Rattle.wire.proofs.Laws.{put_into, relay_into}
 use Rattle.system_file.specs.declared.SystemFile.{SystemFile}
 use Rattle.std.specs.Prelude.{Some, None}

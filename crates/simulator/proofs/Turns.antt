@@ -11,7 +11,7 @@ use Rattle.lists.proofs.Tests.{true≢false, same_or_not}
 use Rattle.lists.proofs.Sums.{below_suc}
 use Rattle.bitset.specs.Set.{member}
 use Rattle.system_file.specs.declared.SystemFile.{SystemFile}
-use Rattle.simulation.specs.Run.{Scenario, Playing, called}
+use Rattle.simulation.specs.Run.{called}
 use Rattle.simulator.specs.declared.run.Controller.{Controller}
 use Rattle.simulator.specs.Steps.{Called, block_in, inbox_in, outbox_in, scene, zero_controller, held, now_of}
 

@@ -1,7 +1,7 @@
 -- The whole run. The main laws: `run_output` (what it ends with is the output), `file_playable` (what a file says can be played).
 use mathlib.Core.Path.{◌≡◌, refl, sym, ap, subst, ◌∙◌}
 use mathlib.Core.List.{List, ◌++◌}
-use Prim.Native.Nat.{ℕ, ◌+◌, ◌-◌, ◌*◌, ◌≤◌}
+use Prim.Native.Nat.{ℕ, ◌+◌, ◌-◌, ◌*◌}
 use native.Mathlib.Omega.{arith}
 use lib.ListN.{length, get_or, take}
 use Rattle.std.specs.Prelude.{Ok}
@@ -11,10 +11,10 @@ use Rattle.system_file.specs.declared.SystemFile.{SystemFile}
 use Rattle.system_file.specs.Form.{Contents, right, read_of}
 use Rattle.system_file.specs.Table.{is_faulty, table_of, file_of, Properly}
 use Rattle.system_file.proofs.Laws.{read_right, table_room, file_right}
-use Rattle.simulation.specs.Run.{Playing, ended}
+use Rattle.simulation.specs.Run.{ended}
 use Rattle.simulator.specs.Output.{names_line, results, output_of, simulated}
 use Rattle.simulator.specs.declared.run.Controller.{Controller}
-use Rattle.simulator.specs.Steps.{FileSettings, Playable, AfterCalls, block_in, given, scene, zero_controller, now_of}
+use Rattle.simulator.specs.Steps.{FileSettings, Playable, AfterCalls, block_in, given, scene, zero_controller}
 use Rattle.simulator.proofs.Running.{block_le}
 use Rattle.simulator.proofs.Writing.{take-padded}
 use Rattle.simulator.proofs.Outputs.{results-alike, output_is, simulated_right, table_output}

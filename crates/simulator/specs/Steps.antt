@@ -18,7 +18,7 @@
 --   AfterCalls F c cs o     each controller holds what it holds after c calls
 --   Room out at m           the text ends at `at`, zeros follow, and m more bytes fit
 --   Wrote out at s out' r   s was appended
-use Rattle.std.specs.Prelude.{◌≡◌, true, false, List, [], ◌++◌, ℕ, ◌+◌, ◌-◌, ◌*◌, ◌≤◌, ◌<◌, length, get_or, take, replicate}
+use Rattle.std.specs.Prelude.{◌≡◌, true, false, List, [], ◌++◌, ℕ, ◌+◌, ◌-◌, ◌*◌, ◌≤◌, length, get_or, take, replicate}
 use Rattle.bitset.specs.Set.{member}
 use Rattle.settings.specs.declared.Settings.{Settings}
 use Rattle.settings.specs.Valid.{Coded}
@@ -26,7 +26,7 @@ use Rattle.text.specs.Write.{padded}
 use Rattle.wire.specs.Length.{block_length, round_layout, message_length, inbox_length, outbox_length}
 use Rattle.wire.specs.declared.slot.Layout.{Layout}
 use Rattle.protocol.specs.State.{zero_state}
-use Rattle.protocol.specs.Step.{After, step_of}
+use Rattle.protocol.specs.Step.{After}
 use Rattle.system_file.specs.declared.SystemFile.{SystemFile}
 use Rattle.system_file.specs.Table.{text_of, place_in}
 use Rattle.simulation.specs.Run.{run_number, Scenario, Playing, called, played}

@@ -53,7 +53,12 @@ fn append_results(w: &mut Writer, file: &SystemFile, b: usize, controllers: &[Co
 }
 
 // Writes the output for a file that has its form to a buffer of zeros; answers its length.
-fn write_results(out: &mut [u8], file: &SystemFile, b: usize, controllers: &[Controller; 16]) -> usize
+fn write_results(
+    out: &mut [u8],
+    file: &SystemFile,
+    b: usize,
+    controllers: &[Controller; 16],
+) -> usize
     requires { (file.now.settings.n ≤ 16) × (b ≤ 192) × Room out.old 0 6400 }
     ensures { Wrote out.old 0 (names_line ++ results (λ i. member file.now.faulty (i - 1)) (λ i. (get_or controllers.now (i - 1) zero_controller).state.outcome) (λ i. take b (get_or controllers.now (i - 1) zero_controller).block) file.now.settings.n) out.new result }
 {

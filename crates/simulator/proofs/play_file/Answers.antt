@@ -1,5 +1,5 @@
 -- `play_file` meets its contract.
-use Rattle.std.proofs.Common.{arith, sym, ap, ◌∙◌, length}
+use Rattle.std.proofs.Common.{ap, ◌∙◌, length}
 use Rattle.text.specs.Write.{padded}
 use Rattle.simulator.proofs.Whole.{file_playable, run_output}
 use Rattle.simulator.proofs.play_file.Goals as goal

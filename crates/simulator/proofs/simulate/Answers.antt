@@ -1,5 +1,5 @@
 -- `simulate` meets its contract.
-use Rattle.std.proofs.Common.{arith, sym, ap, ◌∙◌, ℕ, length}
+use Rattle.std.proofs.Common.{sym, ap, ◌∙◌, ℕ, length}
 use Rattle.text.specs.Write.{padded}
 use Rattle.system_file.specs.Form.{read_of}
 use Rattle.system_file.proofs.Laws.{file-wrong}

@@ -1,8 +1,8 @@
 -- `append_results` meets its contract.
 use native.Mathlib.Omega.{arith}
-use mathlib.Core.Path.{◌≡◌, refl, subst, sym, ap, ◌∙◌}
+use mathlib.Core.Path.{refl, subst, sym, ap, ◌∙◌}
 use lib.ListN.{length, take}
-use Prim.Native.Nat.{ℕ, ◌+◌, ◌*◌, ◌<◌}
+use Prim.Native.Nat.{◌+◌, ◌<◌}
 use Rattle.text.specs.declared.writer.Writer.{Writer}
 use Rattle.simulator.specs.declared.run.Controller.{Controller}
 use Rattle.simulator.specs.Steps.{Wrote, zero_controller}
@@ -31,12 +31,12 @@ loop-i-preserved c =
     let s = adds q.2 (omega (arith, l)) c.loop-i.invariant.wrote in
     let n : i < length a.controllers.now = omega arith in
     elim c.if-not-member.branch [
-      then-not-member w ↦
-        let v = turn_correct a.file.now.faulty a.controllers.now a.b i s (sym c.member.ensures ∙ w.if-not-member.true)
-        (ap (λ (x : Controller). x.state.outcome) (get_or_inside a.controllers.now i _ zero_controller n))
-        (ap (λ (x : Controller). take a.b x.block) (get_or_inside a.controllers.now i _ zero_controller n)) w.append_result.ensures.wrote in
-        record { same = cc; wrote = subst (λ (x : Writer). Wrote a.w.now.out.now a.w.now.end (lines a.file.now.faulty a.controllers.now a.b (i + 1)) x.out.now x.end) (sym w.w-is) v }
-    | else-not-member w ↦
-        let v = turn_faulty a.file.now.faulty a.controllers.now a.b i s (sym c.member.ensures ∙ w.if-not-member.false) in
-        record { same = cc; wrote = subst (λ (x : Writer). Wrote a.w.now.out.now a.w.now.end (lines a.file.now.faulty a.controllers.now a.b (i + 1)) x.out.now x.end) (sym w.w-is) v }
+      | then-not-member w ↦
+          let v = turn_correct a.file.now.faulty a.controllers.now a.b i s (sym c.member.ensures ∙ w.if-not-member.true)
+          (ap (λ (x : Controller). x.state.outcome) (get_or_inside a.controllers.now i _ zero_controller n))
+          (ap (λ (x : Controller). take a.b x.block) (get_or_inside a.controllers.now i _ zero_controller n)) w.append_result.ensures.wrote in
+          record { same = cc; wrote = subst (λ (x : Writer). Wrote a.w.now.out.now a.w.now.end (lines a.file.now.faulty a.controllers.now a.b (i + 1)) x.out.now x.end) (sym w.w-is) v }
+      | else-not-member w ↦
+          let v = turn_faulty a.file.now.faulty a.controllers.now a.b i s (sym c.member.ensures ∙ w.if-not-member.false) in
+          record { same = cc; wrote = subst (λ (x : Writer). Wrote a.w.now.out.now a.w.now.end (lines a.file.now.faulty a.controllers.now a.b (i + 1)) x.out.now x.end) (sym w.w-is) v }
     ]

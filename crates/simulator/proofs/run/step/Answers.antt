@@ -1,10 +1,8 @@
 -- `step` meets its contract: the fronts of the arrays are lent.
-use Rattle.std.proofs.Common.{arith, length, ◌≡◌, ap, ◌∙◌, List, ℕ, take}
+use Rattle.std.proofs.Common.{arith, length, ◌≡◌, ap, ◌∙◌, take}
 use lib.ListN.{length-take}
 use Rattle.lists.proofs.Zeros.{take-zeros, length_front}
-use Rattle.protocol.specs.declared.State.{State}
 use Rattle.protocol.specs.Step.{step_of}
-use Rattle.simulation.specs.Run.{Playing}
 use Rattle.simulator.specs.Steps.{taken}
 use Rattle.simulator.proofs.Plays.{held_fronts, playing}
 use Rattle.simulator.proofs.run.step.Goals as goal

@@ -1,5 +1,5 @@
 -- `call` meets its contract: the front of a cleared array is lent for the inbox.
-use Rattle.std.proofs.Common.{arith, sym, ap, ap₂, ◌∙◌, ◌≡◌, ◌≤◌, ◌+◌, ℕ, replicate}
+use Rattle.std.proofs.Common.{arith, sym, ap, ap₂, ◌∙◌, ◌≡◌, ◌+◌, ℕ, replicate}
 use Rattle.lists.proofs.Zeros.{take-zeros, length_front}
 use Rattle.wire.proofs.Laws.{block_size_is}
 use Rattle.simulator.specs.Steps.{block_in, held, zero_controller}

@@ -1,6 +1,6 @@
 -- `call_all` meets its contract.
-use Rattle.std.proofs.Common.{arith, sym, ◌∙◌}
-use Rattle.simulator.proofs.Turns.{turn_start, turn_correct, turn_faulty, turned_called}
+use Rattle.std.proofs.Common.{arith}
+use Rattle.simulator.proofs.Turns.{turn_start, turned_called}
 use Rattle.simulator.proofs.run.Script.call_all.Goals as goal
 
 pub loop-i-init : goal.loop-i-init

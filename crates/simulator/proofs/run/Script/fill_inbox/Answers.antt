@@ -1,5 +1,5 @@
 -- `fill_inbox` meets its contract.
-use Rattle.std.proofs.Common.{arith, ap, sym, ◌∙◌, ◌≡◌, ◌<◌, ℕ, length, take, get_or}
+use Rattle.std.proofs.Common.{arith, ap, sym, ◌∙◌, ◌<◌, ℕ, length, take, get_or}
 use Rattle.simulator.specs.declared.run.Controller.{Controller}
 use Rattle.simulator.specs.Steps.{zero_controller}
 use Rattle.simulator.proofs.Writing.{get_or_inside}
@@ -41,15 +41,15 @@ loop-j-preserved c =
     let less : j < c.args.self.now.file.now.settings.n = c.loop-j-test.true in
     let o = length-cleared cs h r in
     elim c.if-not-member.branch [
-      then-not-member w ↦
-        let out = w.sent.ensures.0 ∙ ap (λ (x : Controller). take (length c.args.inbox.now) x.outbox) (get_or_inside cs j _ zero_controller (omega arith))
-        ∙ ap (λ (n : ℕ). take n (get_or cs j zero_controller).outbox) o in
-        w.inbox-is ∙ turn_sent cs h r less e s l (sym c.member.ensures ∙ w.if-not-member.true) out (w.sent.ensures.1 ∙ o) w.relay.ensures
-    | else-not-member+in-Some w ↦
-        let p = place_is _ _ w.in-Some.ensures in
-        w.inbox-is ∙ turn_said cs h r less e s l (sym c.member.ensures ∙ w.if-not-member.false) (λ z. omega (arith, p.0, p.1)) p.0 w.fill_said.ensures
-    | else-not-member+in_default w ↦
-        w.inbox-is ∙ turn_silent cs h r less e s l (sym c.member.ensures ∙ w.if-not-member.false) (no_place _ w.in_default.ensures)
+      | then-not-member w ↦
+          let out = w.sent.ensures.0 ∙ ap (λ (x : Controller). take (length c.args.inbox.now) x.outbox) (get_or_inside cs j _ zero_controller (omega arith))
+          ∙ ap (λ (n : ℕ). take n (get_or cs j zero_controller).outbox) o in
+          w.inbox-is ∙ turn_sent cs h r less e s l (sym c.member.ensures ∙ w.if-not-member.true) out (w.sent.ensures.1 ∙ o) w.relay.ensures
+      | else-not-member+in-Some w ↦
+          let p = place_is _ _ w.in-Some.ensures in
+          w.inbox-is ∙ turn_said cs h r less e s l (sym c.member.ensures ∙ w.if-not-member.false) (λ z. omega (arith, p.0, p.1)) p.0 w.fill_said.ensures
+      | else-not-member+in_default w ↦
+          w.inbox-is ∙ turn_silent cs h r less e s l (sym c.member.ensures ∙ w.if-not-member.false) (no_place _ w.in_default.ensures)
     ]
 
 pub returns : goal.returns

@@ -1,6 +1,5 @@
 -- `fill_said` meets its contract: the digits are read into the front of an array.
-use Rattle.std.proofs.Common.{arith, sym, ap, ◌∙◌, ◌≡◌, List, ℕ, length, take, replicate}
-use lib.ListN.{length-take, length-replicate}
+use Rattle.std.proofs.Common.{arith, ap, ◌∙◌}
 use Rattle.lists.proofs.Zeros.{length_front}
 use Rattle.wire.specs.Slot.{put_slot}
 use Rattle.simulator.proofs.Running.{read_text}

@@ -1,8 +1,7 @@
 -- `start` meets its contract.
-use Rattle.std.proofs.Common.{arith, sym, ap, ◌∙◌, ◌≡◌, ℕ, List, [], length, take}
+use Rattle.std.proofs.Common.{arith, sym, ap, ◌∙◌, ◌≡◌, ℕ, [], length, take}
 use lib.ListN.{length-take}
 use Rattle.wire.proofs.Laws.{block_size_is}
-use Rattle.protocol.specs.declared.State.{State}
 use Rattle.protocol.specs.Step.{Answer, start_of}
 use Rattle.simulation.specs.Run.{run_number}
 use Rattle.simulation.proofs.Laws.{began_is}

@@ -1,6 +1,6 @@
 -- `start_all` meets its contract.
-use Rattle.std.proofs.Common.{arith, sym, ◌∙◌}
-use Rattle.simulator.proofs.Plays.{start_first, start_turn, start_end}
+use Rattle.std.proofs.Common.{arith}
+use Rattle.simulator.proofs.Plays.{start_first, start_end}
 use Rattle.simulator.proofs.run.Script.start_all.Goals as goal
 
 pub loop-i-init : goal.loop-i-init
