@@ -1,19 +1,20 @@
 -- What the proof uses of the star: `Graph`. A change of the graph's representation touches `graph_laws` and what it cites, and nothing else here.
-use mathlib.Core.Path.{◌≡◌, sym, ap, subst, ◌∙◌}
-use mathlib.Core.Logic.{◌⊎◌, inl, inr, ⊎_elim}
-use mathlib.Core.Bool.{Bool, true, false, not}
+use mathlib.Core.Path.{◌≡◌}
+use mathlib.Core.Logic.{◌⊎◌}
+use mathlib.Core.Bool.{Bool, true, not}
 use mathlib.Core.List.{List}
 use Prim.Native.Nat.{ℕ, ◌+◌, ◌*◌, ◌^◌, ◌≤◌, ◌<◌}
 use native.Mathlib.Omega.{arith}
+use Rattle.std.proofs.lemmas.Grind.{common_steps}
 use lib.ListN.{get_or}
 use Rattle.lists.specs.Sum.{count}
-use Rattle.lists.proofs.Tests.{either, same_or_not, and_left, and_right, and_both}
+use Rattle.lists.proofs.Tests.{same_or_not}
 use Rattle.lists.proofs.Sums.{count-not}
 use Rattle.bitset.specs.Set.{member}
 use Rattle.settings.specs.Valid.{Quorum}
 use Rattle.graph.specs.Neighbour.{neighbour}
 use Rattle.graph.proofs.Laws.{neighbour_self, neighbour_other}
-use Rattle.star.specs.Star.{Star, star_of, refusal_for, found}
+use Rattle.star.specs.Star.{refusal_for}
 use Rattle.star.proofs.Laws.{e-below, e_size, not_found, no_sets_lem, clique_core, one_word}
 use Rattle.protocol.specs.Calls.{core_of}
 
@@ -37,21 +38,10 @@ pub record Graph (rows : List ℕ) (n t : ℕ) : Type 0 where
 
 pub graph_laws : (n t : ℕ) → Quorum n t → (rows : List ℕ) → Graph rows n t
 graph_laws n t q rows = record {
-  near_marks = λ i j y.
-      ⊎_elim (λ (e : i ≡ j). inl e)
-      (λ (d : i ≡ j → ⊥).
-      let both = sym (neighbour_other rows i j d) ∙ y in
-      inr (and_left (member (get_or rows i 0) j) (member (get_or rows j 0) i) both, and_right (member (get_or rows i 0) j) (member (get_or rows j 0) i) both))
-      (same_or_not i j);
-  marks_near = λ i j a b.
-      ⊎_elim (λ (e : i ≡ j). subst (λ (x : ℕ). neighbour rows i x ≡ true) e (neighbour_self rows i))
-      (λ (d : i ≡ j → ⊥). neighbour_other rows i j d ∙ and_both (member (get_or rows i 0) j) (member (get_or rows j 0) i) a b)
-      (same_or_not i j);
+  near_marks = λ i j y. grind (arith, common_steps, same_or_not i j, neighbour_other rows i j);
+  marks_near = λ i j a b. grind (arith, common_steps, same_or_not i j, neighbour_self rows i, neighbour_other rows i j);
   core_lt = e-below rows n t;
-  core_size = λ z.
-      ⊎_elim (λ (y : found (star_of rows n t) ≡ true). e_size rows n t y)
-      (λ (y : found (star_of rows n t) ≡ false). absurd (z (ap (λ (s : Star). s.e) (not_found rows n t y) ∙ (no_sets_lem (refusal_for n t)).3)))
-      (either (found (star_of rows n t)));
+  core_size = λ z. grind (arith, common_steps, e_size rows n t, not_found rows n t, no_sets_lem (refusal_for n t));
   clique_in = λ H clique many. clique_core rows n t q H clique many;
   one_word = λ G few word code near a b la lb ga gb ma mb.
       one_word rows n t G (omega (arith, few, count-not n G)) (List ℕ) word code near a b ma mb ga gb;
