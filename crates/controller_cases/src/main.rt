@@ -193,6 +193,7 @@ fn is_filled(s: &[u8]) -> bool {
     s.iter().enumerate().all(|(p, x)| *x == pattern(p))
 }
 
+// Field by field, as Settings derives no equality.
 fn same_settings(a: Settings, b: Settings) -> bool {
     a.n == b.n && a.t == b.t && a.k == b.k && a.sender == b.sender
 }

@@ -54,7 +54,8 @@ impl From<u8> for Outcome {
     }
 }
 
-// What the last call sets in the state: the outcome, and whom the controller names, as marks (document 02, U1).
+// What the last call sets in the state: the outcome, and whom the controller names, as marks (document 02, U1). Side by side, as a state and its bytes keep
+// them, and `ending` of specs/Reconstruction has them.
 #[derive(Clone, Copy)]
 pub struct Ending {
     pub outcome: Outcome,
@@ -122,7 +123,7 @@ impl<'a> Offers<'a> {
         bitset::member(self.core, i) && lists::is_equal(sent, m)
     }
 
-    // How many core members sent m.
+    // How many core members sent m. Counted by a `for`: of filter(..).count() over a range the check proves no count.
     fn votes(&self, m: &[u8]) -> usize
         ensures { result ≡ votes self.now.n self.now.core self.now.inbox.now self.now.layout m.now }
     {

@@ -3,7 +3,7 @@
 
 ghost use Rattle.std.specs.Prelude.{◌≡◌, cond, ◌<◌, ◌≤◌, eqb, length};
 ghost use Rattle.bitset.specs.Row.{rows_in};
-ghost use Rattle.reconstruction.specs.Outcomes.{outcome_number, outcome_from};
+ghost use Rattle.reconstruction.specs.Outcomes.{outcome_from};
 ghost use Rattle.state_bytes.specs.State.{little_endian, number_of, widths, width_of, offset, state_length, field_bytes, state_bytes, field_in, field_number, state_in, state_of};
 
 use protocol::State;
@@ -54,14 +54,6 @@ fn put(bytes: &mut [u8], x: usize)
         *byte = (rest % 256) as u8;
         rest /= 256;
     }
-}
-
-// The number of an outcome.
-// Shut out: 2 for beyond; 1 for open.
-pub fn outcome_number(outcome: Outcome) -> u8
-    ensures { result ≡ outcome_number outcome }
-{
-    u8::from(outcome)
 }
 
 // Writes field i to as many bytes as it takes. A match on i, as `field_bytes s i` counts the fields.
