@@ -13,6 +13,7 @@ ghost use Rattle.std.specs.Prelude.{◌≡◌, ◌<◌, ◌≤◌};
 
 use settings::Refusal;
 use std::io;
+use wire::Layout;
 
 // What makes a piece false: all its bytes, those of one stripe, that its slot is absent, or that it is the piece of the other block.
 #[derive(Clone, Copy)]
@@ -63,6 +64,9 @@ struct Case {
     manner: Manner,
     seed: u64,
     mask: u64,
+    ghost few: { n ≤ 16 },
+    ghost tolerated: { t ≤ 5 },
+    ghost short: { k ≤ 128 },
 }
 
 // What decoding answers.
@@ -77,6 +81,14 @@ struct Tally {
     digest: u64,
 }
 
+// No call.
+const NONE: Tally = Tally {
+    blocks: 0,
+    beyond: 0,
+    naming: 0,
+    digest: 0,
+};
+
 // The coefficients of (x + 1) .. (x + t), the lowest first, in row t: the points 1 to t are its roots. Row 0 has none.
 const ROOTS: [[u8; 6]; 6] = [
     [0, 0, 0, 0, 0, 0],
@@ -88,7 +100,8 @@ const ROOTS: [[u8; 6]; 6] = [
 ];
 
 // n, t, k, number, and the lengths of block and piece: each row of the refusal table, n 7 with t 2 and k 128 taken, and lengths a byte off; then
-// calls that several rows refuse, of which the first counts.
+// calls that several rows refuse, of which the first counts. A row is a list of numbers, printed as it stands, and `try_encode` names them: a struct for each
+// would take six lines.
 const ENCODINGS: [[usize; 6]; 43] = [
     [3, 1, 1, 1, 2, 1],
     [17, 1, 1, 1, 2, 1],
@@ -180,29 +193,6 @@ const DECODINGS: [[usize; 6]; 41] = [
     [4, 1, 9223372036854775808, 257, 12, 0],
 ];
 
-// The library's functions, each called in one place.
-fn encode(c: Case, number: usize, block: &[u8], piece: &mut [u8]) -> Result<(), Refusal> {
-    reed_solomon::encode(c.n, c.t, c.k, number, block, piece)
-}
-
-fn decode(c: Case, slots: &[u8], block: &mut [u8]) -> Answer {
-    reed_solomon::decode(c.n, c.t, wire::layout_with(c.run, c.k), slots, block)
-}
-
-fn send(c: Case, slots: &mut [u8], number: usize, piece: &[u8]) {
-    wire::send_one(slots, wire::layout_with(c.run, c.k), number, piece);
-}
-
-fn block_length(c: Case) -> usize {
-    wire::block_length(c.n, c.t, c.k)
-}
-
-fn slots_length(c: Case) -> usize
-    requires { c.t ≤ 5 }
-{
-    wire::outbox_length(c.n, c.t, c.k, 3 * c.t + 8)
-}
-
 // The number that is printed for coding's answer.
 fn coded(a: Result<(), Refusal>) -> u8 {
     match a {
@@ -228,17 +218,97 @@ fn row(a: Answer) -> u16 {
     }
 }
 
-fn case_of(n: usize, t: usize, k: usize, run: u16, manner: Manner) -> Case
-    ensures { (result.n ≡ n) × (result.t ≡ t) × (result.k ≡ k) }
-{
-    Case {
-        n,
-        t,
-        k,
-        run,
-        manner,
-        seed: cases::seed(n as u64, t, k, usize::from(manner)),
-        mask: 0,
+impl Case {
+    fn new(n: usize, t: usize, k: usize, run: u16, manner: Manner) -> Case
+        requires { (n ≤ 16) × (t ≤ 5) × (k ≤ 128) }
+    {
+        Case {
+            n,
+            t,
+            k,
+            run,
+            manner,
+            seed: cases::seed(n as u64, t, k, usize::from(manner)),
+            mask: 0,
+        }
+    }
+
+    // Set x of false slots.
+    fn with_set(mut self, x: usize) -> Case {
+        self.mask = self.set_at(x);
+        self.seed = cases::mix(self.seed, x as u64);
+        self
+    }
+
+    // How many sets of false slots are looked at: at n 4 and n 7 all sets, else two of each size.
+    fn set_count(self) -> usize {
+        match self.n {
+            4 => 16,
+            7 => 128,
+            n => 2 * (n + 1),
+        }
+    }
+
+    fn set_at(self, x: usize) -> u64 {
+        if self.n == 4 || self.n == 7 {
+            return x as u64;
+        }
+        scattered(self.n, x / 2, cases::mix(self.seed, x as u64))
+    }
+
+    fn layout(self) -> Layout {
+        wire::layout_with(self.run, self.k)
+    }
+
+    // What makes the piece in slot i false; none where it is to be true.
+    fn fault_of(self, i: usize) -> Option<Fault>
+        requires { i < 16 }
+    {
+        if (self.mask >> i) % 2 == 0 {
+            return None;
+        }
+        match self.manner {
+            Manner::Code => None,
+            Manner::By(fault) => Some(fault),
+            Manner::Any => Some(FAULTS[cases::draw(self.seed, 1, i, 0) % 4]),
+        }
+    }
+
+    // Whether byte b of a piece of k bytes is to be false.
+    fn is_spoilt(self, i: usize, k: usize, b: usize) -> bool
+        requires { (i < 16) × (b < k) }
+    {
+        match self.fault_of(i) {
+            Some(Fault::Bytes) => true,
+            Some(Fault::Stripe) => cases::draw(self.seed, 3, i, 0) % k == b,
+            _ => false,
+        }
+    }
+
+    fn spoil(self, m: &mut [u8], i: usize)
+        requires { i < 16 }
+    {
+        let k = m.len();
+        for (b, byte) in m.iter_mut().enumerate() {
+            if self.is_spoilt(i, k, b) {
+                *byte ^= cases::byte(1 + cases::draw(self.seed, 2, i, b) % 255);
+            }
+        }
+    }
+
+    // Another byte.
+    fn other_byte(self, x: u8, i: usize) -> u8 {
+        x ^ cases::byte(1 + cases::draw(self.seed, 4, i, 0) % 255)
+    }
+
+    // Makes slot i absent: it has another first byte, or the number of another run, which differs in the low or in the high byte. Its piece stays.
+    fn hide(self, slots: &mut [u8], i: usize)
+        requires { i < 16 }
+    {
+        let b = i * (self.k + 3) + cases::draw(self.seed, 6, i, 0) % 3;
+        if b < slots.len() {
+            slots[b] = self.other_byte(slots[b], i);
+        }
     }
 }
 
@@ -264,74 +334,21 @@ fn fill(block: &mut [u8], seed: u64, t: usize)
     }
 }
 
-fn is_false(mask: u64, i: usize) -> bool
-    requires { i < 16 }
-{
-    (mask >> i) % 2 == 1
-}
-
-// What makes the piece in slot i false; none where it is to be true.
-fn fault_of(c: Case, i: usize) -> Option<Fault>
-    requires { i < 16 }
-{
-    if !is_false(c.mask, i) {
-        return None;
-    }
-    match c.manner {
-        Manner::Code => None,
-        Manner::By(fault) => Some(fault),
-        Manner::Any => Some(FAULTS[cases::draw(c.seed, 1, i, 0) % 4]),
-    }
-}
-
-// Whether byte b of a piece of k bytes is to be false.
-fn is_spoilt(c: Case, i: usize, k: usize, b: usize) -> bool
-    requires { (i < 16) × (b < k) }
-{
-    match fault_of(c, i) {
-        Some(Fault::Bytes) => true,
-        Some(Fault::Stripe) => cases::draw(c.seed, 3, i, 0) % k == b,
-        _ => false,
-    }
-}
-
-fn spoil(m: &mut [u8], c: Case, i: usize)
-    requires { i < 16 }
-{
-    let k = m.len();
-    for (b, byte) in m.iter_mut().enumerate() {
-        if is_spoilt(c, i, k, b) {
-            *byte ^= cases::byte(1 + cases::draw(c.seed, 2, i, b) % 255);
-        }
-    }
-}
-
-// Another byte.
-fn other_byte(x: u8, c: Case, i: usize) -> u8 {
-    x ^ cases::byte(1 + cases::draw(c.seed, 4, i, 0) % 255)
-}
-
-// Makes slot i, which starts at a, absent: it has another first byte, or the number of another run, which differs in the low or in the high byte. Its
-// piece stays.
-fn hide(slots: &mut [u8], c: Case, i: usize, a: usize) {
-    let b = std::num::wrapping_add_usize(a, cases::draw(c.seed, 6, i, 0) % 3);
-    if b < slots.len() {
-        slots[b] = other_byte(slots[b], c, i);
-    }
-}
-
 // Slot i with its piece of `block`, spoilt if it is to be, by way of m; a digest of d, the answer and the piece before that.
 fn put(slots: &mut [u8], m: &mut [u8], block: &[u8], c: Case, i: usize, d: u64) -> u64
     requires { i < 16 }
 {
-    let a = coded(encode(c, i + 1, block, m));
-    let r = cases::digest(cases::mix(d, a as u64), m);
-    spoil(m, c, i);
-    send(c, slots, i + 1, m);
+    let a = coded(reed_solomon::encode(c.n, c.t, c.k, i + 1, block, m));
+    let r = cases::digest(cases::mix(d, u64::from(a)), m);
+    c.spoil(m, i);
+    wire::send_one(slots, c.layout(), i + 1, m);
     r
 }
 
-// Slot i, which starts at a, also where it is absent or has the piece of the other block.
+// The slots, a piece, the block, the other block and the block that decoding leaves stay parameters: in a struct of them, a call that lends one and reads
+// another has no proof.
+
+// Slot i, also where it is absent or has the piece of the other block.
 fn slot(
     slots: &mut [u8],
     m: &mut [u8],
@@ -339,16 +356,15 @@ fn slot(
     other: &[u8],
     c: Case,
     i: usize,
-    a: usize,
     d: u64,
 ) -> u64
     requires { i < 16 }
 {
-    match fault_of(c, i) {
+    match c.fault_of(i) {
         Some(Fault::Other) => put(slots, m, other, c, i, d),
         Some(Fault::Absent) => {
             let r = put(slots, m, block, c, i, d);
-            hide(slots, c, i, a);
+            c.hide(slots, i);
             r
         }
         _ => put(slots, m, block, c, i, d),
@@ -356,21 +372,12 @@ fn slot(
 }
 
 // All slots, and a digest of the pieces.
-fn gather(slots: &mut [u8], m: &mut [u8], block: &[u8], other: &[u8], c: Case) -> u64
-    requires { (c.n ≤ 16) × (c.k ≤ 128) }
-{
-    let width = c.k + 3;
+fn gather(slots: &mut [u8], m: &mut [u8], block: &[u8], other: &[u8], c: Case) -> u64 {
     let mut d: u64 = 0;
     for i in 0..c.n {
-        d = slot(slots, m, block, other, c, i, i * width, d);
+        d = slot(slots, m, block, other, c, i, d);
     }
     d
-}
-
-// A digest of d, an answer and what it left in the block.
-fn digest_answer(d: u64, a: Answer, block: &[u8]) -> u64 {
-    let number = cases::mix(d, number(a) as u64);
-    cases::digest(cases::mix(number, row(a) as u64), block)
 }
 
 // The slots of a case decoded.
@@ -382,18 +389,63 @@ fn play(
     out: &mut [u8],
     c: Case,
     so_far: Tally,
-) -> Tally
-    requires { (c.n ≤ 16) × (c.k ≤ 128) }
-{
+) -> Tally {
     gather(slots, m, block, other, c);
-    let a = decode(c, slots, out);
-    Tally {
-        blocks: so_far
-            .blocks
-            .wrapping_add(u64::from(matches!(a, Ok(Some(_))))),
-        beyond: so_far.beyond.wrapping_add(u64::from(matches!(a, Ok(None)))),
-        naming: so_far.naming.wrapping_add(u64::from(row(a) != 0)),
-        digest: digest_answer(so_far.digest, a, out),
+    let a = reed_solomon::decode(c.n, c.t, c.layout(), slots, out);
+    so_far.with(a, out)
+}
+
+// All sets of false slots.
+fn play_sets(
+    slots: &mut [u8],
+    m: &mut [u8],
+    block: &[u8],
+    other: &[u8],
+    out: &mut [u8],
+    c: Case,
+) -> Tally {
+    let mut r = NONE;
+    for x in 0..c.set_count() {
+        r = play(slots, m, block, other, out, c.with_set(x), r);
+    }
+    r
+}
+
+// The pieces alone, or all sets of false slots.
+fn play_blocks(
+    rt: &impl Print,
+    slots: &mut [u8],
+    m: &mut [u8],
+    block: &mut [u8],
+    other: &mut [u8],
+    out: &mut [u8],
+    c: Case,
+) -> io::Result<()> {
+    fill(block, c.seed, 0);
+    fill(other, c.seed, c.t);
+    match c.manner {
+        Manner::Code => print_code(rt, c, gather(slots, m, block, other, c)),
+        _ => print_tally(rt, c, play_sets(slots, m, block, other, out, c)),
+    }
+}
+
+// A digest of d, an answer and what it left in the block.
+fn digest_answer(d: u64, a: Answer, block: &[u8]) -> u64 {
+    let number = cases::mix(d, number(a) as u64);
+    cases::digest(cases::mix(number, row(a) as u64), block)
+}
+
+impl Tally {
+    // With one call more.
+    fn with(self, a: Answer, block: &[u8]) -> Tally {
+        Tally {
+            blocks: self
+                .blocks
+                .wrapping_add(u64::from(matches!(a, Ok(Some(_))))),
+            beyond: self.beyond.wrapping_add(u64::from(matches!(a, Ok(None)))),
+            naming: self.naming.wrapping_add(u64::from(row(a) != 0)),
+            digest: digest_answer(self.digest, a, block),
+        }
     }
 }
 
@@ -423,70 +475,6 @@ fn scattered(n: usize, size: usize, seed: u64) -> u64
     mask
 }
 
-// How many sets of false slots are looked at: at n 4 and n 7 all sets, else two of each size.
-fn set_count(n: usize) -> usize
-    requires { n ≤ 16 }
-{
-    if n == 4 {
-        return 16;
-    }
-    if n == 7 {
-        return 128;
-    }
-    2 * (n + 1)
-}
-
-fn set_at(n: usize, seed: u64, x: usize) -> u64
-    requires { n ≤ 16 }
-{
-    if n == 4 || n == 7 {
-        return x as u64;
-    }
-    scattered(n, x / 2, cases::mix(seed, x as u64))
-}
-
-// Set x of false slots.
-fn play_set(
-    slots: &mut [u8],
-    m: &mut [u8],
-    block: &[u8],
-    other: &[u8],
-    out: &mut [u8],
-    c: Case,
-    x: usize,
-    so_far: Tally,
-) -> Tally
-    requires { (c.n ≤ 16) × (c.t ≤ 5) × (c.k ≤ 128) }
-{
-    let mut with = c;
-    with.seed = cases::mix(c.seed, x as u64);
-    with.mask = set_at(c.n, c.seed, x);
-    play(slots, m, block, other, out, with, so_far)
-}
-
-fn play_sets(
-    slots: &mut [u8],
-    m: &mut [u8],
-    block: &[u8],
-    other: &[u8],
-    out: &mut [u8],
-    c: Case,
-) -> Tally
-    requires { (c.n ≤ 16) × (c.t ≤ 5) × (c.k ≤ 128) }
-{
-    let end = set_count(c.n);
-    let mut r = Tally {
-        blocks: 0,
-        beyond: 0,
-        naming: 0,
-        digest: 0,
-    };
-    for x in 0..end {
-        r = play_set(slots, m, block, other, out, c, x, r);
-    }
-    r
-}
-
 fn print_code(rt: &impl Print, c: Case, d: u64) -> io::Result<()> {
     cases::numbers(rt, b"code", &[c.n, c.t, c.k])?;
     cases::text(rt, b":")?;
@@ -508,56 +496,7 @@ fn print_tally(rt: &impl Print, c: Case, r: Tally) -> io::Result<()> {
     cases::end_digest(rt, r.digest)
 }
 
-// The pieces alone, or all sets of false slots.
-fn play_blocks(
-    rt: &impl Print,
-    slots: &mut [u8],
-    m: &mut [u8],
-    block: &mut [u8],
-    other: &mut [u8],
-    out: &mut [u8],
-    c: Case,
-) -> io::Result<()>
-    requires { (c.n ≤ 16) × (c.t ≤ 5) × (c.k ≤ 128) }
-{
-    fill(block, c.seed, 0);
-    fill(other, c.seed, c.t);
-    match c.manner {
-        Manner::Code => print_code(rt, c, gather(slots, m, block, other, c)),
-        _ => print_tally(rt, c, play_sets(slots, m, block, other, out, c)),
-    }
-}
-
-// The same on the parts of the lent bytes that n, t and k ask for.
-fn play_parts(
-    rt: &impl Print,
-    slots: &mut [u8],
-    m: &mut [u8],
-    block: &mut [u8],
-    other: &mut [u8],
-    out: &mut [u8],
-    c: Case,
-) -> io::Result<()>
-    requires { (c.n ≤ 16) × (c.t ≤ 5) × (c.k ≤ 128) }
-{
-    let size = block_length(c);
-    let a = cases::fitting(slots_length(c), slots);
-    let p = cases::fitting(c.k, m);
-    let b = cases::fitting(size, block);
-    let o = cases::fitting(size, other);
-    let r = cases::fitting(size, out);
-    play_blocks(
-        rt,
-        &mut slots[..a],
-        &mut m[..p],
-        &mut block[..b],
-        &mut other[..o],
-        &mut out[..r],
-        c,
-    )
-}
-
-// A manner with settings, if n allows t.
+// A manner with settings, if n allows t, with as many bytes as n, t and k ask for.
 fn play_case(rt: &impl Print, n: usize, t: usize, k: usize, manner: Manner) -> io::Result<()>
     requires { (n ≤ 16) × (t ≤ 5) × (k ≤ 128) }
 {
@@ -565,24 +504,21 @@ fn play_case(rt: &impl Print, n: usize, t: usize, k: usize, manner: Manner) -> i
         return Ok(());
     }
     let mut slots = [0u8; 4096];
-    let mut m = [0u8; 4096];
+    let mut piece = [0u8; 4096];
     let mut block = [0u8; 4096];
     let mut other = [0u8; 4096];
     let mut out = [0u8; 4096];
-    play_parts(
+    let size = cases::fitting(wire::block_length(n, t, k), &block);
+    let end = cases::fitting(wire::outbox_length(n, t, k, 3 * t + 8), &slots);
+    let run = cases::some_run(n % 4 + usize::from(manner) % 4);
+    play_blocks(
         rt,
-        &mut slots,
-        &mut m,
-        &mut block,
-        &mut other,
-        &mut out,
-        case_of(
-            n,
-            t,
-            k,
-            cases::some_run(n % 4 + usize::from(manner) % 4),
-            manner,
-        ),
+        &mut slots[..end],
+        &mut piece[..k],
+        &mut block[..size],
+        &mut other[..size],
+        &mut out[..size],
+        Case::new(n, t, k, run, manner),
     )
 }
 
@@ -605,8 +541,7 @@ fn try_encode(rt: &impl Print, row: [usize; 6], block: &[u8], piece: &mut [u8]) 
     let [n, t, k, number, size, end] = row;
     let size = cases::fitting(size, block);
     let end = cases::fitting(end, piece);
-    let c = case_of(n, t, k, 0, Manner::Code);
-    let a = coded(encode(c, number, &block[..size], &mut piece[..end]));
+    let a = coded(reed_solomon::encode(n, t, k, number, &block[..size], &mut piece[..end]));
     cases::numbers(rt, b"encode", &row)?;
     cases::numbers(rt, b":", &[a as usize])?;
     cases::end_digest(rt, cases::digest(cases::digest(0, block), piece))
@@ -617,8 +552,8 @@ fn try_decode(rt: &impl Print, row: [usize; 6], slots: &[u8], block: &mut [u8]) 
     let [n, t, k, run, end, size] = row;
     let end = cases::fitting(end, slots);
     let size = cases::fitting(size, block);
-    let c = case_of(n, t, k, cases::word(run), Manner::Code);
-    let a = decode(c, &slots[..end], &mut block[..size]);
+    let layout = wire::layout_with(cases::word(run), k);
+    let a = reed_solomon::decode(n, t, layout, &slots[..end], &mut block[..size]);
     cases::numbers(rt, b"decode", &row)?;
     print_answer(rt, b":", a)?;
     cases::end_digest(rt, cases::digest(cases::digest(0, slots), block))
@@ -653,12 +588,7 @@ fn try_decodings(rt: &impl Print) -> io::Result<()> {
 
 fn example_piece(rt: &impl Print, number: usize) -> io::Result<()> {
     let mut piece = [0u8; 1];
-    let _answer = encode(
-        case_of(4, 1, 1, 0, Manner::Code),
-        number,
-        b"\x0a\x14",
-        &mut piece,
-    );
+    let _answer = reed_solomon::encode(4, 1, 1, number, b"\x0a\x14", &mut piece);
     cases::text(rt, b"c")?;
     cases::hex(rt, &piece)?;
     cases::newline(rt)
@@ -671,7 +601,7 @@ fn example_decoded(
     slots: &[u8],
     block: &mut [u8],
 ) -> io::Result<()> {
-    let a = decode(c, slots, block);
+    let a = reed_solomon::decode(c.n, c.t, c.layout(), slots, block);
     print_answer(rt, name, a)?;
     cases::hex(rt, block)?;
     cases::newline(rt)
@@ -682,7 +612,7 @@ fn example_slots(rt: &impl Print, name: &[u8], run: u16, slots: &[u8]) -> io::Re
     example_decoded(
         rt,
         name,
-        case_of(4, 1, 1, run, Manner::Code),
+        Case::new(4, 1, 1, run, Manner::Code),
         slots,
         &mut block,
     )
@@ -694,7 +624,7 @@ fn example_stripes(rt: &impl Print) -> io::Result<()> {
     example_decoded(
         rt,
         b"apart",
-        case_of(4, 1, 3, 0, Manner::Code),
+        Case::new(4, 1, 3, 0, Manner::Code),
         b"\x01\x00\x00\x1e\x00\x1e\x01\x00\x00\x22\x22\x00\x01\x00\x00\x36\x36\x36\x01\x00\x00\x00\x5a\x5a",
         &mut block,
     )
@@ -706,7 +636,7 @@ fn example_present(rt: &impl Print, name: &[u8], slots: &[u8]) -> io::Result<()>
     example_decoded(
         rt,
         name,
-        case_of(7, 2, 1, 256, Manner::Code),
+        Case::new(7, 2, 1, 256, Manner::Code),
         slots,
         &mut block,
     )
