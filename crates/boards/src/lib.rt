@@ -1,5 +1,6 @@
 // What the static library's functions do: those of the crates below over numbers and byte slices, with the state as bytes in a lent buffer.
 // The crate boards_c exports them to C under the same names. Here are a run and its lengths; the code and the star by themselves are in code.rt.
+// The C interface (include/potekawhi.h) needs numbers for refusals and outcomes, 0 for what there is none of, and each setting by itself.
 #![tactic(auto)]
 
 mod code;
