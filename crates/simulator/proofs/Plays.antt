@@ -21,7 +21,8 @@ use Rattle.system_file.specs.Table.{text_of, place_in}
 use Rattle.simulation.specs.Run.{run_number, Scenario, Playing, began, inbox_of, called, played}
 use Rattle.simulation.proofs.Laws.{called_is, cleared, inbox_ext, called_ext, called_other, played_start, played_correct, played-faulty}
 use Rattle.simulator.specs.declared.run.Controller.{Controller}
-use Rattle.simulator.specs.Steps.{FileSettings, Called, AfterCalls, block_in, inbox_in, outbox_in, given, scene, zero_controller, sent_by, held, now_of, taken}
+use Rattle.simulator.specs.Play.{FileSettings, block_in, given}
+use Rattle.simulator.specs.Steps.{Called, AfterCalls, inbox_in, outbox_in, scene, zero_controller, sent_by, held, now_of, taken}
 
 -- ---- one call
 abbrev pub playing : List ℕ → List ℕ → State → Playing

@@ -33,7 +33,8 @@ use Rattle.system_file.proofs.Laws.{text_none, text_some}
 use Rattle.simulation.specs.Run.{run_number, Scenario, Playing, sent_as, slot_to, inbox_of}
 use Rattle.simulation.proofs.Laws.{slot_faulty, slot_correct, inbox_first, inbox-later}
 use Rattle.simulator.specs.declared.run.Controller.{Controller}
-use Rattle.simulator.specs.Steps.{layout_in, inbox_in, FileSettings, Making, scene, zero_controller, sent_by}
+use Rattle.simulator.specs.Play.{FileSettings, Playable}
+use Rattle.simulator.specs.Steps.{layout_in, inbox_in, Making, scene, zero_controller, sent_by}
 
 -- the digits of a message that stands in the file, read into m
 pub read_text : (input m : List ℕ) (len place : ℕ) → (place ≡ 0 → ⊥) → length m ≡ len → place + 2 * len ≤ length input
@@ -86,7 +87,7 @@ later_inbox : (F : Scenario) (now : ℕ → Playing) (i c : ℕ) → 1 ≤ c →
 later_inbox F now i zero l = absurd (omega arith)
 later_inbox F now i (suc c) l = sym (inbox-later F c now i)
 
-module _ {input : List ℕ} {file : SystemFile} {c i : ℕ} {inbox₀ : List ℕ} (cs : List Controller) (h : Making input file c i inbox₀) (later : 1 ≤ c) where
+module _ {input : List ℕ} {file : SystemFile} {c i : ℕ} {inbox₀ : List ℕ} (cs : List Controller) (play : Playable input file) (h : Making input file c i inbox₀) (later : 1 ≤ c) where
   abbrev slot : ℕ → List ℕ
   slot = slot_at input file cs c i
 
@@ -94,7 +95,7 @@ module _ {input : List ℕ} {file : SystemFile} {c i : ℕ} {inbox₀ : List ℕ
   filled = filled_to input file cs c i
 
   some : 0 < message_length file.settings.n file.settings.t file.settings.k c
-  some = length_pos h.playable.small.coded c later h.calls-most
+  some = length_pos play.small.coded c later h.calls-most
 
   outbox_fits : inbox_in file.settings c ≡ file.settings.n * width (layout_in file.settings c)
   outbox_fits = inbox_is run_number file.settings.n file.settings.t file.settings.k c some
@@ -107,7 +108,7 @@ module _ {input : List ℕ} {file : SystemFile} {c i : ℕ} {inbox₀ : List ℕ
 
   pub place-room : (x : ℕ) → (place_in file.places c (x + 1) i ≡ 0 → ⊥)
       → place_in file.places c (x + 1) i + 2 * message_length file.settings.n file.settings.t file.settings.k c ≤ length input
-  place-room x n = h.playable.rooms.room c (x + 1) i n
+  place-room x n = play.rooms.room c (x + 1) i n
 
   said_length : (x : ℕ) → (place_in file.places c (x + 1) i ≡ 0 → ⊥) → length (said x) ≡ message_length file.settings.n file.settings.t file.settings.k c
   unfolding said

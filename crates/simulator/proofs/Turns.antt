@@ -13,7 +13,8 @@ use Rattle.bitset.specs.Set.{member}
 use Rattle.system_file.specs.declared.SystemFile.{SystemFile}
 use Rattle.simulation.specs.Run.{called}
 use Rattle.simulator.specs.declared.run.Controller.{Controller}
-use Rattle.simulator.specs.Steps.{Called, block_in, inbox_in, outbox_in, scene, zero_controller, held, now_of}
+use Rattle.simulator.specs.Play.{block_in}
+use Rattle.simulator.specs.Steps.{Called, inbox_in, outbox_in, scene, zero_controller, held, now_of}
 
 -- the controllers before index i made their calls; the others, and the faulty ones, are as they were
 pub record Turned (input : List ℕ) (file : SystemFile) (c i : ℕ) (cs after : List Controller) : Type 0 where

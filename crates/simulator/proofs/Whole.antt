@@ -14,7 +14,8 @@ use Rattle.system_file.proofs.Laws.{read_right, table_room, file_right}
 use Rattle.simulation.specs.Run.{ended}
 use Rattle.simulator.specs.Output.{names_line, results, output_of, simulated}
 use Rattle.simulator.specs.declared.run.Controller.{Controller}
-use Rattle.simulator.specs.Steps.{FileSettings, Playable, AfterCalls, block_in, given, scene, zero_controller}
+use Rattle.simulator.specs.Play.{FileSettings, Playable, block_in, given}
+use Rattle.simulator.specs.Steps.{AfterCalls, scene, zero_controller}
 use Rattle.simulator.proofs.Running.{block_le}
 use Rattle.simulator.proofs.Writing.{take-padded}
 use Rattle.simulator.proofs.Outputs.{results-alike, output_is, simulated_right, table_output}

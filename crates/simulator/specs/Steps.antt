@@ -1,12 +1,7 @@
 -- For the contracts of private functions; a reader of the public contracts needs none of it.
 --   layout_in S c           the layout of the slots of round c
---   block_in S              the length of a block
 --   outbox_in S c           the length of the outbox of call c
 --   inbox_in S c            the length of the inbox of the call after c
---   given file              the block that a file gives
---   FileSettings S          the settings of a system file
---   Rooms input len places  each message of the table stands in the file
---   Playable input file     what a file says can be played: settings, a block, and messages that stand in the file
 --   Making ..               what making an inbox finds: a call and a controller of the run, and a cleared inbox
 --   scene input file block  the scenario of what the reader answers
 --   zero_controller         what stands for a controller that is not there
@@ -21,22 +16,19 @@
 use Rattle.std.specs.Prelude.{◌≡◌, true, false, List, [], ◌++◌, ℕ, ◌+◌, ◌-◌, ◌*◌, ◌≤◌, length, get_or, take, replicate}
 use Rattle.bitset.specs.Set.{member}
 use Rattle.settings.specs.declared.Settings.{Settings}
-use Rattle.settings.specs.Valid.{Coded}
 use Rattle.text.specs.Write.{padded}
-use Rattle.wire.specs.Length.{block_length, round_layout, message_length, inbox_length, outbox_length}
+use Rattle.wire.specs.Length.{round_layout, message_length, inbox_length, outbox_length}
 use Rattle.wire.specs.declared.slot.Layout.{Layout}
 use Rattle.protocol.specs.State.{zero_state}
 use Rattle.protocol.specs.Step.{After}
 use Rattle.system_file.specs.declared.SystemFile.{SystemFile}
 use Rattle.system_file.specs.Table.{text_of, place_in}
+use Rattle.simulator.specs.Play.{block_in}
 use Rattle.simulation.specs.Run.{run_number, Scenario, Playing, called, played}
 use Rattle.simulator.specs.declared.run.Controller.{Controller}
 
 abbrev pub layout_in : Settings → ℕ → Layout
 layout_in S c = round_layout run_number S.n S.t S.k c
-
-abbrev pub block_in : Settings → ℕ
-block_in S = block_length S.k S.t
 
 abbrev pub outbox_in : Settings → ℕ → ℕ
 outbox_in S c = outbox_length S.n S.t S.k c
@@ -44,25 +36,7 @@ outbox_in S c = outbox_length S.n S.t S.k c
 abbrev pub inbox_in : Settings → ℕ → ℕ
 inbox_in S c = inbox_length S.n S.t S.k (c + 1)
 
-abbrev pub given : SystemFile → List ℕ
-given file = take (block_in file.settings) file.block
-
-pub record FileSettings (S : Settings) : Type 0 where
-  pub coded : Coded S.n S.t S.k
-  pub few-stripes : S.k ≤ 32
-
--- each message of the table stands in the file
-pub record Rooms (input places : List ℕ) (S : Settings) : Type 0 where
-  pub input_most : length input ≤ 65536
-  pub room : (r f j : ℕ) → (place_in places r f j ≡ 0 → ⊥) → place_in places r f j + 2 * message_length S.n S.t S.k r ≤ length input
-
-pub record Playable (input : List ℕ) (file : SystemFile) : Type 0 where
-  pub small : FileSettings file.settings
-  pub rooms : Rooms input file.places file.settings
-  pub block_is : length (given file) ≡ block_in file.settings
-
 pub record Making (input : List ℕ) (file : SystemFile) (c i : ℕ) (inbox : List ℕ) : Type 0 where
-  pub playable : Playable input file
   pub calls-most : c ≤ 3 * file.settings.t + 8
   pub number-least : 1 ≤ i
   pub number-most : i ≤ file.settings.n

@@ -4,7 +4,8 @@ ghost use Rattle.text.specs.Write.{padded};
 ghost use Rattle.reconstruction.specs.Outcomes.{outcome_word};
 ghost use Rattle.bitset.specs.Set.{member};
 ghost use Rattle.simulator.specs.Output.{result_line, results, bad_line, names_line};
-ghost use Rattle.simulator.specs.Steps.{FileSettings, Room, Wrote, block_in, zero_controller};
+ghost use Rattle.simulator.specs.Play.{FileSettings, block_in};
+ghost use Rattle.simulator.specs.Steps.{Room, Wrote, zero_controller};
 
 use crate::Output;
 use crate::run::Controller;

@@ -2,7 +2,8 @@
 ghost use Rattle.std.specs.Prelude.{◌≡◌, [], ◌+◌, ◌*◌, ◌≤◌, ◌<◌, length, replicate, take};
 ghost use Rattle.protocol.specs.Step.{answered, step_of};
 ghost use Rattle.simulation.specs.Run.{began, called};
-ghost use Rattle.simulator.specs.Steps.{Playable, Called, AfterCalls, block_in, inbox_in, outbox_in, given, scene, taken, held, now_of};
+ghost use Rattle.simulator.specs.Play.{Playable, block_in, given};
+ghost use Rattle.simulator.specs.Steps.{Called, AfterCalls, inbox_in, outbox_in, scene, taken, held, now_of};
 
 use crate::RUN;
 use protocol::{Refused, State};
@@ -32,6 +33,7 @@ impl Controller {
 pub(crate) struct Script<'a> {
     pub input: &'a [u8],
     pub file: &'a SystemFile,
+    ghost playable: { Playable input.now file.now },
 }
 
 // The state that start or a step returns, refused or not.
@@ -64,7 +66,6 @@ fn step(before: Controller, b: usize, o: usize, inbox: &[u8]) -> Controller
 impl Script<'_> {
     // Controller i after its start.
     fn start(&self, i: usize) -> Controller
-        requires { Playable self.now.input.now self.now.file.now }
         ensures { held result (block_in self.now.file.now.settings) 0 ≡ began (scene self.now.input.now self.now.file.now (given self.now.file.now)) i }
     {
         let settings = self.file.settings;
@@ -81,7 +82,7 @@ impl Script<'_> {
 
     // Call c + 1 of the controller of index i, where `now` is what each holds after c calls.
     fn call(&self, c: usize, i: usize, now: &[Controller; 16]) -> Controller
-        requires { Playable self.now.input.now self.now.file.now × (c ≤ 3 * self.now.file.now.settings.t + 8) × (i < self.now.file.now.settings.n) }
+        requires { (c ≤ 3 * self.now.file.now.settings.t + 8) × (i < self.now.file.now.settings.n) }
         ensures { held result (block_in self.now.file.now.settings) (outbox_in self.now.file.now.settings (c + 1)) ≡ called (scene self.now.input.now self.now.file.now []) c (now_of now.now self.now.file.now.settings (inbox_in self.now.file.now.settings c)) (i + 1) }
     {
         let Settings { n, t, k, .. } = self.file.settings;
@@ -96,7 +97,7 @@ impl Script<'_> {
 
     // Call c + 1 of each correct controller.
     fn call_all(&self, c: usize, now: &[Controller; 16]) -> [Controller; 16]
-        requires { Playable self.now.input.now self.now.file.now × (c ≤ 3 * self.now.file.now.settings.t + 8) }
+        requires { (c ≤ 3 * self.now.file.now.settings.t + 8) }
         ensures { Called (scene self.now.input.now self.now.file.now []) c (now_of now.now self.now.file.now.settings (inbox_in self.now.file.now.settings c)) (now_of result self.now.file.now.settings (outbox_in self.now.file.now.settings (c + 1))) }
     {
         let mut after = *now;
@@ -110,7 +111,6 @@ impl Script<'_> {
 
     // What each holds after its start.
     fn start_all(&self) -> [Controller; 16]
-        requires { Playable self.now.input.now self.now.file.now }
         ensures { AfterCalls (scene self.now.input.now self.now.file.now (given self.now.file.now)) 0 result (inbox_in self.now.file.now.settings 0) }
     {
         let mut all = [self.start(1); 16];
@@ -122,7 +122,6 @@ impl Script<'_> {
 
     // What each holds after the last call.
     pub(crate) fn play(&self) -> [Controller; 16]
-        requires { Playable self.now.input.now self.now.file.now }
         ensures { AfterCalls (scene self.now.input.now self.now.file.now (given self.now.file.now)) (3 * self.now.file.now.settings.t + 9) result (inbox_in self.now.file.now.settings (3 * self.now.file.now.settings.t + 9)) }
     {
         let mut now = self.start_all();

@@ -4,8 +4,8 @@ use Rattle.text.specs.Write.{padded}
 use Rattle.simulator.proofs.Whole.{file_playable, run_output}
 use Rattle.simulator.proofs.play_file.Goals as goal
 
-pub play-controllers-requires : goal.play-controllers-requires
-play-controllers-requires c = file_playable c.args.input.now c.requires
+pub invariant_of-script : goal.invariant_of-script
+invariant_of-script c = record { playable = file_playable c.args.input.now c.requires }
 
 pub results-requires : goal.results-requires
 results-requires c = (file_playable c.args.input.now c.requires).small

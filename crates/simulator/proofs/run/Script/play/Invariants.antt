@@ -1,5 +1,6 @@
 -- `play` meets its contract: the loop makes call after call.
-use Rattle.simulator.specs.Steps.{AfterCalls, scene, given, inbox_in}
+use Rattle.simulator.specs.Play.{given}
+use Rattle.simulator.specs.Steps.{AfterCalls, scene, inbox_in}
 use Rattle.simulator.proofs.run.Script.play.Given as goal
 
 abbrev pub invariant-loop-c : goal.invariant-loop-c
