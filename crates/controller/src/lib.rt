@@ -9,7 +9,7 @@ mod refusal;
 ghost use Rattle.std.specs.Prelude.{◌≡◌, length};
 ghost use Rattle.protocol.specs.Step.{answered, start_of, after, step_of};
 
-use calls::perform;
+use calls::Pending;
 use protocol::{Refused, State, initial, zero_state};
 use refusal::{start_refusal, step_refusal};
 use settings::Settings;
@@ -34,7 +34,7 @@ pub fn step(s: State, block: &mut [u8], inbox: &[u8], outbox: &mut [u8]) -> Resu
     ensures { after (answered result) block.new outbox.new ≡ step_of s block.old inbox.now outbox.old }
 {
     match step_refusal(s, block.len(), inbox.len(), outbox.len()) {
-        Ok(()) => Ok(perform(s, block, inbox, outbox)),
+        Ok(()) => Ok(Pending { state: s }.perform(block, inbox, outbox)),
         Err(refusal) => Err(Refused { refusal, state: s }),
     }
 }

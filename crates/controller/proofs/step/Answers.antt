@@ -8,14 +8,16 @@ use Prim.Native.Nat.{ℕ}
 use mathlib.Core.Path.{sym, ap, ◌∙◌}
 use Rattle.controller.proofs.step.Goals as goal
 
-pub perform-requires : goal.perform-requires
-perform-requires c =
+pub invariant_of-perform : goal.invariant_of-perform
+invariant_of-perform c =
     let a = c.args in
     let r = step_0 a.s (length a.block.now) (length a.inbox.now) (length a.outbox.now) (sym c.in-Ok.ensures) in
     record {
-      few = r.valid.coded.quorum.n_most;
-      least = r.next_least;
-      most = omega (arith, r.next_most, r.valid.coded.quorum.t_most, r.valid.coded.quorum.n_most);
+      bounded = record {
+        few = r.valid.coded.quorum.n_most;
+        least = r.next_least;
+        most = omega (arith, r.next_most, r.valid.coded.quorum.t_most, r.valid.coded.quorum.n_most);
+      };
     }
 
 pub returns-in-Ok : goal.returns-in-Ok
