@@ -123,17 +123,11 @@ impl<'a> Offers<'a> {
         bitset::member(self.core, i) && lists::is_equal(sent, m)
     }
 
-    // How many core members sent m. Counted by a `for`: of filter(..).count() over a range the check proves no count.
+    // How many core members sent m.
     fn votes(&self, m: &[u8]) -> usize
         ensures { result ≡ votes self.now.n self.now.core self.now.inbox.now self.now.layout m.now }
     {
-        let mut count = 0;
-        for i in 0..self.n {
-            if self.is_vote(i, m) {
-                count += 1;
-            }
-        }
-        count
+        bitset::size(bitset::select(self.n, |i| self.is_vote(i, m)))
     }
 
     // Whether the controller of index i is a core member that sent a piece which at least t + 1 members sent.
