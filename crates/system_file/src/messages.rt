@@ -40,6 +40,7 @@ pub(crate) fn read_messages(
     let mut at = start;
     let mut line: usize = 4;
     let mut faulty: u16 = 0;
+    // no `for`: each line says where the next one starts
     while at < input.len() {
         let Some(entry) = enter_line(input, at, s, places) else {
             return Err(FormError::Line(line));

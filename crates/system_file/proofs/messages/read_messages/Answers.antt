@@ -25,9 +25,6 @@ overflow_sub-entry c =
     (sofar_step s.coded s.size c.loop-at.invariant c.loop-at-test.true c.in-Some.entry
     c.in-Some.ensures.value).0
 
-pub overflow_add-line : goal.overflow_add-line
-overflow_add-line c = omega (arith, c.loop-at.invariant.lines, c.loop-at.invariant.within, c.requires.started.size)
-
 pub loop-at-smaller : goal.loop-at-smaller
 loop-at-smaller c =
     let s = c.requires.started in
