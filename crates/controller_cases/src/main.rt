@@ -193,24 +193,6 @@ fn is_filled(s: &[u8]) -> bool {
     s.iter().enumerate().all(|(p, x)| *x == pattern(p))
 }
 
-// Field by field, as Settings derives no equality.
-fn same_settings(a: Settings, b: Settings) -> bool {
-    a.n == b.n && a.t == b.t && a.k == b.k && a.sender == b.sender
-}
-
-// Whether all fields are the same.
-fn same_state(a: State, b: State) -> bool {
-    same_settings(a.settings, b.settings)
-        && a.own == b.own
-        && a.run == b.run
-        && a.next == b.next
-        && a.outcome == b.outcome
-        && a.matrix == b.matrix
-        && a.weak == b.weak
-        && a.core == b.core
-        && a.named == b.named
-}
-
 // The state of a run that begins with call `next`; the zero state for zeros.
 fn plain(n: usize, t: usize, k: usize, own: usize, sender: usize, run: u16, next: usize) -> State {
     protocol::initial(Settings { n, t, k, sender }, own, run, next)
@@ -238,9 +220,9 @@ fn print_settings(rt: &impl Print, name: &[u8], s: State) -> io::Result<()> {
 
 // Which state a start with these settings answered.
 fn print_started(rt: &impl Print, s: State, r: State) -> io::Result<()> {
-    if same_state(r, plain(0, 0, 0, 0, 0, 0, 0)) {
+    if r == plain(0, 0, 0, 0, 0, 0, 0) {
         cases::text(rt, b" zero")
-    } else if same_state(r, s) {
+    } else if r == s {
         cases::text(rt, b" begun")
     } else {
         cases::text(rt, b" other")
@@ -280,7 +262,7 @@ fn step(rt: &impl Print, s: State, b: usize, i: usize, o: usize) -> io::Result<(
     cases::numbers(rt, b"", &[s.next, b, i, o])?;
     let r = advance(s, block, inbox, outbox);
     cases::numbers(rt, b":", &[r.number])?;
-    same(rt, same_state(s, r.state))?;
+    same(rt, s == r.state)?;
     same(rt, is_filled(block))?;
     same(rt, is_filled(outbox))?;
     cases::newline(rt)

@@ -10,7 +10,7 @@ use settings::{Refusal, Settings};
 
 // The settings, the own number, the run number, the number of the next call, the outcome, the matrix of the vote with the bits whose count was low, the core, and
 // the marks of those whom the controller names. The block is lent beside it.
-#[derive(Clone, Copy)]
+#[derive(Clone, Copy, PartialEq, Eq)]
 pub struct State {
     pub settings: Settings,
     pub own: usize,

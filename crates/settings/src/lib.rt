@@ -8,7 +8,7 @@ ghost use Rattle.settings.specs.Refusal.{partial, state_refusal, encoding_refusa
 ghost use Rattle.settings.specs.Number.{row_of, number_of};
 
 // What all controllers of a system share: n controllers of which at most t are faulty, k stripes, the sender; sender 0: none.
-#[derive(Clone, Copy)]
+#[derive(Clone, Copy, PartialEq, Eq)]
 pub struct Settings {
     pub n: usize,
     pub t: usize,
