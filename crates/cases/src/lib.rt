@@ -2,7 +2,7 @@
 // standard output. No contract can say what is printed.
 #![tactic(auto, unfolding(crate::specs::Random::next_random, crate::specs::Random::mixed, crate::specs::Random::some_run, crate::specs::Random::other_run))]
 
-ghost use Rattle.std.specs.Prelude.{◌≡◌, ℕ, ◌/◌, ◌%◌, ◌≤◌, ◌&&◌, ltb, length, map, take, replicate, if◌then◌else◌, ◌==◌, nat_lt};
+ghost use Rattle.std.specs.Prelude.{◌≡◌, ℕ, ◌/◌, ◌%◌, ◌≤◌, ◌&&◌, ltb, length, map, take, if◌then◌else◌, ◌==◌, nat_lt};
 ghost use Rattle.lists.specs.Sum.{ind};
 ghost use Rattle.cases.specs.Random.{next_random, mixed, seeded, drawn, digested, some_run, other_run};
 
@@ -137,14 +137,6 @@ pub fn fitting(x: usize, s: &[u8]) -> usize
     ensures value { result ≡ (if ltb (length s.now) x then 0 else x) }
 {
     if s.len() < x { 0 } else { x }
-}
-
-// Each byte of s becomes v.
-// Shut out: zeros; the first byte left.
-pub fn fill(s: &mut [u8], v: u8)
-    ensures { s.new ≡ replicate (length s.old) v }
-{
-    s.fill(v);
 }
 
 // Prints a text.

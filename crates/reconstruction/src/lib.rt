@@ -24,7 +24,7 @@ pub enum Outcome {
 }
 
 // The number of an outcome.
-// Shut out: 2 for beyond; 1 for open.
+// Shut out: must-fail/beyond_numbered_none; 1 for open.
 impl From<Outcome> for u8 {
     ghost from_gives = { λ w x. x ≡ outcome_number w };
 
@@ -39,7 +39,7 @@ impl From<Outcome> for u8 {
 }
 
 // The outcome of a number; open where it is no outcome's.
-// Shut out: beyond for every number past 3; agreed for 2.
+// Shut out: beyond for every number past 3; must-fail/none_read_as_agreed.
 impl From<u8> for Outcome {
     ghost from_gives = { λ x w. w ≡ outcome_from x };
 

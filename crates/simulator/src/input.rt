@@ -6,7 +6,7 @@ use std::io::Read;
 
 // Reads until buf is full or the input ends, and returns how many bytes it put at the start of buf. No method of std does: read_exact takes an end of the
 // input for an error, and read_to_end wants a heap.
-// Shut out: one byte more than was read into a full buffer; the largest number.
+// Shut out: must-fail/one_more_than_read; the largest number.
 pub fn read_full(input: &mut impl Read, buf: &mut [u8]) -> io::Result<usize>
     ensures { IfOk result (λ n. n ≤ length buf.new) }
 {

@@ -29,7 +29,7 @@ pub struct Output {
 
 impl Output {
     // The bytes of the output.
-    // Shut out: the zeros too; the output without its last byte.
+    // Shut out: the zeros too; must-fail/last_byte_left.
     pub fn as_slice(&self) -> &[u8]
         ensures { result.now ≡ take self.now.length self.now.bytes }
     {

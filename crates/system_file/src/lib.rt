@@ -28,7 +28,7 @@ pub enum FormError {
 }
 
 // The number of the line; 0 for a file that is too long.
-// Shut out: 1 for a file that is too long; the number of the next line.
+// Shut out: must-fail/too_long_numbered; the number of the next line.
 impl From<FormError> for usize {
     ghost from_gives = { λ e x. x ≡ line_of e };
 

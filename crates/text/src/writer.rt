@@ -11,7 +11,7 @@ pub struct Writer<'a> {
 
 impl<'a> Writer<'a> {
     // Writes s at the end; nothing where there is no room.
-    // Shut out: an exact fit refused; s written at the place 0.
+    // Shut out: must-fail/exact_fit_refused; s written at the place 0.
     #[tactic(auto, using(crate::proofs::Buffers::append_cases), unfolding(crate::specs::Steps::placed))]
     pub fn append(&mut self, s: &[u8])
         ensures same { self.new.out.ghost_name ≡ self.old.out.ghost_name }
