@@ -9,7 +9,7 @@ ghost use Rattle.wire.specs.Length.{block_length};
 ghost use Rattle.wire.specs.Slot.{width, message_of, bytes, slots};
 ghost use Rattle.reed_solomon.specs.Encode.{piece_of, Coding};
 ghost use Rattle.reconstruction.specs.Reconstruction.{in_core, forwarded, votes, is_chosen, chosen_piece, sent_piece, shared, finish, finished};
-ghost use Rattle.reconstruction.specs.Outcomes.{outcome_number, outcome_from};
+ghost use Rattle.reconstruction.specs.Outcomes.{outcome_number, outcome_word, outcome_from};
 
 use settings::Settings;
 use wire::{Layout, Round};
@@ -21,6 +21,21 @@ pub enum Outcome {
     Agreed,
     None,
     Beyond,
+}
+
+impl Outcome {
+    // Document 01's word for an outcome.
+    // Shut out: open for none; beyond with a blank before it; must-fail/beyond_worded_none.
+    pub fn word(self) -> &'static [u8]
+        ensures { result.now ≡ outcome_word self }
+    {
+        match self {
+            Outcome::Open => b"open",
+            Outcome::Agreed => b"agreed",
+            Outcome::None => b"none",
+            Outcome::Beyond => b"beyond",
+        }
+    }
 }
 
 // The number of an outcome.
