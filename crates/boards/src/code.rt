@@ -1,4 +1,5 @@
-// The code and the star by themselves: coding, decoding, and the star of rows of marks or of missing pairs.
+// The code and the star by themselves: coding, decoding, and the star of rows of marks or of missing pairs, with numbers and buffers as the C interface
+// needs them.
 ghost use Rattle.std.specs.Prelude.{◌≡◌, length};
 ghost use Rattle.settings.specs.Number.{number_of};
 ghost use Rattle.star.specs.Star.{four};

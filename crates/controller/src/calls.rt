@@ -219,7 +219,7 @@ impl Pending {
         self.advance(ending.outcome).with_named(ending.named)
     }
 
-    // The call that is next.
+    // The call that is next, by the kinds as `call_of` has them.
     pub(crate) fn perform(self, block: &mut [u8], inbox: &[u8], outbox: &mut [u8]) -> State
         ensures { carried result block.new outbox.new ≡ call_of (call_kind self.state.settings.t self.state.next) self.state block.old inbox.now outbox.old }
     {

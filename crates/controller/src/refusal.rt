@@ -7,7 +7,7 @@ ghost use Rattle.protocol.specs.Step.{start_refusal, lengths_fit, step_refusal};
 use protocol::State;
 use settings::{Entry, Refusal, Settings};
 
-// The row by which a start is refused.
+// Ok, or the row by which a start is refused.
 pub fn start_refusal(s: Settings, own: usize, b: usize) -> Result<(), Refusal>
     ensures { number_of result ≡ start_refusal s own b }
 {
@@ -26,7 +26,7 @@ fn lengths_fit(s: State, b: usize, i: usize, o: usize) -> bool
         && o == wire::outbox_length(n, t, k, s.next)
 }
 
-// The row by which a step is refused: 7, 8, 6 are tried in this order.
+// Ok, or the row by which a step is refused: 7, 8, 6 are tried in this order.
 pub fn step_refusal(s: State, b: usize, i: usize, o: usize) -> Result<(), Refusal>
     ensures { number_of result ≡ step_refusal s b i o }
 {

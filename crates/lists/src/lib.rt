@@ -4,13 +4,15 @@
 ghost use Rattle.std.specs.Prelude.{◌≡◌, ◌+◌, ◌*◌, ◌/◌, ◌%◌};
 ghost use Rattle.lists.specs.Same.{same};
 
-// Whether two byte strings are equal, byte for byte.
+// Whether two byte strings are equal, byte for byte. A name for ==, since its clause says `same`, of which the definitions and laws above speak.
 // Shut out: equal where a is a front of b; bytes told apart only where that of a is smaller.
 pub fn is_equal(a: &[u8], b: &[u8]) -> bool
     ensures { result ≡ same a.now b.now }
 {
     a == b
 }
+
+// The three below are names for the library's conversions: their clauses say the remainder, the quotient and the sum, by which the crates above reason.
 
 // The low byte of a 16-bit number.
 // Shut out: the high byte; the low seven bits.

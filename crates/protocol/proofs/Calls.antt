@@ -299,6 +299,10 @@ module _ (s : State) (b i o : ℕ) where
       (or_right (not (eqb (state_refusal s.settings s.own) 0)) (outside 1 (3 * s.settings.t + 10) s.next)
       (yes_outside 1 (3 * s.settings.t + 10) s.next h))
 
+  pub settings-valid : not (eqb (state_refusal s.settings s.own) 0) ≡ false → Valid s.settings s.own
+  settings-valid y =
+      state_0 s.settings s.own (eqb-true (state_refusal s.settings s.own) 0 (not-false (eqb (state_refusal s.settings s.own) 0) y))
+
   -- where neither 7 nor 8 is met, the lengths decide
   pub lengths_decide : Valid s.settings s.own → 1 ≤ s.next → s.next ≤ 3 * s.settings.t + 10 → (s.next ≡ 3 * s.settings.t + 10 → ⊥)
       → step_refusal s b i o ≡ cond (not (lengths_fit s b i o)) 6 0

@@ -1,4 +1,4 @@
-// The state of a controller, written out and changed here alone, and what start and step answer where they refuse (document 01, 'The house'; document 02, U1 and U11).
+// The state of a controller, what is changed in it, and what start and step answer where they refuse (document 01, 'The house'; document 02, U1 and U11).
 // The definitions of every call, of start and of step are in specs/.
 #![tactic(auto)]
 
@@ -9,7 +9,8 @@ use reconstruction::Outcome;
 use settings::{Refusal, Settings};
 
 // The settings, the own number, the run number, the number of the next call, the outcome, the matrix of the vote with the bits whose count was low, the core, and
-// the marks of those whom the controller names. The block is lent beside it.
+// the marks of those whom the controller names. The block is lent beside it. The two matrices stand side by side, as the definitions and the bytes of a state
+// have them.
 #[derive(Clone, Copy, PartialEq, Eq)]
 pub struct State {
     pub settings: Settings,

@@ -1,6 +1,6 @@
 -- The number that is returned for an answer: 0, or that of the row by which a call is refused.
 --   row_of r     the number of a row
---   number_of a  0 for Ok, and for Err the number of the row
+--   number_of a  0 for Ok, and for Err the number of the row; of an answer Result<(), Refusal> it says all (law `one_answer`)
 use Rattle.std.specs.Prelude.{ℕ, Result, Ok, Err}
 use Rattle.settings.specs.declared.Refusal.{Refusal}
 use Rattle.settings.specs.declared.Refusal.TheVariants.{Controllers, Tolerance, Stripes, Number, Sender, Length, State, Finished}

@@ -7,7 +7,8 @@ ghost use Rattle.settings.specs.Refusal.{outside, too_many, broken, tried, refus
 ghost use Rattle.settings.specs.Refusal.{partial, state_refusal, encoding_refusal, decoding_refusal, lengths_refusal, star_refusal};
 ghost use Rattle.settings.specs.Number.{row_of, number_of};
 
-// What all controllers of a system share: n controllers of which at most t are faulty, k stripes, the sender; sender 0: none.
+// What all controllers of a system share: n controllers of which at most t are faulty, k stripes, the sender; sender 0: none, as the definitions, the
+// files and the C interface have it (document 02, U6).
 #[derive(Clone, Copy, PartialEq, Eq)]
 pub struct Settings {
     pub n: usize,
@@ -73,7 +74,7 @@ pub enum Entry {
     Star,
 }
 
-// Whether x is outside low .. high.
+// Whether x is outside low .. high, in the two tests of `outside`: a range that is asked and negated is no plainer.
 #[tactic(auto, unfolding(crate::specs::Refusal::outside))]
 fn is_outside(low: usize, high: usize, x: usize) -> bool
     ensures { result ≡ outside low high x }
@@ -156,6 +157,8 @@ pub fn state_refusal(s: Settings, own: usize) -> Result<(), Refusal>
 {
     check(Entry::State, s, own, true)
 }
+
+// The entry points below have no sender, so n, t and k come by themselves, as the clauses and the C interface name them.
 
 // Coding: `number` is that of the piece, `fits` says that the lent lengths are the stated ones.
 // Shut out: the rows of decoding; k for the number.

@@ -2,7 +2,7 @@
 --   block_in S              the length of a block
 --   given file              the block that a file gives
 --   FileSettings S          the settings of a system file
---   Rooms input len places  each message of the table stands in the file
+--   Rooms input places S    each message of the table stands in the file
 --   Playable input file     settings, a block, and messages that stand in the file
 use Rattle.std.specs.Prelude.{◌≡◌, List, ℕ, ◌+◌, ◌*◌, ◌≤◌, length, take}
 use Rattle.settings.specs.declared.Settings.{Settings}

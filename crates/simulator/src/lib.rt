@@ -20,7 +20,7 @@ use system_file::SystemFile;
 // The run number of a simulated run (document 02, U11).
 pub(crate) const RUN: u16 = 0;
 
-// The output: its bytes stand at the front of `bytes`, `length` of them, and zeros follow.
+// The output: its bytes stand at the front of `bytes`, `length` of them, and zeros follow. The clause of `simulate` names both.
 #[derive(Drop)]
 pub struct Output {
     pub bytes: [u8; 6400],

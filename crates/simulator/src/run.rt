@@ -10,7 +10,7 @@ use protocol::{Refused, State};
 use settings::Settings;
 use system_file::SystemFile;
 
-// What a controller holds. Its block and its outbox stand at the front of their arrays.
+// What a controller holds. Its block and its outbox stand at the front of their arrays, whose memory is fixed; the settings say how long they are.
 #[derive(Clone, Copy)]
 pub(crate) struct Controller {
     pub state: State,

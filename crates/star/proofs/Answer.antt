@@ -1,4 +1,5 @@
--- From what the code finds to what it answers: `refused`, `answered` and `not-large`, with what the matching gives.
+-- From what the code finds to what it answers: `refused`, `answered` and `not-large`, with what the matching gives; `one_sets`: the record determines the
+-- answer.
 use mathlib.Core.Path.{◌≡◌, sym, ap, subst, ◌∙◌}
 use mathlib.Core.List.{List}
 use mathlib.Core.Bool.{Bool, true, false}
@@ -8,14 +9,16 @@ use Rattle.lists.proofs.Tests.{cond_yes, cond_no}
 use Rattle.settings.specs.Valid.{Quorum}
 use Rattle.settings.specs.Number.{row_of}
 use Rattle.settings.specs.declared.Refusal.{Refusal}
-use Rattle.settings.proofs.Laws.{star_0, 0_star, row_least}
+use Rattle.settings.proofs.Laws.{star_0, 0_star, row_least, one_answer}
+use Rattle.std.proofs.Common.{Result, Ok, Err}
+use Rattle.star.specs.declared.Sets.{Sets}
 use Rattle.graph.specs.Pairs.{Pair}
 use Rattle.graph.specs.Bits.{adjacent}
 use Rattle.matching.specs.Matching.{Each, FirstLargest, Missing}
 use Rattle.matching.specs.declared.Matching.{Matching}
 use Rattle.matching.specs.Answer.{pairs_of, IsFirstLargest}
 use Rattle.matching.proofs.Laws.{each_map}
-use Rattle.star.specs.Star.{Star, sets_from, no_sets, is_large, star_with, refusal_for, IsStar}
+use Rattle.star.specs.Star.{Star, sets_from, no_sets, is_large, star_with, refusal_for, IsStar, sets_of}
 use Rattle.star.specs.Steps.{Below}
 
 module _ (n t : ℕ) where
@@ -56,3 +59,19 @@ module _ (bits : List ℕ) (n t : ℕ) where
     not-large s r e y h =
         let S = sets_from n t adj (pairs_of m) in
         carry r (h ∙ sym (cond_no (is_large n t S) S (no_sets 0) (subst (λ (x : Star). is_large n t x ≡ false) e y)))
+
+-- ---- the record determines the answer
+row_in : Refusal → Result (Unit {0}) Refusal → Refusal
+row_in r (Ok u) = r
+row_in r (Err q) = q
+
+same_row : (r q : Refusal) → row_of r ≡ row_of q → r ≡ q
+unfolding row_in
+same_row r q e = ap (row_in r) (one_answer (Err r) (Err q) e)
+
+pub one_sets : (a b : Result Sets Refusal) → sets_of a ≡ sets_of b → a ≡ b
+unfolding no_sets
+one_sets (Ok s) (Ok u) e = ap (λ (z : Star). Ok (record { c = z.c; d = z.d; f = z.f; e = z.e })) e
+one_sets (Ok s) (Err r) e = absurd (omega (arith, row_least r, ap (λ (z : Star). z.refusal) e))
+one_sets (Err r) (Ok u) e = absurd (omega (arith, row_least r, ap (λ (z : Star). z.refusal) e))
+one_sets (Err r) (Err q) e = ap Err (same_row r q (ap (λ (z : Star). z.refusal) e))

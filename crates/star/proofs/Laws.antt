@@ -2,6 +2,7 @@
 -- that `star_of rows n t` answers, with no word of the matching.
 --   star_is_one             `IsStar` holds of what the function answers and of nothing else (`StarIsOne`); star_of_lem: so for rows; star_of-pairs: and
 --                           for bits
+--   one_sets                the number and the sets of an answer determine it
 --   star_refusal_lem        the number answered is that of the refusal
 --   refusal_0               it is 0 exactly where the settings are valid; 0_refusal
 --   c-below ..              the four sets are below 2 ^ n; c-member ..: so a member is below n
@@ -22,7 +23,7 @@
 --   one_word                source 001, Lemma 22: the correct members of the core hold one word
 --   own_place               a correct member of F has, at its own place, what that word has there
 --   c_word                  the correct members of C hold that word
-pub use Rattle.star.proofs.Answer.{refusal_0, 0_refusal}
+pub use Rattle.star.proofs.Answer.{refusal_0, 0_refusal, one_sets}
 pub use Rattle.star.proofs.Same.{star_is_one, star_of_lem, star_of-pairs, same_is_star, same_star, same_rows, same_bits, star_of_bits_lem, core_of_bits}
 pub use Rattle.star.proofs.Found.{star_refusal_lem, c-below, d-below, f-below, e-below, c-member, d-member, f-member, e-member, c_neighbours, f_neighbours}
 pub use Rattle.star.proofs.Found.{e_neighbours, found-valid, c_size, d_size, f_size, e_size, not_found, has_found, clique_found, clique_core, clique_f}

@@ -16,7 +16,7 @@
 --   IsStar n t adj s     s is the star of the graph: refused, the number and no sets; else the star with the matching that, of the largest ones, is the
 --                        first in dictionary order (`FirstLargest`)
 --   found s              the core is found: E is not empty
--- What the code answers, as such a record; no two answers are the same one:
+-- What the code answers, as such a record; no two answers are the same one (law `one_sets`):
 --   four s               four sets
 --   sets_of r            the sets, or the refusal and no sets
 -- The star as a function, for callers that need one:

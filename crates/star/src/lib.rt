@@ -15,7 +15,7 @@ use graph::bits_of;
 use matching::{Matching, complement, largest};
 use settings::{Refusal, star_refusal};
 
-// The sets C, D, F and E, of which E is the core. All four are empty where no core is found.
+// The sets C, D, F and E, of which E is the core. All four are empty where no core is found, as `no_sets 0` of specs/ has it and C is given them.
 #[derive(Clone, Copy, PartialEq, Eq)]
 pub struct Sets {
     pub c: u16,

@@ -19,7 +19,8 @@ use Rattle.lists.proofs.Joins.{part_take, joined_none, joined_more, length-joine
 use Rattle.lists.proofs.Joins.{part_put_other}
 use Rattle.wire.specs.declared.slot.Layout.{Layout}
 use Rattle.wire.specs.Slot.{header, width, slot_of, holds, run_in, is_present, message_of, offset_of, Sent, silence, bytes, written, slots, to_all, put_slot}
-use Rattle.wire.specs.Slot.{relayed, silenced, copied, SameMessages, OtherRunAbsent, LateAbsent, IsSlot, HasNone, IsMessage}
+use Rattle.wire.specs.Slot.{relayed, silenced, copied, SameMessages, OtherRunAbsent, LateAbsent}
+use Rattle.wire.specs.Steps.{IsSlot, HasNone, IsMessage}
 
 -- ---- the layout
 pub width_pos : (layout : Layout) → 0 < width layout

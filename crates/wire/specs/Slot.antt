@@ -19,14 +19,11 @@
 --                               slot whole
 --   silenced box layout j       the box with slot j all 00; the box as it is where it does not hold the slot whole
 --   copied s d                  d with its first bytes replaced by those of s, as far as both reach
---   IsSlot box layout j a e     the box holds slot j whole, from a to e
---   HasNone box layout j        there is no message in slot j
---   IsMessage box layout j a e  the message in slot j is there, from a to e
 --   SameMessages layout a b     the boxes a and b have one message in each slot
 --   OtherRun layout slot        a slot whose first byte is 01, and which carries another run's number
 --   OtherRunAbsent              its message is the empty part (law `other_run_absent`)
 --   LateAbsent                  so is that of a slot that begins as one of another run was written, whatever round it is from (law `late_absent`)
-use Rattle.std.specs.Prelude.{◌≡◌, Bool, cond, not, ◌&&◌, List, [], ◌∷◌, ◌++◌, ℕ, ◌+◌, ◌-◌, ◌*◌, ◌/◌, ◌%◌, ◌≤◌, leb, eqb, length, get_or, take, drop, replicate, slice_range, true}
+use Rattle.std.specs.Prelude.{◌≡◌, Bool, cond, not, ◌&&◌, List, [], ◌∷◌, ◌++◌, ℕ, ◌+◌, ◌-◌, ◌*◌, ◌/◌, ◌%◌, leb, eqb, length, get_or, take, drop, replicate}
 use Rattle.lists.specs.Join.{joined, part}
 use Rattle.wire.specs.declared.slot.Layout.{Layout}
 
@@ -90,22 +87,6 @@ silenced box layout j =
 
 unfoldable pub copied : List ℕ → List ℕ → List ℕ
 copied s d = take (length d) s ++ drop (length s) d
-
-pub record IsSlot (box : List ℕ) (layout : Layout) (j a e : ℕ) : Type 0 where
-  pub held : holds box layout j ≡ true
-  pub starts : a ≡ (j - 1) * width layout
-  pub ends : e ≡ a + width layout
-  pub within : e ≤ length box
-
-pub record HasNone (box : List ℕ) (layout : Layout) (j : ℕ) : Type 0 where
-  pub no_offset : offset_of box layout j ≡ 0
-  pub no_message : message_of box layout j ≡ []
-
-pub record IsMessage (box : List ℕ) (layout : Layout) (j a e : ℕ) : Type 0 where
-  pub starts : a ≡ offset_of box layout j
-  pub ends : e ≡ a + layout.length
-  pub within : e ≤ length box
-  pub reads : slice_range box a e ≡ message_of box layout j
 
 abbrev pub SameMessages : Layout → List ℕ → List ℕ → Type 0
 SameMessages layout a b = (j : ℕ) → message_of a layout j ≡ message_of b layout j

@@ -1,5 +1,5 @@
 // The lengths of messages, blocks, inboxes and outboxes, by one table of factors (document 01, 'Rounds'). n, t and k stay parameters: the clauses of
-// `block_length` and the others name them.
+// `block_length` and the others name them, and so does the C interface. 0 where there is no round, as `message_length` and the others of specs/ have it.
 ghost use Rattle.std.specs.Prelude.{◌≡◌, MatchOption};
 ghost use Rattle.settings.specs.Valid.{Coded};
 ghost use Rattle.wire.specs.Length.{factors_of, row_length, in_settings, block_size, kind_length, kind_layout, round_layout, message_length, inbox_length, outbox_length};

@@ -48,7 +48,7 @@ pub enum Call {
     Finish,
 }
 
-// 3t and some more; 0 for a t outside 1 .. 5.
+// 3t and some more; 0 for a t outside 1 .. 5, as C is given it.
 fn steps(t: usize, more: usize) -> usize
     requires { more ≤ 9 }
     ensures { result ≡ cond (outside 1 5 t) 0 (3 * t + more) }

@@ -1,7 +1,8 @@
 // The slots of inboxes and outboxes (document 01, 'The house'; document 02, U11): what stands in a slot beside its message is known here alone. Every
 // function is total: no number or length makes a sum or a product overflow.
 ghost use Rattle.std.specs.Prelude.{◌≡◌, ◌*◌, ◌≤◌, false, eqb, length, replicate, MatchOption};
-ghost use Rattle.wire.specs.Slot.{layout_with, header, width, holds, is_present, message_of, offset_of, bytes, written, slots, to_all, put_slot, relayed, copied, IsSlot, HasNone, IsMessage};
+ghost use Rattle.wire.specs.Slot.{layout_with, header, width, holds, is_present, message_of, offset_of, bytes, written, slots, to_all, put_slot, relayed, copied};
+ghost use Rattle.wire.specs.Steps.{IsSlot, HasNone, IsMessage};
 
 use lists::{high, low, word};
 use std::ops::Range;
@@ -26,6 +27,8 @@ pub fn layout_with(run: u16, len: usize) -> Layout
 {
     Layout { run, length: len }
 }
+
+// An inbox, its layout and a slot's number stay parameters below, as `message_of`, `offset_of` and the others of specs/ have them.
 
 // Whether a slot is present: its first byte is 01, and it carries the number of the run.
 // Shut out by must-fail/absent_as_present, must-fail/high_byte_not_compared, must-fail/bytes_swapped, must-fail/other_run_read.
@@ -84,7 +87,7 @@ pub fn message(inbox: &[u8], layout: Layout, j: usize) -> &[u8]
     }
 }
 
-// Silence: every byte 00.
+// Silence: every byte 00. A name for `fill`, which the crates above cite by what they send.
 // Shut out: bytes 01; the first byte left.
 pub fn silence(outbox: &mut [u8])
     ensures { outbox.new ≡ replicate (length outbox.old) 0 }
