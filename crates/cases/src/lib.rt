@@ -3,7 +3,6 @@
 #![tactic(auto, unfolding(crate::specs::Random::next_random, crate::specs::Random::mixed, crate::specs::Random::some_run, crate::specs::Random::other_run))]
 
 ghost use Rattle.std.specs.Prelude.{◌≡◌, ℕ, ◌/◌, ◌%◌, ◌≤◌, ◌&&◌, ltb, length, map, take, if◌then◌else◌, ◌==◌, nat_lt};
-ghost use Rattle.lists.specs.Sum.{ind};
 ghost use Rattle.cases.specs.Random.{next_random, mixed, seeded, drawn, digested, some_run, other_run};
 
 use std::fmt::Display;
@@ -78,10 +77,13 @@ pub fn other_run(run: u16, c: usize) -> u16
     if c % 2 == 0 { run ^ 1 } else { run ^ 256 }
 }
 
-// The types of what is digested.
+// The types of what is digested. Not `u64: From<T>`: std's law of it, `from_gives`, is a relation, and the clause of `digest` maps a function over the
+// elements.
 pub trait Unsigned: Copy {
     ghost value: { Self → ℕ };
 
+    // The number that is mixed in; for u8 and u16 the element itself.
+    // Shut out: 0, whatever the element is; the element and 1 more.
     fn value(self) -> u64
         ensures { result ≡ value self };
 }
@@ -114,14 +116,6 @@ pub fn digest<T: Unsigned>(d: u64, s: &[T]) -> u64
     r
 }
 
-// 1 where both are the same, else 0: for a count of cases.
-// Shut out: whether a is 0; 0 and 1 the other way round.
-pub fn is_same(a: u8, b: u8) -> u64
-    ensures { (result ≡ ind (a == b)) × (result ≤ 1) }
-{
-    u64::from(a == b)
-}
-
 // Whether index i is one of t: every third, from index 1 on.
 // Shut out: from index 0 on; the indices below t.
 pub fn is_third(t: usize, i: usize) -> bool
@@ -130,7 +124,8 @@ pub fn is_third(t: usize, i: usize) -> bool
     i % 3 == 1 && i / 3 < t
 }
 
-// The length x for a part of s; 0 where s is shorter.
+// The length x for a part of s; 0 where s is shorter. Not an Option: the callers take the part at once, and where a case asks for more than there is,
+// they go on with the empty part.
 // Shut out: 0 where it fits; an exact fit refused.
 pub fn fitting(x: usize, s: &[u8]) -> usize
     ensures prefix_len { (result ≤ length s.now) × (result ≡ length (take result s.now)) }
