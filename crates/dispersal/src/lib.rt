@@ -1,12 +1,12 @@
 // Calls 1 to 3 of a controller (document 01, 'Rounds'; document 02, U6: sender 0 is none): the sender's block to all, the pieces, the marks.
 #![tactic(auto)]
 
-ghost use Rattle.std.specs.Prelude.{◌≡◌, ◌&&◌, ◌++◌, ◌+◌, ◌*◌, ◌≤◌, length, take, drop};
+ghost use Rattle.std.specs.Prelude.{◌≡◌, true, false, MatchOption, ◌&&◌, ◌++◌, ◌+◌, ◌*◌, ◌≤◌, length, take, drop};
 ghost use Rattle.lists.specs.Same.{same};
 ghost use Rattle.bitset.specs.Set.{set_of};
 ghost use Rattle.wire.specs.Slot.{width, slots};
 ghost use Rattle.settings.specs.Valid.{Numbered};
-ghost use Rattle.reed_solomon.specs.Encode.{piece_of, Coding};
+ghost use Rattle.reed_solomon.specs.Encode.{piece_of, is_ready, Coding};
 ghost use Rattle.dispersal.specs.Dispersal.{sent_block, received_block, two_pieces, sent_pieces, is_marked, marks_of, sent_marks};
 
 use settings::Settings;
@@ -64,6 +64,23 @@ struct Coder<'a> {
 }
 
 impl<'a> Coder<'a> {
+    // None where coding refuses the settings, the number or the block's length, or where what is lent beside the block does not fit.
+    fn new(s: Settings, own: usize, block: &'a [u8], fits: bool) -> Option<Coder<'a>>
+        ensures { MatchOption result (is_ready s.n s.t s.k own block.now fits ≡ false) (λ c. (is_ready s.n s.t s.k own block.now fits ≡ true) × (c.n ≡ s.n) × (c.t ≡ s.t) × (c.k ≡ s.k) × (c.own ≡ own) × (c.block.now ≡ block.now)) }
+    {
+        let Settings { n, t, k, .. } = s;
+        if !reed_solomon::is_ready(n, t, k, own, block, fits) {
+            return None;
+        }
+        Some(Coder {
+            n,
+            t,
+            k,
+            own,
+            block,
+        })
+    }
+
     // Piece j of the coding, into the k bytes of m from `at` on.
     fn write_piece(&self, j: usize, m: &mut [u8], at: usize)
         requires { Numbered self.now.n j × (at + self.now.k ≤ length m.old) }
@@ -104,7 +121,7 @@ impl<'a> Coder<'a> {
         is_swapped(message, m, self.k)
     }
 
-    // The set of those marked.
+    // The set of those marked. Not bitset::select: its test would have to write to m.
     fn marks(&self, inbox: &[u8], layout: Layout) -> u16
         ensures { result ≡ set_of self.now.n (λ i. is_marked self.now.k self.now.t self.now.own inbox.now layout self.now.block.now (i + 1)) }
     {
@@ -127,17 +144,9 @@ impl<'a> Coder<'a> {
 pub fn send_pieces(run: u16, s: Settings, own: usize, block: &[u8], outbox: &mut [u8])
     ensures { outbox.new ≡ sent_pieces run s.n s.t s.k own block.now outbox.old }
 {
-    let Settings { n, t, k, .. } = s;
-    let layout = wire::kind_layout(run, Round::Pieces, n, t, k);
-    let fits = wire::holds_exactly(outbox, n, layout);
-    if reed_solomon::is_ready(n, t, k, own, block, fits) {
-        let coder = Coder {
-            n,
-            t,
-            k,
-            own,
-            block,
-        };
+    let layout = wire::kind_layout(run, Round::Pieces, s.n, s.t, s.k);
+    let fits = wire::holds_exactly(outbox, s.n, layout);
+    if let Some(coder) = Coder::new(s, own, block, fits) {
         coder.send_pairs(layout, outbox);
     }
 }
@@ -148,18 +157,9 @@ pub fn send_pieces(run: u16, s: Settings, own: usize, block: &[u8], outbox: &mut
 pub fn marks(s: Settings, own: usize, inbox: &[u8], layout: Layout, block: &[u8]) -> u16
     ensures { result ≡ marks_of s.n s.t s.k own inbox.now layout block.now }
 {
-    let Settings { n, t, k, .. } = s;
-    if reed_solomon::is_ready(n, t, k, own, block, true) {
-        let coder = Coder {
-            n,
-            t,
-            k,
-            own,
-            block,
-        };
-        coder.marks(inbox, layout)
-    } else {
-        0
+    match Coder::new(s, own, block, true) {
+        Some(coder) => coder.marks(inbox, layout),
+        None => 0,
     }
 }
 

@@ -9,15 +9,12 @@ use Prim.Native.Nat.{◌*◌}
 use mathlib.Core.Path.{sym, ap, ◌∙◌}
 use Rattle.dispersal.proofs.send_pieces.Goals as goal
 
-pub invariant_of-coder : goal.invariant_of-coder
-invariant_of-coder c =
-    let a = c.args in
-    record { ready = (ready_yes a.s.n a.s.t a.s.k a.own a.block.now c.holds_exactly-fits.result (sym c.is_ready.ensures ∙ c.if-is_ready.true)).0 }
-
 pub send_pairs-requires : goal.send_pairs-requires
 send_pairs-requires c =
     let a = c.args in
-    let r = ready_yes a.s.n a.s.t a.s.k a.own a.block.now c.holds_exactly-fits.result (sym c.is_ready.ensures ∙ c.if-is_ready.true) in (
+    let e = c.in-Some.ensures in
+    let r = ready_yes a.s.n a.s.t a.s.k a.own a.block.now c.holds_exactly-fits.result e.0 in
+    rw (e.1, e.3) (
       ap (λ (l : Layout). l.length) c.kind_layout-layout.ensures ∙ kind_pieces r.0.coded,
       eqb-true (length a.outbox.now) (a.s.n * width c.kind_layout-layout.result) (sym c.holds_exactly-fits.ensures ∙ r.1),
     )
