@@ -68,7 +68,7 @@ fn value(f: &[u8], high: u32) -> Option<u32>
 fn is_digit(b: u8) -> bool
     ensures { result ≡ is_digit b }
 {
-    matches!(b, b'0'..=b'9')
+    b.is_ascii_digit()
 }
 
 // Whether a field is exactly `len` bytes of two lower-case hexadecimal digits each.
