@@ -2,6 +2,7 @@
 --   Coding; B is a block, of block_length k t bytes
 --     encode_0                    number 0: within the settings, with the stated lengths
 --     encode_valid                and there the number is 0 and the piece is B's
+--     coded_ok, coded_piece       so what `encode` answers there is Ok, and what it leaves is B's piece
 --     encode_refused              any other number: nothing changes
 --     length_piece, bytes_piece   a piece has k bytes
 --     get_or_piece                byte s is the value of stripe s
@@ -23,6 +24,7 @@
 --   Slots with one message each
 --     rebuilt_same, named_same         give one block and the same marks; decode_refusal_same: and one refusal
 pub use Rattle.reed_solomon.proofs.Ready.{ready_yes, yes_ready}
+pub use Rattle.reed_solomon.proofs.Rule.{coded_ok, coded_piece}
 pub use Rattle.reed_solomon.proofs.Rule.{encode_0, encode_valid, encode_refused, length_piece, bytes_piece, get_or_piece, blocks_equal, decode_0}
 pub use Rattle.reed_solomon.proofs.Rule.{0_decode, decodes_unique, answers_unique, meets-decodes, stripe-beyond, rebuilt-decodes, rebuilt-block}
 pub use Rattle.reed_solomon.proofs.Rule.{few-beyond, rebuilt_none, decodes-or-not, pieces_decode, present_count_le, rebuilt_same, named_same}

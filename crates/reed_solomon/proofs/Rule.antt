@@ -10,6 +10,7 @@ use native.Mathlib.Omega.{arith}
 use borrow.Author.Tests.{eq-eqb, ne_eqb, eqb-true, le-leb, leb-true}
 use lib.Dec.{eqb, leb, lit<}
 use lib.ListN.{length, get_or}
+use Rattle.std.specs.Prelude.{Result, is_ok}
 use Rattle.wire.specs.declared.slot.Layout.{Layout}
 use Rattle.lists.specs.Sum.{count}
 use Rattle.lists.specs.Select.{Rising}
@@ -20,7 +21,9 @@ use Rattle.lists.proofs.Fills.{length-tabulate, get_or-tabulate}
 use Rattle.lists.proofs.Tests.{true≢false, fails, and_both, cond_yes, cond_no, lt_or_le}
 use Rattle.settings.specs.Refusal.{encoding_refusal, decoding_refusal}
 use Rattle.settings.specs.Valid.{Coded, Numbered}
-use Rattle.settings.proofs.Laws.{encoding_0, 0_encoding, decoding_0, 0_decoding}
+use Rattle.settings.specs.declared.Refusal.{Refusal}
+use Rattle.settings.specs.Number.{number_of}
+use Rattle.settings.proofs.Laws.{encoding_0, 0_encoding, decoding_0, 0_decoding, ok_0}
 use Rattle.wire.specs.Length.{block_length}
 use Rattle.wire.specs.Slot.{width, message_of, SameMessages}
 use Rattle.wire.proofs.Laws.{block_length_is}
@@ -28,7 +31,7 @@ use Rattle.polynomial.specs.Polynomial.{evaluate, Bytes}
 use Rattle.polynomial.proofs.Laws.{evaluate_lt, equal_of_values, past_end}
 use Rattle.interpolation.specs.Interpolation.{candidate}
 use Rattle.interpolation.proofs.Laws.{recovers}
-use Rattle.reed_solomon.specs.Encode.{stripe, piece_of, encode_fits, encode_refusal, encoded, encode_of}
+use Rattle.reed_solomon.specs.Encode.{stripe, piece_of, encode_fits, encode_refusal, Encoded, encoded, encode_of, Coding}
 use Rattle.reed_solomon.specs.Decode.{has_piece, received, present_count, differing, Decodes, decode_fits, decode_refusal, DecodesUnique, Block, Beyond, Refused}
 use Rattle.reed_solomon.specs.Decode.{is_named, named_of, AnswersUnique, PiecesDecode, FewBeyond}
 use Rattle.reed_solomon.specs.First.{first_bytes, is_right_stripe, meets, DecodesMeets, MeetsDecodes, rebuilt, RebuiltDecodes, RebuiltBlock, RebuiltNone}
@@ -232,6 +235,18 @@ module _ (n t k i : ℕ) (block piece : List ℕ) where
   pub encode_valid : Coded n t k → Numbered n i → length block ≡ block_length k t → length piece ≡ k
       → encode_of n t k i block piece ≡ encoded 0 (piece_of k t block i)
   encode_valid v m a b = encode_carried (0_encode v m a b)
+
+-- coding within the settings is carried out, and leaves the piece
+module _ {n t k j : ℕ} {b : List ℕ} (v : Coding n t k j b) (r : Result Unit Refusal) (p q : List ℕ) (l : length p ≡ k)
+    (e : encoded (number_of r) q ≡ encode_of n t k j b p) where
+  done : encoded (number_of r) q ≡ encoded 0 (piece_of k t b j)
+  done = e ∙ encode_valid n t k j b p v.coded v.number v.size l
+
+  pub coded_ok : is_ok r ≡ true
+  coded_ok = ok_0 r ∙ eq-eqb (number_of r) 0 (ap (λ (x : Encoded). x.number) done)
+
+  pub coded_piece : q ≡ piece_of k t b j
+  coded_piece = ap (λ (x : Encoded). x.piece) done
 
 -- ---- pieces
 pub length_piece : (k t : ℕ) (block : List ℕ) (i : ℕ) → length (piece_of k t block i) ≡ k

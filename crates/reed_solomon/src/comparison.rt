@@ -70,7 +70,7 @@ fn first_wrong(counts: &[u8], t: usize, present: usize, from: usize) -> Option<u
     None
 }
 
-// The block compared with all slots, by way of cols and `piece`; `wrong` is the first wrong stripe from `from` on.
+// The block compared with all slots, by way of cols and `piece`; `wrong` is the first wrong stripe from `from` on. (Two parameters: see `guess_rest`.)
 pub(crate) fn check(
     pieces: &Pieces,
     from: usize,

@@ -44,6 +44,8 @@ fn list_points(n: usize, layout: Layout, slots: &[u8], xs: &mut [u8]) -> usize
 }
 
 // A guess at the stripes of the block from `from` on; those before it stay.
+// cols and tmp are two parameters, here and in `mend`, `mend_all` and `comparison::check`: a call that lends one field of a struct behind a reference and
+// reads or lends another has no proof, nor has one that lends parts of fields taken by a pattern.
 fn guess_rest(
     pieces: &Pieces,
     from: usize,
@@ -68,7 +70,8 @@ fn guess_rest(
     );
 }
 
-// Stripe s of the block is decoded, and those after it are guessed; those before it stay. None where no bytes of stripe s are right.
+// Stripe s of the block is decoded, and those after it are guessed; those before it stay. None where no bytes of stripe s are right. (cols and tmp: see
+// `guess_rest`.)
 fn mend(
     pieces: &Pieces,
     s: usize,
@@ -88,7 +91,7 @@ fn mend(
 }
 
 // The block with every stripe right, from one that was guessed, and the marks of the slots that do not hold their piece of it: its first wrong stripe
-// is decoded, and the rest guessed anew, until none is wrong.
+// is decoded, and the rest guessed anew, until none is wrong. (cols and tmp: see `guess_rest`.)
 fn mend_all(
     pieces: &Pieces,
     marks: u16,

@@ -4,6 +4,8 @@ ghost use Rattle.reed_solomon.specs.Steps.{Lent};
 use wire::Layout;
 
 // n slots of pieces, and the points of the present ones, rising: enough for t + 1 bytes.
+// The lengths of a block (`layout.length * (t + 1)`) and of a stripe m (`t + 1`) stand in the contracts that lend them, beside `&Pieces`: both are written,
+// and a ghost field beside a `&mut` is not covered, so no type keeps their length.
 #[derive(Clone, Copy)]
 pub(crate) struct Pieces<'a> {
     pub(crate) n: usize,
