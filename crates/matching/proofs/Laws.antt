@@ -18,7 +18,7 @@
 --     any_in, any_of     a test that some pair passes
 --     pigeonhole         members that have a pair each, no two the same, are no more than the pairs
 --     one_each           pairs that have a member each are no more than the members
-pub use Rattle.matching.proofs.Graph.{complement_row}
+pub use Rattle.matching.proofs.Rows.{complement_row}
 pub use Rattle.matching.proofs.Sets.{in_set, set_in, some_in}
 pub use Rattle.matching.proofs.One.{one_matching, one_answer, same_graph}
 pub use Rattle.matching.proofs.First.{matching_first}

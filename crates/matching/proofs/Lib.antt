@@ -5,7 +5,7 @@ mod Pairs
 mod Sizes
 mod One
 mod First
-mod Graph
+mod Rows
 mod Steps
 mod Stored
 mod Augment

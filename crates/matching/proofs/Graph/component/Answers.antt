@@ -1,6 +1,6 @@
--- `component` meets its contract.
+-- `Graph::component` meets its contract.
 use Rattle.matching.proofs.Steps.{grow_start, grow_more, grow_less, grow_done}
-use Rattle.matching.proofs.component.Goals as goal
+use Rattle.matching.proofs.Graph.component.Goals as goal
 
 pub loop-x-init : goal.loop-x-init
 loop-x-init c = grow_start _ _ _ c.ranges.s.fits _ c.requires c.insert-c.ensures

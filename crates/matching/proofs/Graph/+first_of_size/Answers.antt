@@ -1,24 +1,24 @@
--- `first_of_size` meets its contract.
+-- `Graph::first_of_size` meets its contract.
 use mathlib.Core.Path.{sym, subst, ◌∙◌}
 use native.Mathlib.Omega.{arith}
 use Rattle.matching.specs.Steps.{Searched}
 use Rattle.matching.proofs.Steps.{none_in_empty, try_start, try_fail, try_skip, try_found, found-count, try_drop}
 use Rattle.matching.proofs.Steps.{try_rest_less, try_less}
-use Rattle.matching.proofs.+first_of_size.Goals as goal
-use Rattle.matching.proofs.+first_of_size.Goals.{then-member+in_default, else-member}
+use Rattle.matching.proofs.Graph.+first_of_size.Goals as goal
+use Rattle.matching.proofs.Graph.+first_of_size.Goals.{then-member+in_default, else-member}
 
 pub returns-in_err-v : goal.returns-in_err-v
 returns-in_err-v t c =
-    subst (Searched _ _ _) (sym c.from_residual.ensures) (none_in_empty c.args.graph.now c.args.s c.args.k c.in_err-v.ensures c.if-k-eq0.false)
+    subst (Searched _ _ _) (sym c.from_residual.ensures) (none_in_empty c.args.self.now.rows c.args.s c.args.k c.in_err-v.ensures c.if-k-eq0.false)
 
 pub loop-w-init : goal.loop-w-init
 loop-w-init t c =
-    try_start _ _ _ _ _ _ c.in_ok-v.ensures c.if-k-eq0.false c.requires.1 c.remove-rest.ensures c.intersection-partners.ensures
+    try_start _ _ _ _ _ _ c.in_ok-v.ensures c.if-k-eq0.false c.requires c.remove-rest.ensures c.intersection-partners.ensures
 
 pub first_of_size-requires : goal.first_of_size-requires
 first_of_size-requires t c = (
   omega (arith, try_less _ _ _ _ _ _ _ c.ranges.s.fits c.loop-w.invariant (sym c.member.ensures ∙ c.if-member.true) _ c.remove.ensures, c.decreases),
-  (c.requires.0, omega (arith, c.loop-w.invariant.few)),
+  omega (arith, c.loop-w.invariant.few),
 )
 
 pub with-requires : goal.with-requires
