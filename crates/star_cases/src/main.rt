@@ -40,88 +40,99 @@ fn on_path(i: usize, j: usize) -> bool {
     i / 4 == j / 4 && (i % 4 == 0 && j % 4 != 3 || i % 4 == 1 && j % 4 == 3)
 }
 
-// Whether i and j, i the smaller, are to be no neighbours in graph k of n controllers.
-fn apart(k: usize, n: usize, t: usize, i: usize, j: usize) -> bool {
-    match k {
-        0 => false,
-        1 => true,
-        2 => on_cycle(odd(n), i, j),
-        3 => in_cliques(n, i, j),
-        4 => i < t && t <= j,
-        5 => i < n.saturating_sub(t) && n.saturating_sub(t) <= j,
-        6 => i / 4 < t / 2 && on_path(i, j),
-        7 => on_cycle(5, i, j),
-        8 => j < 6 && i / 3 == j / 3,
-        9..=15 => draw(0, k, i, j) % 8 < k.saturating_sub(8),
-        16..=19 => n.saturating_sub(t) <= j && draw(0, k, i, j) % 2 == 0,
-        20..=23 => (cases::is_third(t, i) || cases::is_third(t, j)) && draw(0, k, i, j) % 2 == 0,
-        _ => draw(0, k, i, j) % 16 == 0,
-    }
-}
-
-// Whether i marks j. One's own mark and all past n are at random. Of a pair that are no neighbours neither marks the other, or the smaller
-// does, or the larger. From 28 on, each bit is set with a chance of k - 28 in 32.
-fn mark(k: usize, n: usize, t: usize, i: usize, j: usize) -> bool {
-    if 28 <= k {
-        return draw(300, n, i, j) % 32 < k - 28;
-    }
-    if n <= i || n <= j || i == j {
-        return draw(200, k, i, j) % 2 == 0;
-    }
-    let (a, b, side) = if i < j { (i, j, 1) } else { (j, i, 2) };
-    !apart(k, n, t, a, b) || draw(100, k, a, b) % 3 == side
-}
-
-// 16 bits of kind k: whether i marks each.
-fn row(k: usize, n: usize, t: usize, i: usize) -> u16 {
-    bitset::select(16, |j| mark(k, n, t, i, j))
-}
-
-fn rows(k: usize, n: usize, t: usize) -> [u16; 16] {
-    array::from_fn(|i| row(k, n, t, i))
-}
-
-// The 120 bits of kind k: the low eight of each row.
-fn bits(k: usize, n: usize) -> [u8; 15] {
-    array::from_fn(|i| row(k, n, 0, i).to_le_bytes()[0])
-}
-
-fn print_star(
-    rt: &impl Print,
+// A graph of kind k, of n controllers of which at most t are faulty. Kinds are no enum: a kind is the number that is printed, and kinds 9 to 15 and those
+// from 28 on differ in a chance alone.
+#[derive(Clone, Copy)]
+struct Graph {
     k: usize,
     n: usize,
     t: usize,
-    star: Result<Sets, Refusal>,
-) -> io::Result<()> {
-    let answer = match star {
-        Ok(s) => [0, s.c, s.d, s.f, s.e],
-        Err(r) => [u16::from(u8::from(r)), 0, 0, 0, 0],
-    };
-    cases::decimal(rt, n)?;
-    cases::numbers(rt, b"", &[t, k])?;
-    cases::numbers(rt, b":", &answer)?;
-    cases::newline(rt)
 }
 
-// The star of graph k; from 28 on, of bits.
-fn play(rt: &impl Print, k: usize, n: usize, t: usize) -> io::Result<()> {
-    if k < 28 {
-        return print_star(rt, k, n, t, star::find(&rows(k, n, t), n, t));
+impl Graph {
+    // Whether i and j, i the smaller, are to be no neighbours.
+    fn is_apart(self, i: usize, j: usize) -> bool {
+        let Graph { k, n, t } = self;
+        match k {
+            0 => false,
+            1 => true,
+            2 => on_cycle(odd(n), i, j),
+            3 => in_cliques(n, i, j),
+            4 => i < t && t <= j,
+            5 => i < n.saturating_sub(t) && n.saturating_sub(t) <= j,
+            6 => i / 4 < t / 2 && on_path(i, j),
+            7 => on_cycle(5, i, j),
+            8 => j < 6 && i / 3 == j / 3,
+            9..=15 => draw(0, k, i, j) % 8 < k.saturating_sub(8),
+            16..=19 => n.saturating_sub(t) <= j && draw(0, k, i, j) % 2 == 0,
+            20..=23 => {
+                (cases::is_third(t, i) || cases::is_third(t, j)) && draw(0, k, i, j) % 2 == 0
+            }
+            _ => draw(0, k, i, j) % 16 == 0,
+        }
     }
-    print_star(rt, k - 28, n, t, star::of_bits(bits(k, n), n, t))
-}
 
-// The missing pairs of graph k.
-fn print_bits(rt: &impl Print, k: usize, n: usize, t: usize) -> io::Result<()> {
-    let pairs = graph::bits_of(&rows(k, n, t), n);
-    cases::decimal(rt, n)?;
-    cases::byte_line(rt, b":", &pairs)
+    // Whether i marks j. One's own mark and all past n are at random. Of a pair that are no neighbours neither marks the other, or the smaller
+    // does, or the larger. From 28 on, each bit is set with a chance of k - 28 in 32.
+    fn marks(self, i: usize, j: usize) -> bool {
+        let Graph { k, n, .. } = self;
+        if 28 <= k {
+            return draw(300, n, i, j) % 32 < k - 28;
+        }
+        if n <= i || n <= j || i == j {
+            return draw(200, k, i, j) % 2 == 0;
+        }
+        let (a, b, side) = if i < j { (i, j, 1) } else { (j, i, 2) };
+        !self.is_apart(a, b) || draw(100, k, a, b) % 3 == side
+    }
+
+    // 16 bits: whether i marks each.
+    fn row(self, i: usize) -> u16 {
+        bitset::select(16, |j| self.marks(i, j))
+    }
+
+    fn rows(self) -> [u16; 16] {
+        array::from_fn(|i| self.row(i))
+    }
+
+    // 120 bits, from 28 on: the low eight of each row.
+    fn bits(self) -> [u8; 15] {
+        array::from_fn(|i| self.row(i).to_le_bytes()[0])
+    }
+
+    // The star of the graph under the number k.
+    fn print_star(self, rt: &impl Print, k: usize, star: Result<Sets, Refusal>) -> io::Result<()> {
+        let answer = match star {
+            Ok(s) => [0, s.c, s.d, s.f, s.e],
+            Err(r) => [u16::from(u8::from(r)), 0, 0, 0, 0],
+        };
+        cases::decimal(rt, self.n)?;
+        cases::numbers(rt, b"", &[self.t, k])?;
+        cases::numbers(rt, b":", &answer)?;
+        cases::newline(rt)
+    }
+
+    // The star of the graph; from 28 on, of bits.
+    fn play(self, rt: &impl Print) -> io::Result<()> {
+        let Graph { k, n, t } = self;
+        if k < 28 {
+            return self.print_star(rt, k, star::find(&self.rows(), n, t));
+        }
+        self.print_star(rt, k - 28, star::of_bits(self.bits(), n, t))
+    }
+
+    // The missing pairs of the graph.
+    fn print_bits(self, rt: &impl Print) -> io::Result<()> {
+        let pairs = graph::bits_of(&self.rows(), self.n);
+        cases::decimal(rt, self.n)?;
+        cases::byte_line(rt, b":", &pairs)
+    }
 }
 
 // The 28 graphs of n controllers of which at most t are faulty, and the nine chances.
 fn kinds(rt: &impl Print, n: usize, t: usize) -> io::Result<()> {
     for k in 0..37 {
-        play(rt, k, n, t)?;
+        Graph { k, n, t }.play(rt)?;
     }
     Ok(())
 }
@@ -134,7 +145,7 @@ fn play_size(rt: &impl Print, n: usize, t: usize) -> io::Result<()>
         kinds(rt, n, t)?;
     }
     if t == 5 {
-        print_bits(rt, 12, n, 1)?;
+        Graph { k: 12, n, t: 1 }.print_bits(rt)?;
     }
     Ok(())
 }
@@ -167,9 +178,9 @@ const EDGES: [(usize, usize, usize); 13] = [
 
 fn edges(rt: &impl Print) -> io::Result<()> {
     for (k, n, t) in EDGES {
-        play(rt, k, n, t)?;
+        Graph { k, n, t }.play(rt)?;
     }
-    print_bits(rt, 1, 17, 1)
+    Graph { k: 1, n: 17, t: 1 }.print_bits(rt)
 }
 
 fn main(rt: HostRuntime) -> io::Result<()> {
