@@ -223,7 +223,7 @@ impl Turn {
         wire::send_all(outbox, self.layout, self.vote.n, &m);
     }
 
-    // What index i sends in the round.
+    // What index i sends in the round. The match is by the round's kind; each arm is another function of the library.
     fn emit(self, own: &Controller, outbox: &mut [u8], i: usize)
         requires { i < 16 }
     {
@@ -262,22 +262,19 @@ fn print_digest(rt: &impl Print, name: &[u8], number: usize, d: u64) -> io::Resu
     cases::end_digest(rt, d)
 }
 
+// The digest of d and one matrix of each controller.
+fn digest_each<F: Fn(&Controller) -> [u16; 16]>(d: u64, state: &[Controller; 16], rows: F) -> u64
+    requires { (f : F) (x : _) → F.pre f x }
+{
+    state.iter().fold(d, |d, own| cases::digest(d, &rows(own)))
+}
+
 // The digest of all matrices: those held, the weak ones, the zeros, the ones.
 fn digest(state: &[Controller; 16]) -> u64 {
-    let mut d = 0;
-    for own in state {
-        d = cases::digest(d, &own.held.rows);
-    }
-    for own in state {
-        d = cases::digest(d, &own.held.weak);
-    }
-    for own in state {
-        d = cases::digest(d, &own.seen.zeros);
-    }
-    for own in state {
-        d = cases::digest(d, &own.seen.ones);
-    }
-    d
+    let d = digest_each(0, state, |own| own.held.rows);
+    let d = digest_each(d, state, |own| own.held.weak);
+    let d = digest_each(d, state, |own| own.seen.zeros);
+    digest_each(d, state, |own| own.seen.ones)
 }
 
 fn round(
