@@ -124,6 +124,28 @@ const STEPS: [[usize; 9]; 43] = [
     [4, 1, 1, 1, 1, 13, 9, 9, 9],
 ];
 
+// Settings of 4, 7 and 16 controllers, with sender 1.
+const SMALL: Settings = Settings {
+    n: 4,
+    t: 1,
+    k: 1,
+    sender: 1,
+};
+
+const SEVEN: Settings = Settings {
+    n: 7,
+    t: 2,
+    k: 2,
+    sender: 1,
+};
+
+const SIXTEEN: Settings = Settings {
+    n: 16,
+    t: 5,
+    k: 3,
+    sender: 1,
+};
+
 // The row of marks of states that are given: controllers 1, 6, 11 and 16.
 const MARKS: u16 = 33825;
 
@@ -193,13 +215,8 @@ fn is_filled(s: &[u8]) -> bool {
     s.iter().enumerate().all(|(p, x)| *x == pattern(p))
 }
 
-// The state of a run that begins with call `next`; the zero state for zeros.
-fn plain(n: usize, t: usize, k: usize, own: usize, sender: usize, run: u16, next: usize) -> State {
-    protocol::initial(Settings { n, t, k, sender }, own, run, next)
-}
-
 // A state with every other field set.
-fn given(n: usize, t: usize, k: usize, own: usize, sender: usize, next: usize) -> State {
+fn given(settings: Settings, own: usize, next: usize) -> State {
     State {
         outcome: Outcome::Beyond,
         matrix: [
@@ -208,7 +225,7 @@ fn given(n: usize, t: usize, k: usize, own: usize, sender: usize, next: usize) -
         weak: [65535, 2, 3, 4, 5, 6, 7, 8, 9, 10, 11, 12, 13, 14, 15, 65534],
         core: 43981,
         named: MARKS,
-        ..plain(n, t, k, own, sender, 40961, next)
+        ..protocol::initial(settings, own, 40961, next)
     }
 }
 
@@ -220,7 +237,7 @@ fn print_settings(rt: &impl Print, name: &[u8], s: State) -> io::Result<()> {
 
 // Which state a start with these settings answered.
 fn print_started(rt: &impl Print, s: State, r: State) -> io::Result<()> {
-    if r == plain(0, 0, 0, 0, 0, 0, 0) {
+    if r == protocol::zero_state() {
         cases::text(rt, b" zero")
     } else if r == s {
         cases::text(rt, b" begun")
@@ -279,8 +296,8 @@ fn shorter(x: usize) -> usize {
 }
 
 // Each lent length of a call too long and too short by one byte, and all three.
-fn lengths_at(rt: &impl Print, n: usize, t: usize, k: usize, c: usize) -> io::Result<()> {
-    let s = given(n, t, k, n, 1, c);
+fn lengths_at(rt: &impl Print, settings: Settings, c: usize) -> io::Result<()> {
+    let s = given(settings, settings.n, c);
     let b = block_length(s);
     let i = inbox_length(s);
     let o = outbox_length(s);
@@ -293,35 +310,31 @@ fn lengths_at(rt: &impl Print, n: usize, t: usize, k: usize, c: usize) -> io::Re
     step(rt, s, longer(b), shorter(i), longer(o))
 }
 
-fn lengths(rt: &impl Print, n: usize, t: usize, k: usize) -> io::Result<()> {
-    for c in 1..=call_count(t) {
-        lengths_at(rt, n, t, k, c)?;
+fn lengths(rt: &impl Print, settings: Settings) -> io::Result<()> {
+    for c in 1..=call_count(settings.t) {
+        lengths_at(rt, settings, c)?;
     }
     Ok(())
 }
 
 fn starts(rt: &impl Print) -> io::Result<()> {
-    for [n, t, k, own, sender, run, length] in &STARTS {
-        let s = plain(*n, *t, *k, *own, *sender, cases::word(*run), 1);
-        start(rt, s, *length)?;
+    for &[n, t, k, own, sender, run, length] in &STARTS {
+        let settings = Settings { n, t, k, sender };
+        start(
+            rt,
+            protocol::initial(settings, own, cases::word(run), 1),
+            length,
+        )?;
     }
     Ok(())
 }
 
 fn steps(rt: &impl Print) -> io::Result<()> {
-    for [n, t, k, own, sender, next, b, i, o] in &STEPS {
-        step(rt, given(*n, *t, *k, *own, *sender, *next), *b, *i, *o)?;
+    for &[n, t, k, own, sender, next, b, i, o] in &STEPS {
+        let settings = Settings { n, t, k, sender };
+        step(rt, given(settings, own, next), b, i, o)?;
     }
     Ok(())
-}
-
-fn print_outcome(rt: &impl Print, o: Outcome) -> io::Result<()> {
-    match o {
-        Outcome::Open => cases::text(rt, b" open"),
-        Outcome::Agreed => cases::text(rt, b" agreed"),
-        Outcome::None => cases::text(rt, b" none"),
-        Outcome::Beyond => cases::text(rt, b" beyond"),
-    }
 }
 
 // What call c answered, and what it left in block and outbox.
@@ -329,7 +342,8 @@ fn print_call(rt: &impl Print, c: usize, r: Answer, block: &[u8], outbox: &[u8])
     let s = r.state;
     cases::numbers(rt, b"call", &[c])?;
     cases::numbers(rt, b":", &[r.number as usize, s.next])?;
-    print_outcome(rt, s.outcome)?;
+    cases::text(rt, b" ")?;
+    cases::text(rt, s.outcome.word())?;
     cases::numbers(rt, b"", &[s.named, s.run])?;
     cases::hex(rt, block)?;
     cases::hex(rt, outbox)?;
@@ -402,18 +416,35 @@ fn run(rt: &impl Print, s: State, heard: Option<usize>, block: &mut [u8]) -> io:
 
 // Of four controllers the sender, with a block whose pieces are all alike, so that it marks whomever it hears.
 fn run_small(rt: &impl Print, run_number: u16, heard: Option<usize>) -> io::Result<()> {
-    run(rt, plain(4, 1, 1, 1, 1, run_number, 1), heard, &mut [10, 0])
+    run(
+        rt,
+        protocol::initial(SMALL, 1, run_number, 1),
+        heard,
+        &mut [10, 0],
+    )
 }
 
 // Of seven controllers the sender, 2, or another.
 fn run_of_seven(rt: &impl Print, own: usize, run_number: u16) -> io::Result<()> {
     let mut block = [10, 20, 30, 40, 50, 60];
-    run(rt, plain(7, 2, 2, own, 2, run_number, 1), None, &mut block)
+    let settings = Settings { sender: 2, ..SEVEN };
+    run(
+        rt,
+        protocol::initial(settings, own, run_number, 1),
+        None,
+        &mut block,
+    )
 }
 
 // Without a sender (document 02, U6) the block is kept until the last call.
 fn run_without_sender(rt: &impl Print) -> io::Result<()> {
-    run(rt, plain(4, 1, 1, 3, 0, 1, 1), None, &mut [10, 20])
+    let settings = Settings { sender: 0, ..SMALL };
+    run(
+        rt,
+        protocol::initial(settings, 3, 1, 1),
+        None,
+        &mut [10, 20],
+    )
 }
 
 // Nobody heard; all in slots of another run, which is the same; all but controller 4; and all.
@@ -429,11 +460,11 @@ fn runs(rt: &impl Print) -> io::Result<()> {
 }
 
 // The state of controller 1, the sender, before its last call.
-fn before_last(n: usize, t: usize, k: usize, run: u16, core: u16) -> State {
+fn before_last(settings: Settings, run: u16, core: u16) -> State {
     State {
         run,
         core,
-        ..given(n, t, k, 1, 1, call_count(t))
+        ..given(settings, 1, call_count(settings.t))
     }
 }
 
@@ -449,7 +480,7 @@ fn last(rt: &impl Print, s: State, block: &mut [u8], inbox: &[u8]) -> io::Result
 
 // n 4, t 1 and k 1.
 fn last_small(rt: &impl Print, run: u16, core: u16, inbox: &[u8]) -> io::Result<()> {
-    last(rt, before_last(4, 1, 1, run, core), &mut [255; 2], inbox)
+    last(rt, before_last(SMALL, run, core), &mut [255; 2], inbox)
 }
 
 // Pieces of 0a14: all true; examples d and e of document 01, and d with slot 1 absent; all true, and no member of the core within n.
@@ -532,7 +563,7 @@ fn last_late(rt: &impl Print) -> io::Result<()> {
 fn last_stripes(rt: &impl Print) -> io::Result<()> {
     last(
         rt,
-        before_last(4, 1, 3, 1, 7),
+        before_last(Settings { k: 3, ..SMALL }, 1, 7),
         &mut [255; 6],
         b"\x01\x01\x00\x1e\x00\x1e\x01\x01\x00\x22\x22\x00\x01\x01\x00\x36\x36\x36\x01\x01\x00\x00\x5a\x5a",
     )
@@ -542,7 +573,7 @@ fn last_stripes(rt: &impl Print) -> io::Result<()> {
 fn last_silent(rt: &impl Print) -> io::Result<()> {
     last(
         rt,
-        before_last(7, 2, 1, 256, 127),
+        before_last(Settings { k: 1, ..SEVEN }, 256, 127),
         &mut [255; 3],
         b"\x01\x00\x01\x00\x00\x00\x00\x00\x01\x00\x01\x50\x01\x00\x01\xa7\x00\x00\x00\x00\x00\x00\x00\x00\x01\x00\x01\xfd",
     )
@@ -550,11 +581,11 @@ fn last_silent(rt: &impl Print) -> io::Result<()> {
 
 fn main(rt: HostRuntime) -> io::Result<()> {
     starts(&rt)?;
-    step(&rt, plain(0, 0, 0, 0, 0, 0, 0), 0, 0, 0)?;
+    step(&rt, protocol::zero_state(), 0, 0, 0)?;
     steps(&rt)?;
-    lengths(&rt, 4, 1, 1)?;
-    lengths(&rt, 7, 2, 2)?;
-    lengths(&rt, 16, 5, 3)?;
+    lengths(&rt, SMALL)?;
+    lengths(&rt, SEVEN)?;
+    lengths(&rt, SIXTEEN)?;
     runs(&rt)?;
     last_examples(&rt)?;
     last_late(&rt)?;

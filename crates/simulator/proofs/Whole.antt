@@ -12,10 +12,10 @@ use Rattle.system_file.specs.Form.{Contents, right, read_of}
 use Rattle.system_file.specs.Table.{is_faulty, table_of, file_of, Properly}
 use Rattle.system_file.proofs.Laws.{read_right, table_room, file_right}
 use Rattle.simulation.specs.Run.{ended}
-use Rattle.simulator.specs.Output.{names_line, results, output_of, simulated}
+use Rattle.simulator.specs.Output.{names_line, output_of, simulated}
 use Rattle.simulator.specs.declared.run.Controller.{Controller}
 use Rattle.simulator.specs.Play.{FileSettings, Playable, block_in, given}
-use Rattle.simulator.specs.Steps.{AfterCalls, scene, zero_controller}
+use Rattle.simulator.specs.Steps.{AfterCalls, scene, zero_controller, results_of}
 use Rattle.simulator.proofs.Running.{block_le}
 use Rattle.simulator.proofs.Writing.{take-padded}
 use Rattle.simulator.proofs.Outputs.{results-alike, output_is, simulated_right, table_output}
@@ -65,9 +65,7 @@ file_playable input {file} is =
 -- what it ends with
 pub run_output : (input : List ℕ) {file : SystemFile} → Ok file ≡ file_of (read_of input) → (cs : List Controller) (o : ℕ)
     → AfterCalls (scene input file (given file)) (3 * file.settings.t + 9) cs o
-    → names_line ++ results (λ i. member file.faulty (i - 1)) (λ i. (get_or cs (i - 1) zero_controller).state.outcome)
-    (λ i. take (block_in file.settings) (get_or cs (i - 1) zero_controller).block) file.settings.n
-    ≡ simulated input
+    → names_line ++ results_of file (block_in file.settings) cs ≡ simulated input
 run_output input {file} is cs o H =
     let q = file_right (read_of input) file is in
     let F = scene input file (given file) in

@@ -11,6 +11,7 @@
 --   taken a                 what is held after a step
 --   Called F c now ..       each correct controller made call c + 1, and the others stay
 --   AfterCalls F c cs o     each controller holds what it holds after c calls
+--   results_of file b cs    the lines of the correct controllers of a file, with b bytes of each one's block
 --   Room out at m           the text ends at `at`, zeros follow, and m more bytes fit
 --   Wrote out at s out' r   s was appended
 use Rattle.std.specs.Prelude.{◌≡◌, true, false, List, [], ◌++◌, ℕ, ◌+◌, ◌-◌, ◌*◌, ◌≤◌, length, get_or, take, replicate}
@@ -23,6 +24,7 @@ use Rattle.protocol.specs.State.{zero_state}
 use Rattle.protocol.specs.Step.{After}
 use Rattle.system_file.specs.declared.SystemFile.{SystemFile}
 use Rattle.system_file.specs.Table.{text_of, place_in}
+use Rattle.simulator.specs.Output.{results}
 use Rattle.simulator.specs.Play.{block_in}
 use Rattle.simulation.specs.Run.{run_number, Scenario, Playing, called, played}
 use Rattle.simulator.specs.declared.run.Controller.{Controller}
@@ -75,6 +77,10 @@ pub record AfterCalls (F : Scenario) (c : ℕ) (cs : List Controller) (o : ℕ) 
   pub state : (i : ℕ) → 1 ≤ i → i ≤ F.settings.n → (now_of cs F.settings o i).state ≡ (played F c i).state
   pub block : (i : ℕ) → 1 ≤ i → i ≤ F.settings.n → (now_of cs F.settings o i).block ≡ (played F c i).block
   pub outbox : (i : ℕ) → 1 ≤ i → i ≤ F.settings.n → c ≤ 3 * F.settings.t + 8 → F.faulty i ≡ false → (now_of cs F.settings o i).outbox ≡ (played F c i).outbox
+
+abbrev pub results_of : SystemFile → ℕ → List Controller → List ℕ
+results_of file b cs =
+    results (λ i. member file.faulty (i - 1)) (λ i. (get_or cs (i - 1) zero_controller).state.outcome) (λ i. take b (get_or cs (i - 1) zero_controller).block) file.settings.n
 
 pub record Room (out : List ℕ) (at m : ℕ) : Type 0 where
   pub zeros : out ≡ padded (length out) (take at out)

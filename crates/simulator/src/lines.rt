@@ -1,29 +1,15 @@
 // The lines of the output.
-ghost use Rattle.std.specs.Prelude.{◌≡◌, ◌-◌, ◌*◌, ◌≤◌, ◌++◌, length, get_or, take};
+ghost use Rattle.std.specs.Prelude.{◌≡◌, ◌*◌, ◌≤◌, ◌++◌, length};
 ghost use Rattle.text.specs.Write.{padded};
-ghost use Rattle.reconstruction.specs.Outcomes.{outcome_word};
-ghost use Rattle.bitset.specs.Set.{member};
-ghost use Rattle.simulator.specs.Output.{result_line, results, bad_line, names_line};
+ghost use Rattle.simulator.specs.Output.{result_line, bad_line, names_line};
 ghost use Rattle.simulator.specs.Play.{FileSettings, block_in};
-ghost use Rattle.simulator.specs.Steps.{Room, Wrote, zero_controller};
+ghost use Rattle.simulator.specs.Steps.{Room, Wrote, results_of};
 
 use crate::Output;
 use crate::run::Controller;
 use reconstruction::Outcome;
 use system_file::SystemFile;
 use text::writer::Writer;
-
-// Document 01's word for an outcome.
-fn word(w: Outcome) -> &'static [u8]
-    ensures { result.now ≡ outcome_word w }
-{
-    match w {
-        Outcome::Open => b"open",
-        Outcome::Agreed => b"agreed",
-        Outcome::None => b"none",
-        Outcome::Beyond => b"beyond",
-    }
-}
 
 // Appends the line of controller i.
 fn append_result(w: &mut Writer, i: usize, outcome: Outcome, block: &[u8])
@@ -33,7 +19,7 @@ fn append_result(w: &mut Writer, i: usize, outcome: Outcome, block: &[u8])
 {
     w.append_decimal(i);
     w.append(b",");
-    w.append(word(outcome));
+    w.append(outcome.word());
     w.append(b",");
     w.append_hex(block);
     w.append(b"\n");
@@ -43,7 +29,7 @@ fn append_result(w: &mut Writer, i: usize, outcome: Outcome, block: &[u8])
 fn append_results(w: &mut Writer, file: &SystemFile, b: usize, controllers: &[Controller; 16])
     requires { (file.now.settings.n ≤ 16) × (b ≤ 192) × Room w.old.out.now w.old.end (file.now.settings.n * 395) }
     ensures same { w.new.out.ghost_name ≡ w.old.out.ghost_name }
-    ensures wrote { Wrote w.old.out.now w.old.end (results (λ i. member file.now.faulty (i - 1)) (λ i. (get_or controllers.now (i - 1) zero_controller).state.outcome) (λ i. take b (get_or controllers.now (i - 1) zero_controller).block) file.now.settings.n) w.new.out.now w.new.end }
+    ensures wrote { Wrote w.old.out.now w.old.end (results_of file.now b controllers.now) w.new.out.now w.new.end }
 {
     for i in 0..file.settings.n {
         if !bitset::member(file.faulty, i) {
@@ -61,7 +47,7 @@ fn write_results(
     controllers: &[Controller; 16],
 ) -> usize
     requires { (file.now.settings.n ≤ 16) × (b ≤ 192) × Room out.old 0 6400 }
-    ensures { Wrote out.old 0 (names_line ++ results (λ i. member file.now.faulty (i - 1)) (λ i. (get_or controllers.now (i - 1) zero_controller).state.outcome) (λ i. take b (get_or controllers.now (i - 1) zero_controller).block) file.now.settings.n) out.new result }
+    ensures { Wrote out.old 0 (names_line ++ results_of file.now b controllers.now) out.new result }
 {
     let mut w = Writer { out, end: 0 };
     w.append(b"controller,outcome,block\n");
@@ -84,7 +70,7 @@ fn write_bad(out: &mut [u8], line: usize) -> usize
 // The output for a file that has its form, where the controllers end like this.
 pub(crate) fn results(file: &SystemFile, controllers: &[Controller; 16]) -> Output
     requires { FileSettings file.now.settings }
-    ensures { (result.bytes ≡ padded 6400 (names_line ++ results (λ i. member file.now.faulty (i - 1)) (λ i. (get_or controllers.now (i - 1) zero_controller).state.outcome) (λ i. take (block_in file.now.settings) (get_or controllers.now (i - 1) zero_controller).block) file.now.settings.n)) × (result.length ≡ length (names_line ++ results (λ i. member file.now.faulty (i - 1)) (λ i. (get_or controllers.now (i - 1) zero_controller).state.outcome) (λ i. take (block_in file.now.settings) (get_or controllers.now (i - 1) zero_controller).block) file.now.settings.n)) }
+    ensures { (result.bytes ≡ padded 6400 (names_line ++ results_of file.now (block_in file.now.settings) controllers.now)) × (result.length ≡ length (names_line ++ results_of file.now (block_in file.now.settings) controllers.now)) }
 {
     let s = file.settings;
     let b = wire::block_length(s.n, s.t, s.k);
