@@ -67,7 +67,7 @@ fn put_sets(s: Sets, sets: &mut [u8])
 }
 
 // The star of rows, with the refusal itself.
-#[tactic(auto, using(star::proofs::Laws::star_of_lem), unfolding(crate::specs::Boards::star_bytes, crate::specs::Boards::star_returned, star::specs::Star::no_sets))]
+#[tactic(auto, using(star::proofs::Laws::star_of_lem, star::proofs::Laws::no_sets_number), unfolding(crate::specs::Boards::star_bytes, crate::specs::Boards::star_returned))]
 fn star(n: usize, t: usize, rows: &[u8], sets: &mut [u8]) -> Result<(), Refusal>
     ensures { returned (number_of result) sets.new ≡ star_bytes n t rows.now sets.old }
 {

@@ -312,3 +312,7 @@ module _ (rows : List ℕ) (n t : ℕ) where
 pub no_sets_lem : (r : ℕ) → ((no_sets r).c ≡ 0) × ((no_sets r).d ≡ 0) × ((no_sets r).f ≡ 0) × ((no_sets r).e ≡ 0)
 unfolding no_sets
 no_sets_lem r = (refl, refl, refl, refl)
+
+pub no_sets_number : (r : ℕ) → (no_sets r).refusal ≡ r
+unfolding no_sets
+no_sets_number r = refl

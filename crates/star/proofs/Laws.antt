@@ -11,7 +11,7 @@
 --   e_neighbours            a member of E has at least 2t + 1 neighbours in F
 --   found-valid             where the core is found the settings are valid
 --   c_size ..               where it is found, C has at least n - 2t members, D n - t, F and E 2t + 1
---   not_found               where it is not, all four sets are empty (no_sets_lem)
+--   not_found               where it is not, all four sets are empty (no_sets_lem; no_sets_number: the number with them)
 --   has_found               where E has a member it is found
 --   clique_found            if at least n - t are pairwise neighbours, the core is found; clique_core, clique_f: E and F contain all of them
 --   same_star               only who are neighbours below n counts, for any neighbour test same_is_star; same_rows: so only the marks
@@ -27,4 +27,4 @@ pub use Rattle.star.proofs.Answer.{refusal_0, 0_refusal, one_sets}
 pub use Rattle.star.proofs.Same.{star_is_one, star_of_lem, star_of-pairs, same_is_star, same_star, same_rows, same_bits, star_of_bits_lem, core_of_bits}
 pub use Rattle.star.proofs.Found.{star_refusal_lem, c-below, d-below, f-below, e-below, c-member, d-member, f-member, e-member, c_neighbours, f_neighbours}
 pub use Rattle.star.proofs.Found.{e_neighbours, found-valid, c_size, d_size, f_size, e_size, not_found, has_found, clique_found, clique_core, clique_f}
-pub use Rattle.star.proofs.Found.{core_correct, one_word, own_place, c_word, no_sets_lem}
+pub use Rattle.star.proofs.Found.{core_correct, one_word, own_place, c_word, no_sets_lem, no_sets_number}
