@@ -15,7 +15,7 @@ use Rattle.bitset.specs.Set.{set_of, inserted}
 use Rattle.bitset.proofs.Laws.{set_empty}
 use Rattle.settings.specs.Valid.{Coded}
 use Rattle.settings.specs.declared.Settings.{Settings}
-use Rattle.system_file.specs.declared.messages.Message.{Message as Said}
+use Rattle.system_file.specs.declared.messages.Said.{Said}
 use Rattle.system_file.specs.declared.messages.Entry.{Entry}
 use Rattle.std.specs.Prelude.{Some, None, Ok, Err}
 use Rattle.system_file.specs.Form.{

@@ -17,7 +17,7 @@ use Rattle.settings.specs.Valid.{Coded, Numbered}
 use Rattle.wire.specs.Length.{message_length}
 use Rattle.wire.proofs.Laws.{length_pos}
 use Rattle.settings.specs.declared.Settings.{Settings}
-use Rattle.system_file.specs.declared.messages.Message.{Message as Said}
+use Rattle.system_file.specs.declared.messages.Said.{Said}
 use Rattle.system_file.specs.Form.{file_limit, is_message, Message, message_at}
 use Rattle.system_file.specs.Steps.{line_in, message_ranges, said, Enters}
 

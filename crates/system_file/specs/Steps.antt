@@ -30,7 +30,7 @@ use Rattle.text.specs.Lines.{line_at, is_ended, next_at, rest, field}
 use Rattle.settings.specs.Valid.{Coded}
 use Rattle.settings.specs.declared.Settings.{Settings}
 use Rattle.system_file.specs.declared.head.Head.{Head}
-use Rattle.system_file.specs.declared.messages.Message.{Message as Said}
+use Rattle.system_file.specs.declared.messages.Said.{Said}
 use Rattle.system_file.specs.declared.messages.Entry.{Entry}
 use Rattle.system_file.specs.declared.FormError.{FormError}
 use Rattle.system_file.specs.Form.{file_limit, is_settings, is_message, Message, message_at, Contents, Read, wrong, right, settings_in}

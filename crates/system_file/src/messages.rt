@@ -11,7 +11,7 @@ use text::lines;
 
 // What a message line says, with the byte of the file where its message starts.
 #[derive(Clone, Copy)]
-pub(crate) struct Message {
+pub(crate) struct Said {
     pub round: usize,
     pub from: usize,
     pub to: usize,
@@ -40,7 +40,7 @@ pub(crate) fn read_messages(
     let mut at = start;
     let mut line: usize = 4;
     let mut faulty: u16 = 0;
-    // no `for`: each line says where the next one starts
+    // no `for`, and `line` counted beside `at`: each line says where the next one starts, and the number of a wrong one is in the answer
     while at < input.len() {
         let Some(entry) = enter_line(input, at, s, places) else {
             return Err(FormError::Line(line));
@@ -74,7 +74,7 @@ fn enter_line(input: &[u8], at: usize, s: Settings, places: &mut [u16]) -> Optio
 }
 
 // The message in a line that stands at `at`.
-fn message_line(l: &[u8], at: usize, s: Settings) -> Option<Message>
+fn message_line(l: &[u8], at: usize, s: Settings) -> Option<Said>
     requires { Coded s.n s.t s.k × (at + length l.now < 2 ^ 64) }
     ensures { result ≡ line_in s l.now at }
 {
@@ -85,7 +85,7 @@ fn message_line(l: &[u8], at: usize, s: Settings) -> Option<Message>
     if !text::is_bytes(message, len) {
         return None;
     }
-    Some(Message {
+    Some(Said {
         round,
         from,
         to,

@@ -1,10 +1,10 @@
-// The table of places: where in the file the message of each round, sender and receiver starts. A place is 0 where there is none: the table's memory is
-// fixed, and the definitions speak of it as numbers (`table_of`).
+// The table of places: where in the file the message of each round, sender and receiver starts. A place is 0 where there is none: the definitions speak of
+// places as numbers (`table_of`, `place_in`), and an Option<u16> would take twice the memory.
 ghost use Rattle.std.specs.Prelude.{◌≡◌, cond, not, Some, None, length};
 ghost use Rattle.system_file.specs.Table.{table_size, table_index, in_table, place_in, some_place};
 ghost use Rattle.system_file.specs.Steps.{is_to, is_taken, is_given, row_with, is_new, table_with, Enters, said};
 
-use crate::messages::Message;
+use crate::messages::Said;
 
 // How many senders the table has for a round, and how many receivers for a sender.
 const WIDTH: usize = 16;
@@ -34,7 +34,7 @@ fn index(r: usize, f: usize, j: usize) -> Option<usize>
 }
 
 // Enters the place of a message, unless one of its receivers has a message of this round from this sender; whether it did.
-pub(crate) fn enter(places: &mut [u16], m: Message) -> bool
+pub(crate) fn enter(places: &mut [u16], m: Said) -> bool
     requires { Enters (said m) × (length places.old ≡ table_size) }
     ensures value { result ≡ is_new places.old (said m) }
     ensures places_after { places.new ≡ cond result (table_with places.old (said m)) places.old }
@@ -43,7 +43,8 @@ pub(crate) fn enter(places: &mut [u16], m: Message) -> bool
     enter_row(&mut places[base..base + WIDTH], m.to, m.place as u16)
 }
 
-// The same in the row of the round and the sender.
+// The same in the row of the round and the sender. The row is a slice of 16, here and below: of what is written through the `&mut [u16; 16]` that
+// `as_mut_array` or `try_from` lends of a slice, a proof knows nothing afterwards.
 fn enter_row(row: &mut [u16], to: usize, place: u16) -> bool
     requires { length row.old ≡ 16 }
     ensures value { result ≡ not (is_given row.old to) }
