@@ -84,7 +84,8 @@ impl Pair<'_> {
         requires { (length self.old.q.now ≡ length self.old.e.now) × (0 < length self.old.q.now) }
         ensures { ratio_of self.new ≡ ratio (reduced c self.old.q.now self.old.e.now) self.old.e.now }
     {
-        // By index: the borrow checker has no rule yet for a call that lends self.q and reads self.e.
+        // By index: `gf256::add_multiple` on self.q with self.e was tried, and its call gets no proof: it lends one field of a struct behind a reference and
+        // reads another.
         let last = self.q.len() - 1;
         for i in 0..last {
             self.q[i] = add(self.q[i + 1], mul(c, self.e[i + 1]));
