@@ -8,48 +8,60 @@
 use std::io;
 use wire::Layout;
 
-// One number c: kinds, phase, message length, inbox and outbox of call c.
-fn line(rt: &impl Print, n: usize, t: usize, k: usize, c: usize) -> io::Result<()> {
-    cases::numbers(
-        rt,
-        b"c",
-        &[
-            c,
-            wire::round_kind(t, c) as usize,
-            wire::call_kind(t, c) as usize,
-            wire::phase(c),
-            wire::message_length(n, t, k, c),
-            wire::inbox_length(n, t, k, c),
-            wire::outbox_length(n, t, k, c),
-        ],
-    )?;
-    cases::newline(rt)
+// Settings, taken or refused.
+#[derive(Clone, Copy)]
+struct Sizes {
+    n: usize,
+    t: usize,
+    k: usize,
 }
 
-// Settings, and how many rounds, calls and bytes of a block they have.
-fn settings(rt: &impl Print, n: usize, t: usize, k: usize) -> io::Result<()> {
-    cases::numbers(
-        rt,
-        b"settings",
-        &[
-            n,
-            t,
-            k,
-            wire::rounds(t),
-            wire::calls(t),
-            wire::block_length(n, t, k),
-        ],
-    )?;
-    cases::newline(rt)
-}
-
-// Settings, and each number from 0 to `last`.
-fn table(rt: &impl Print, n: usize, t: usize, k: usize, last: usize) -> io::Result<()> {
-    settings(rt, n, t, k)?;
-    for c in 0..last {
-        line(rt, n, t, k, c)?;
+impl Sizes {
+    // One number c: kinds, phase, message length, inbox and outbox of call c.
+    fn print_call(self, rt: &impl Print, c: usize) -> io::Result<()> {
+        let Sizes { n, t, k } = self;
+        cases::numbers(
+            rt,
+            b"c",
+            &[
+                c,
+                wire::round_kind(t, c) as usize,
+                wire::call_kind(t, c) as usize,
+                wire::phase(c),
+                wire::message_length(n, t, k, c),
+                wire::inbox_length(n, t, k, c),
+                wire::outbox_length(n, t, k, c),
+            ],
+        )?;
+        cases::newline(rt)
     }
-    Ok(())
+
+    // The settings, and how many rounds, calls and bytes of a block they have.
+    fn print(self, rt: &impl Print) -> io::Result<()> {
+        let Sizes { n, t, k } = self;
+        cases::numbers(
+            rt,
+            b"settings",
+            &[
+                n,
+                t,
+                k,
+                wire::rounds(t),
+                wire::calls(t),
+                wire::block_length(n, t, k),
+            ],
+        )?;
+        cases::newline(rt)
+    }
+
+    // The settings, and each number below `end`.
+    fn print_table(self, rt: &impl Print, end: usize) -> io::Result<()> {
+        self.print(rt)?;
+        for c in 0..end {
+            self.print_call(rt, c)?;
+        }
+        Ok(())
+    }
 }
 
 // Where the message of a slot starts, and its bytes.
@@ -137,47 +149,56 @@ fn reads(rt: &impl Print) -> io::Result<()> {
     )
 }
 
-// Slot j, of messages of two bytes, written with m in a run.
-fn send(
-    rt: &impl Print,
-    name: &[u8],
-    outbox: &mut [u8],
-    run: u16,
-    j: usize,
-    m: &[u8],
-) -> io::Result<()> {
-    wire::send_one(outbox, wire::layout_with(run, 2), j, m);
-    cases::byte_line(rt, name, outbox)
+// An outbox, slots of messages of two bytes, and where all of it is printed after each write.
+#[derive(Drop)]
+struct Written<'a, P: Print> {
+    rt: &'a P,
+    outbox: [u8; 20],
 }
 
-// A message written to n slots.
-fn send_all(rt: &impl Print, name: &[u8], outbox: &mut [u8], run: u16, n: usize) -> io::Result<()> {
-    wire::send_all(outbox, wire::layout_with(run, 2), n, b"\x08\x09");
-    cases::byte_line(rt, name, outbox)
-}
+impl<P: Print> Written<'_, P> {
+    fn print(&self, name: &[u8]) -> io::Result<()> {
+        cases::byte_line(self.rt, name, &self.outbox)
+    }
 
-// Slot 2 becomes the given slot, of whatever run.
-fn relay(rt: &impl Print, name: &[u8], outbox: &mut [u8], run: u16, slot: &[u8]) -> io::Result<()> {
-    wire::relay(outbox, wire::layout_with(run, 2), 2, slot, 1);
-    cases::byte_line(rt, name, outbox)
+    // Slot j, written with m in a run.
+    fn send(&mut self, name: &[u8], run: u16, j: usize, m: &[u8]) -> io::Result<()> {
+        wire::send_one(&mut self.outbox, wire::layout_with(run, 2), j, m);
+        self.print(name)
+    }
+
+    // A message written to n slots.
+    fn send_all(&mut self, name: &[u8], run: u16, n: usize) -> io::Result<()> {
+        wire::send_all(&mut self.outbox, wire::layout_with(run, 2), n, b"\x08\x09");
+        self.print(name)
+    }
+
+    // Slot 2 becomes the given slot, of whatever run.
+    fn relay(&mut self, name: &[u8], run: u16, slot: &[u8]) -> io::Result<()> {
+        wire::relay(&mut self.outbox, wire::layout_with(run, 2), 2, slot, 1);
+        self.print(name)
+    }
 }
 
 // Writes of slots.
 fn writes(rt: &impl Print) -> io::Result<()> {
-    let mut outbox = [7u8; 20];
-    send(rt, b"one", &mut outbox, 258, 2, b"\x05\x06")?;
-    send(rt, b"past", &mut outbox, 258, 5, b"\x08\x09")?;
-    send(rt, b"zero", &mut outbox, 258, 0, b"\x08\x09")?;
-    send(rt, b"too long", &mut outbox, 258, 1, b"\x08\x09\x0a")?;
-    send(rt, b"run 0", &mut outbox, 0, 3, b"\x05\x06")?;
-    send_all(rt, b"not three", &mut outbox, 1, 3)?;
-    send_all(rt, b"all", &mut outbox, 256, 4)?;
-    send_all(rt, b"all", &mut outbox, 65535, 4)?;
-    relay(rt, b"relayed", &mut outbox, 1, b"\x01\x02\x00\x05\x06")?;
-    wire::silence(&mut outbox);
-    cases::byte_line(rt, b"silence", &outbox)?;
-    wire::copy(&mut outbox, b"\x01\x02\x03");
-    cases::byte_line(rt, b"copy", &outbox)
+    let mut w = Written {
+        rt,
+        outbox: [7u8; 20],
+    };
+    w.send(b"one", 258, 2, b"\x05\x06")?;
+    w.send(b"past", 258, 5, b"\x08\x09")?;
+    w.send(b"zero", 258, 0, b"\x08\x09")?;
+    w.send(b"too long", 258, 1, b"\x08\x09\x0a")?;
+    w.send(b"run 0", 0, 3, b"\x05\x06")?;
+    w.send_all(b"not three", 1, 3)?;
+    w.send_all(b"all", 256, 4)?;
+    w.send_all(b"all", 65535, 4)?;
+    w.relay(b"relayed", 1, b"\x01\x02\x00\x05\x06")?;
+    wire::silence(&mut w.outbox);
+    w.print(b"silence")?;
+    wire::copy(&mut w.outbox, b"\x01\x02\x03");
+    w.print(b"copy")
 }
 
 fn main(rt: HostRuntime) -> io::Result<()> {
@@ -198,11 +219,12 @@ fn main(rt: HostRuntime) -> io::Result<()> {
         (16, usize::MAX, 1, 3),
         (16, 5, usize::MAX, 3),
     ];
-    for (n, t, k, last) in tables {
-        table(&rt, n, t, k, last)?;
+    for (n, t, k, end) in tables {
+        Sizes { n, t, k }.print_table(&rt, end)?;
     }
-    line(&rt, 16, 5, 128, usize::MAX)?;
-    line(&rt, 16, usize::MAX, 128, usize::MAX)?;
+    for t in [5, usize::MAX] {
+        Sizes { n: 16, t, k: 128 }.print_call(&rt, usize::MAX)?;
+    }
     reads(&rt)?;
     writes(&rt)
 }
