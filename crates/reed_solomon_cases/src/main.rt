@@ -536,6 +536,9 @@ fn play_all(rt: &impl Print) -> io::Result<()> {
     Ok(())
 }
 
+// Coding and decoding are tried apart, not by one function: two tables, whose columns differ, and two functions of the library, which write to another of
+// the two slices and answer another type.
+
 // Coding with a block and a piece of the lengths in a row. All bytes of both slices count for the digest.
 fn try_encode(rt: &impl Print, row: [usize; 6], block: &[u8], piece: &mut [u8]) -> io::Result<()> {
     let [n, t, k, number, size, end] = row;
