@@ -51,7 +51,7 @@ fn zeros_row(inbox: &Inbox, t: usize, r: usize) -> u16
     ensures { result ≡ set_of inbox.now.n (λ j. zero_seen inbox.now.n t (said inbox.now.slots.now inbox.now.layout inbox.now.n r j)) }
 {
     let said = inbox.rows(r);
-    inbox.row_of(|j| zero_seen(&said, inbox.n, t, j))
+    inbox.row_of(|j| zero_seen(inbox, &said, t, j))
 }
 
 // Row r of where one is seen. One function for this row and that of the zeros would hand the rule on as a closure within a closure: no shorter.
@@ -59,7 +59,7 @@ fn ones_row(inbox: &Inbox, t: usize, r: usize) -> u16
     ensures { result ≡ set_of inbox.now.n (λ j. one_seen inbox.now.n t (said inbox.now.slots.now inbox.now.layout inbox.now.n r j)) }
 {
     let said = inbox.rows(r);
-    inbox.row_of(|j| one_seen(&said, inbox.n, t, j))
+    inbox.row_of(|j| one_seen(inbox, &said, t, j))
 }
 
 // After round 3p + 1: where zero and where one is seen.
@@ -79,7 +79,7 @@ fn held_row(inbox: &Inbox, t: usize, r: usize) -> u16
     ensures { result ≡ set_of inbox.now.n (λ j. held inbox.now.n t (said inbox.now.slots.now inbox.now.layout inbox.now.n (inbox.now.n + r) j)) }
 {
     let ones = inbox.rows(inbox.n + r);
-    inbox.row_of(|j| held_bit(&ones, inbox.n, t, j))
+    inbox.row_of(|j| held_bit(inbox, &ones, t, j))
 }
 
 // Row r of where the count for the bit held is below n - t.
@@ -89,7 +89,7 @@ fn weak_row(inbox: &Inbox, t: usize, r: usize) -> u16
 {
     let zeros = inbox.rows(r);
     let ones = inbox.rows(inbox.n + r);
-    inbox.row_of(|j| weak_bit(&zeros, &ones, inbox.n, t, j))
+    inbox.row_of(|j| weak_bit(inbox, &zeros, &ones, t, j))
 }
 
 // After round 3p + 2: the bits now held, and where their count is below n - t.

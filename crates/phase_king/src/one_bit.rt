@@ -1,55 +1,62 @@
 // The rules for one bit (document 01, 'Rounds': after 3p + 1, 3p + 2 and 3p + 3).
-ghost use Rattle.std.specs.Prelude.{◌≡◌, ◌≤◌};
+ghost use Rattle.std.specs.Prelude.{◌≡◌};
 ghost use Rattle.lists.specs.Sum.{count};
 ghost use Rattle.bitset.specs.Set.{member};
 ghost use Rattle.phase_king.specs.Bit.{zero_seen, one_seen, held, weak, settled};
 ghost use Rattle.phase_king.specs.Matrix.{cell};
 
+use crate::inbox::Inbox;
+
 // How many of the first n rows have bit j. A loop: the chain `rows[..n].iter().filter(..).count()` branches on each bit, and took 2.4 times as long.
-fn count_bit(rows: &[u16; 16], n: usize, j: usize) -> usize
-    requires { n ≤ 16 }
-    ensures { result ≡ count n (λ i. cell rows.now i j) }
+fn count_bit(inbox: &Inbox, rows: &[u16; 16], j: usize) -> usize
+    ensures { result ≡ count inbox.now.n (λ i. cell rows.now i j) }
 {
     let mut c = 0;
-    for i in 0..n {
+    for i in 0..inbox.n {
         c += usize::from(bitset::member(rows[i], j));
     }
     c
 }
 
 // Whether at least n - t say 0 at bit j.
-pub(crate) fn zero_seen(said: &[u16; 16], n: usize, t: usize, j: usize) -> bool
-    requires { n ≤ 16 }
-    ensures { result ≡ zero_seen n t (λ i. cell said.now i j) }
+pub(crate) fn zero_seen(inbox: &Inbox, said: &[u16; 16], t: usize, j: usize) -> bool
+    ensures { result ≡ zero_seen inbox.now.n t (λ i. cell said.now i j) }
 {
-    n.saturating_sub(t) <= n.saturating_sub(count_bit(said, n, j))
+    inbox.n.saturating_sub(t) <= inbox.n.saturating_sub(count_bit(inbox, said, j))
 }
 
 // Whether at least n - t say 1 at bit j.
 #[tactic(auto, unfolding(crate::specs::Bit::one_seen))]
-pub(crate) fn one_seen(said: &[u16; 16], n: usize, t: usize, j: usize) -> bool
-    requires { n ≤ 16 }
-    ensures { result ≡ one_seen n t (λ i. cell said.now i j) }
+pub(crate) fn one_seen(inbox: &Inbox, said: &[u16; 16], t: usize, j: usize) -> bool
+    ensures { result ≡ one_seen inbox.now.n t (λ i. cell said.now i j) }
 {
-    n.saturating_sub(t) <= count_bit(said, n, j)
+    inbox.n.saturating_sub(t) <= count_bit(inbox, said, j)
 }
 
 // The bit held: 1 if more than t have one seen.
 #[tactic(auto, unfolding(crate::specs::Bit::held))]
-pub(crate) fn held_bit(ones: &[u16; 16], n: usize, t: usize, j: usize) -> bool
-    requires { n ≤ 16 }
-    ensures { result ≡ held n t (λ i. cell ones.now i j) }
+pub(crate) fn held_bit(inbox: &Inbox, ones: &[u16; 16], t: usize, j: usize) -> bool
+    ensures { result ≡ held inbox.now.n t (λ i. cell ones.now i j) }
 {
-    t < count_bit(ones, n, j)
+    t < count_bit(inbox, ones, j)
 }
 
 // Whether the count for the bit held is below n - t.
-pub(crate) fn weak_bit(zeros: &[u16; 16], ones: &[u16; 16], n: usize, t: usize, j: usize) -> bool
-    requires { n ≤ 16 }
-    ensures { result ≡ weak n t (λ i. cell zeros.now i j) (λ i. cell ones.now i j) }
+pub(crate) fn weak_bit(
+    inbox: &Inbox,
+    zeros: &[u16; 16],
+    ones: &[u16; 16],
+    t: usize,
+    j: usize,
+) -> bool
+    ensures { result ≡ weak inbox.now.n t (λ i. cell zeros.now i j) (λ i. cell ones.now i j) }
 {
-    let counted = if held_bit(ones, n, t, j) { ones } else { zeros };
-    count_bit(counted, n, j) < n.saturating_sub(t)
+    let counted = if held_bit(inbox, ones, t, j) {
+        ones
+    } else {
+        zeros
+    };
+    count_bit(inbox, counted, j) < inbox.n.saturating_sub(t)
 }
 
 // Bit j after round 3p + 3.

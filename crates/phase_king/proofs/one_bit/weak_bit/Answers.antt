@@ -16,9 +16,9 @@ returns c =
     (c.count_bit.ensures
     ∙ elim c.if-held_bit.branch [
       | then-held_bit w ↦
-          ap (λ (m : Bor (List ℕ)). count a.n (λ i. cell m.now i a.j)) w.counted-is
+          ap (λ (m : Bor (List ℕ)). count a.inbox.now.n (λ i. cell m.now i a.j)) w.counted-is
           ∙ sym (cond_yes _ _ _ (sym c.held_bit.ensures ∙ w.if-held_bit.true))
       | else-held_bit w ↦
-          ap (λ (m : Bor (List ℕ)). count a.n (λ i. cell m.now i a.j)) w.counted-is
+          ap (λ (m : Bor (List ℕ)). count a.inbox.now.n (λ i. cell m.now i a.j)) w.counted-is
           ∙ sym (cond_no _ _ _ (sym c.held_bit.ensures ∙ w.if-held_bit.false))
     ]) c.saturating_sub.ensures
