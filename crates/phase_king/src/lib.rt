@@ -1,6 +1,8 @@
 // The vote among the controllers on a matrix of marks, bit by bit (document 01, 'Rounds', call 4 and rounds 3p + 1 to 3p + 3; Berman, Garay
 // and Perry). Index i is controller i + 1; a king is named by its number. Every function is total: a number n over 16 counts as 16.
 // What slots say is in inbox.rt, the rules for one bit in one_bit.rt, what is sent in send.rt.
+// The public functions take the inbox's bytes, its layout and n one by one, as their clauses do (`collect_answer inbox.now layout n`).
+// t stands beside the private functions' &Inbox: `collect` and `settle` make an Inbox too and have no t.
 #![tactic(auto)]
 
 mod inbox;
@@ -23,6 +25,8 @@ pub struct Matrix {
     pub rows: [u16; 16],
 }
 
+// The matrices of Seen and of Held stay apart: `settle` and `send_seen` take them one by one, as their clauses name each.
+
 // Where zero is seen and where one is seen.
 #[derive(Clone, Copy)]
 pub struct Seen {
@@ -30,7 +34,7 @@ pub struct Seen {
     pub ones: [u16; 16],
 }
 
-// The bits now held, and where their count is below n - t. `settle` and `send_seen` take such matrices one by one: their clauses name each.
+// The bits now held, and where their count is below n - t.
 #[derive(Clone, Copy)]
 pub struct Held {
     pub rows: [u16; 16],
@@ -92,7 +96,9 @@ fn weak_row(inbox: &Inbox, t: usize, r: usize) -> u16
     inbox.row_of(|j| weak_bit(inbox, &zeros, &ones, t, j))
 }
 
-// After round 3p + 2: the bits now held, and where their count is below n - t.
+// After round 3p + 2: the bits now held, and where their count is below n - t. It has the shape of `tally`, but each fills a struct of its
+// own and has a clause of its own (`tally_answer`, `hold_answer`): one function of both would take the two row functions and give back a
+// pair to be named, no shorter.
 // Shut out: weak where the count is n - t; must-fail/ones_at_least_t.
 pub fn hold(inbox: &[u8], layout: Layout, n: usize, t: usize) -> Held
     ensures { result ≡ hold_answer inbox.now layout n t }

@@ -1,4 +1,5 @@
-// The rules for one bit (document 01, 'Rounds': after 3p + 1, 3p + 2 and 3p + 3).
+// The rules for one bit (document 01, 'Rounds': after 3p + 1, 3p + 2 and 3p + 3). They take n from the inbox, t and the slots' rows one by
+// one, as the definitions do (`zero_seen n t said`): each clause is a definition's.
 ghost use Rattle.std.specs.Prelude.{◌≡◌};
 ghost use Rattle.lists.specs.Sum.{count};
 ghost use Rattle.bitset.specs.Set.{member};
@@ -7,15 +8,11 @@ ghost use Rattle.phase_king.specs.Matrix.{cell};
 
 use crate::inbox::Inbox;
 
-// How many of the first n rows have bit j. A loop: the chain `rows[..n].iter().filter(..).count()` branches on each bit, and took 2.4 times as long.
+// How many of the first n rows have bit j.
 fn count_bit(inbox: &Inbox, rows: &[u16; 16], j: usize) -> usize
     ensures { result ≡ count inbox.now.n (λ i. cell rows.now i j) }
 {
-    let mut c = 0;
-    for i in 0..inbox.n {
-        c += usize::from(bitset::member(rows[i], j));
-    }
-    c
+    bitset::size(inbox.row_of(|i| bitset::member(rows[i], j)))
 }
 
 // Whether at least n - t say 0 at bit j.
