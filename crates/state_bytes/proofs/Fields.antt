@@ -8,16 +8,19 @@ use native.Mathlib.Nat.{le_of_eq}
 use native.Mathlib.Numerals.{add-one}
 use native.Mathlib.Omega.{arith}
 use borrow.Rule.Slice.PartMut.{put_mid}
-use lib.Dec.{leb, leb→le}
+use borrow.Author.Tests.{eq-eqb, ne_eqb}
+use lib.Dec.{eqb, leb, leb→le}
+use mathlib.Core.Bool.{cond}
 use lib.ListN.{length, get_or, take, drop, length-append, length-drop, drop_of_length-le, get_or-eq_default}
 use lib.Seq.{length-take-le, drop_at, take_all, take-append-le, drop-append-le}
 use Rattle.lists.specs.Fill.{filled}
 use Rattle.lists.specs.Join.{joined}
+use Rattle.lists.specs.Sum.{sum}
 use Rattle.lists.proofs.Sums.{below_suc, sum_none, sum_more, sum-suc, sum_le, sum_const}
 use Rattle.lists.proofs.Joins.{joined_none, joined_more}
 use Rattle.lists.proofs.Parts.{put_next}
 use Rattle.lists.proofs.Table.{below_at}
-use Rattle.lists.proofs.Tests.{lt_or_le}
+use Rattle.lists.proofs.Tests.{cond_yes, cond_no, lt_or_le}
 use Rattle.bitset.specs.Row.{row_byte, row_of, rows_of}
 use Rattle.bitset.proofs.Laws.{length_rows_few, rows_written}
 use Rattle.reconstruction.specs.declared.Outcome.{Outcome}
@@ -66,6 +69,18 @@ field-within (suc n) i h =
     (λ (e : i ≡ n). subst (λ (x : ℕ). offset x + width_of x ≤ offset (suc n)) (sym e) (le_of_eq (sym (offset-suc n))))
     (λ (l : i < n). omega (arith, field-within n i l, offset-suc n))
     (below_suc h)
+
+pub state_length_is : state_length ≡ 119
+unfolding offset width_of sum
+state_length_is = refl
+
+-- whether bytes are as many as a state's
+module _ {A : Type 0} (bytes : List ℕ) (x y : A) where
+  pub if-state : length bytes ≡ 119 → cond (eqb (length bytes) state_length) x y ≡ x
+  if-state h = cond_yes (eqb (length bytes) state_length) x y (eq-eqb (length bytes) state_length (h ∙ sym state_length_is))
+
+  pub if-other : (length bytes ≡ 119 → ⊥) → cond (eqb (length bytes) state_length) x y ≡ y
+  if-other h = cond_no (eqb (length bytes) state_length) x y (ne_eqb (length bytes) state_length (λ (e : length bytes ≡ state_length). h (e ∙ state_length_is)))
 
 -- ---- the bytes of a field
 -- as many as its width

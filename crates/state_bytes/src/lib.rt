@@ -17,6 +17,9 @@ const FIELDS: usize = 12;
 // those named, run number.
 const WIDTHS: [usize; FIELDS] = [8, 8, 8, 8, 8, 8, 1, 32, 32, 2, 2, 2];
 
+// How many bytes a state takes: `length` ties it to the widths.
+const LENGTH: usize = 119;
+
 // The width of field i.
 fn width(i: usize) -> usize
     requires { i < length widths }
@@ -42,7 +45,7 @@ fn offset(i: usize) -> usize
 pub fn length() -> usize
     ensures { result ≡ state_length }
 {
-    offset(FIELDS)
+    LENGTH
 }
 
 // The low bytes of x, the lowest first.
@@ -79,8 +82,7 @@ fn put_field(bytes: &mut [u8], s: State, i: usize)
 }
 
 // Writes the fields one behind the other.
-fn put_fields(bytes: &mut [u8], s: State)
-    requires { length bytes.old ≡ state_length }
+fn put_fields(bytes: &mut [u8; LENGTH], s: State)
     ensures { bytes.new ≡ state_bytes s }
 {
     let mut a = 0;
@@ -96,7 +98,7 @@ fn put_fields(bytes: &mut [u8], s: State)
 pub fn write(s: State, bytes: &mut [u8])
     ensures { bytes.new ≡ cond (eqb (length bytes.old) state_length) (state_bytes s) bytes.old }
 {
-    if bytes.len() == length() {
+    if let Some(bytes) = bytes.as_mut_array() {
         put_fields(bytes, s);
     }
 }
@@ -114,8 +116,8 @@ fn get(bytes: &[u8]) -> usize
 }
 
 // Field i in the bytes of a state.
-fn field(bytes: &[u8], i: usize) -> &[u8]
-    requires { (length bytes.now ≡ state_length) × (i < length widths) }
+fn field(bytes: &[u8; LENGTH], i: usize) -> &[u8]
+    requires { i < length widths }
     ensures { result.now ≡ field_in bytes.now i }
 {
     let a = offset(i);
@@ -124,16 +126,15 @@ fn field(bytes: &[u8], i: usize) -> &[u8]
 }
 
 // The number in field i, one of the first six.
-fn field_number(bytes: &[u8], i: usize) -> usize
-    requires { (length bytes.now ≡ state_length) × (i < 6) }
+fn field_number(bytes: &[u8; LENGTH], i: usize) -> usize
+    requires { i < 6 }
     ensures { result ≡ field_number bytes.now i }
 {
     get(field(bytes, i))
 }
 
 // The run number, in the two bytes of field 11.
-fn run_number(bytes: &[u8]) -> u16
-    requires { length bytes.now ≡ state_length }
+fn run_number(bytes: &[u8; LENGTH]) -> u16
     ensures { result ≡ field_number bytes.now 11 }
 {
     let f = field(bytes, 11);
@@ -141,8 +142,7 @@ fn run_number(bytes: &[u8]) -> u16
 }
 
 // The outcome in the one byte of field 6.
-fn outcome(bytes: &[u8]) -> Outcome
-    requires { length bytes.now ≡ state_length }
+fn outcome(bytes: &[u8; LENGTH]) -> Outcome
     ensures { result ≡ outcome_from (field_number bytes.now 6) }
 {
     Outcome::from(field(bytes, 6)[0])
@@ -160,10 +160,9 @@ pub fn get_rows(bytes: &[u8]) -> [u16; 16]
     rows
 }
 
-// The state in a buffer of its length.
+// The state in the bytes of one.
 #[tactic(auto, unfolding(crate::specs::State::state_in))]
-fn state_in(bytes: &[u8]) -> State
-    requires { length bytes.now ≡ state_length }
+fn state_in(bytes: &[u8; LENGTH]) -> State
     ensures { result ≡ state_in bytes.now }
 {
     State {
@@ -190,9 +189,8 @@ fn state_in(bytes: &[u8]) -> State
 pub fn read(bytes: &[u8]) -> State
     ensures { result ≡ state_of bytes.now }
 {
-    if bytes.len() == length() {
-        state_in(bytes)
-    } else {
-        protocol::zero_state()
+    match bytes.as_array() {
+        Some(bytes) => state_in(bytes),
+        None => protocol::zero_state(),
     }
 }

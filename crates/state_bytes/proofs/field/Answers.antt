@@ -1,5 +1,5 @@
 -- `state_bytes::field` meets its contract: the part that starts at the field's offset.
-use Rattle.state_bytes.proofs.Fields.{width_le, offset_le, field-within, part_field}
+use Rattle.state_bytes.proofs.Fields.{width_le, offset_le, state_length_is, field-within, part_field}
 use Rattle.state_bytes.specs.State.{widths}
 use lib.ListN.{length}
 use native.Mathlib.Omega.{arith}
@@ -12,7 +12,7 @@ overflow_add-e c =
 
 pub slice_bounds-result-end : goal.slice_bounds-result-end
 slice_bounds-result-end c =
-    omega (arith, c.offset-a.ensures, c.width.ensures, c.requires.0, field-within (length widths) c.args.i c.requires.1)
+    omega (arith, c.offset-a.ensures, c.width.ensures, state_length_is, field-within (length widths) c.args.i c.requires)
 
 pub returns : goal.returns
 returns c =

@@ -1,5 +1,5 @@
 -- `state_bytes::field_number` meets its contract.
-use Rattle.state_bytes.proofs.Fields.{number-width_le, length-field}
+use Rattle.state_bytes.proofs.Fields.{number-width_le, state_length_is, length-field}
 use Rattle.state_bytes.specs.State.{number_of}
 use lib.ListN.{length}
 use native.Mathlib.Omega.{arith}
@@ -11,8 +11,8 @@ get-requires c =
     let a = c.args in
     omega (
       arith,
-      ap length c.field.ensures ∙ length-field a.bytes.now a.i c.requires.0 (omega (arith, c.requires.1)),
-      number-width_le a.i (omega (arith, c.requires.1)),
+      ap length c.field.ensures ∙ length-field a.bytes.now a.i (omega (arith, state_length_is)) (omega (arith, c.requires)),
+      number-width_le a.i (omega (arith, c.requires)),
     )
 
 pub returns : goal.returns
