@@ -1,5 +1,8 @@
 // One stripe by itself, from the values at the points of the present slots: guesses through one set of points after the other, and interpolation with
 // errors where all of them fail.
+// The values ys and the points xs are two parameters, with their lengths in the contracts: in a struct of both, `try_guesses` and `find` would have to ask
+// that its points are those of `pieces` in place of the length. ys and m are two: in one struct behind a reference, a call that lends m and reads ys has no
+// proof. pieces, s and marks are three: those of a decoding, of a stripe, and of what is known so far, of which `gather` and `guess_stripe` take others.
 ghost use Rattle.std.specs.Prelude.{◌≡◌, true, ◌+◌, ◌≤◌, length, OnSome};
 ghost use Rattle.reed_solomon.specs.Decode.{received};
 ghost use Rattle.reed_solomon.specs.Steps.{column, values_at, unequal, different, is_right, Settled};
