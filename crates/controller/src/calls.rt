@@ -20,7 +20,7 @@ fn core_of(rows: &[u16; 16], n: usize, t: usize) -> u16
     }
 }
 
-// A state with a call to come that the table does not refuse.
+// A state with a call to come that the table does not refuse. What is lent for the call stays parameters: of it each call takes what its definition names.
 #[derive(Clone, Copy)]
 pub(crate) struct Pending {
     pub(crate) state: State,

@@ -69,6 +69,8 @@ struct Case {
     ghost short: { k ≤ 128 },
 }
 
+// An index below 16 stays a number with a `requires` below: a struct of it would be made at every turn of a loop.
+
 // What decoding answers.
 type Answer = Result<Option<u16>, Refusal>;
 

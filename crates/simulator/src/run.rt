@@ -28,7 +28,7 @@ impl Controller {
     }
 }
 
-// What is played: the bytes of a file, and what they say.
+// What is played: the bytes of a file, and what they say. A call's number, a controller's and what all hold stay parameters, as `called` has them.
 #[derive(Clone, Copy)]
 pub(crate) struct Script<'a> {
     pub input: &'a [u8],
@@ -46,7 +46,7 @@ fn state_of(answer: Result<State, Refused>) -> State
     }
 }
 
-// A step of a controller whose block has b bytes, with a cleared outbox of o bytes.
+// A step of a controller whose block has b bytes, with a cleared outbox of o bytes. How long they are at most is asked where an array is cut.
 fn step(before: Controller, b: usize, o: usize, inbox: &[u8]) -> Controller
     requires { (b ≤ 192) × (o ≤ 3120) }
     ensures { held result b o ≡ taken (step_of before.state (take b before.block) inbox.now (replicate o 0)) }

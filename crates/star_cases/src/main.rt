@@ -50,7 +50,7 @@ struct Graph {
 }
 
 impl Graph {
-    // Whether i and j, i the smaller, are to be no neighbours.
+    // Whether i and j, i the smaller, are to be no neighbours. A kind is the number that is printed; 9 to 15 and 28 on differ in a chance alone.
     fn is_apart(self, i: usize, j: usize) -> bool {
         let Graph { k, n, t } = self;
         match k {

@@ -177,7 +177,7 @@ impl Turn {
         }
     }
 
-    // The call of index j after the round.
+    // The call of index j after the round. The match is by the round's kind; each arm is another function of the library.
     fn call(self, inbox: &[u8], own: &mut Controller, j: usize) {
         let Turn { vote, c, layout } = self;
         match self.kind() {
