@@ -40,10 +40,16 @@ width_le i =
     (λ (h : length widths ≤ i). rw (get_or-eq_default widths 0 {n = i} h) (omega arith))
     (lt_or_le i (length widths))
 
--- the first seven fields fit a number of 64 bits
-pub number-width_le : (i : ℕ) → i < 7 → width_of i ≤ 8
+-- the first six fields are of eight bytes
+pub number-width_is : (i : ℕ) → i < 6 → width_of i ≡ 8
 unfolding width_of
-number-width_le i h = leb→le (get_or widths i 0) 8 (below_at 7 (λ j. leb (get_or widths j 0) 8) tt i h)
+number-width_is zero h = refl
+number-width_is (suc zero) h = refl
+number-width_is (suc (suc zero)) h = refl
+number-width_is (suc (suc (suc zero))) h = refl
+number-width_is (suc (suc (suc (suc zero)))) h = refl
+number-width_is (suc (suc (suc (suc (suc zero))))) h = refl
+number-width_is (suc (suc (suc (suc (suc (suc i)))))) h = absurd (omega arith)
 
 pub offset_none : offset 0 ≡ 0
 unfolding offset

@@ -24,7 +24,7 @@ use Rattle.state_bytes.specs.State.{little_endian, number_of, widths, width_of, 
 use Rattle.reconstruction.specs.Outcomes.{outcome_from}
 use Rattle.state_bytes.specs.State.{field_number, state_in, state_of, Words}
 use Rattle.state_bytes.proofs.Digits.{number_lt, number_back}
-use Rattle.state_bytes.proofs.Fields.{number-field, length_fields, field_read, made}
+use Rattle.state_bytes.proofs.Fields.{number-width_is, number-field, length_fields, field_read, made}
 
 -- the bytes of a state have the stated length
 pub length_state : (s : State) → length (state_bytes s) ≡ state_length
@@ -36,21 +36,10 @@ field_back : (s : State) (i : ℕ) → i < length widths → field_in (state_byt
 unfolding state_bytes field_in
 field_back s i h = field_read s (length widths) i h
 
--- a number below 2 ^ 64 fits each of the first six fields
-number-width : (i : ℕ) → i < 6 → 2 ^ 64 ≡ 256 ^ width_of i
-unfolding width_of
-number-width zero h = refl
-number-width (suc zero) h = refl
-number-width (suc (suc zero)) h = refl
-number-width (suc (suc (suc zero))) h = refl
-number-width (suc (suc (suc (suc zero)))) h = refl
-number-width (suc (suc (suc (suc (suc zero))))) h = refl
-number-width (suc (suc (suc (suc (suc (suc i)))))) h = absurd (omega arith)
-
 number_read_lem : (s : State) → Words s → (i : ℕ) → i < 6 → get_or (six_numbers s) i 0 ≡ field_number (state_bytes s) i
 number_read_lem s w i h =
     let x = get_or (six_numbers s) i 0 in
-    let fits : x < 256 ^ width_of i = subst (λ (m : ℕ). x < m) (number-width i h) (w.numbers i) in
+    let fits : x < 256 ^ width_of i = subst (λ (m : ℕ). x < 256 ^ m) (sym (number-width_is i h)) (w.numbers i) in
     sym (ap number_of (field_back s i (omega arith) ∙ number-field s i h) ∙ number_back (width_of i) x fits)
 
 outcome_back : (w : Outcome) → outcome_from (number_of (little_endian (width_of 6) (outcome_number w))) ≡ w

@@ -4,7 +4,7 @@
 ghost use Rattle.std.specs.Prelude.{◌≡◌, cond, ◌<◌, ◌≤◌, eqb, length};
 ghost use Rattle.bitset.specs.Row.{rows_in};
 ghost use Rattle.reconstruction.specs.Outcomes.{outcome_from};
-ghost use Rattle.state_bytes.specs.State.{little_endian, number_of, widths, width_of, offset, state_length, field_bytes, state_bytes, field_in, field_number, state_in, state_of};
+ghost use Rattle.state_bytes.specs.State.{little_endian, widths, width_of, offset, state_length, field_bytes, state_bytes, field_in, field_number, state_in, state_of};
 
 use protocol::State;
 use reconstruction::Outcome;
@@ -48,7 +48,7 @@ pub fn length() -> usize
     LENGTH
 }
 
-// The low bytes of x, the lowest first.
+// The low bytes of x, the lowest first. By `to_le_bytes` tried: it asks for a bound of 8 bytes, whose proof at the ten calls in `put_field` did not close.
 fn put(bytes: &mut [u8], x: usize)
     ensures { bytes.new ≡ little_endian (length bytes.old) x }
 {
@@ -103,18 +103,6 @@ pub fn write(s: State, bytes: &mut [u8])
     }
 }
 
-// The number that bytes stand for, the lowest first.
-fn get(bytes: &[u8]) -> usize
-    requires { length bytes.now ≤ 8 }
-    ensures { result ≡ number_of bytes.now }
-{
-    let mut x = 0;
-    for i in (0..bytes.len()).rev() {
-        x = 256 * x + usize::from(bytes[i]);
-    }
-    x
-}
-
 // Field i in the bytes of a state.
 fn field(bytes: &[u8; LENGTH], i: usize) -> &[u8]
     requires { i < length widths }
@@ -130,7 +118,7 @@ fn field_number(bytes: &[u8; LENGTH], i: usize) -> usize
     requires { i < 6 }
     ensures { result ≡ field_number bytes.now i }
 {
-    get(field(bytes, i))
+    usize::from_le_bytes(field(bytes, i).try_into().unwrap())
 }
 
 // The run number, in the two bytes of field 11.
