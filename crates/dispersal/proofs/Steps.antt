@@ -1,14 +1,13 @@
 -- Laws that the proofs of the code share. The main one: `paired`, the message of the own piece and piece j.
 use mathlib.Core.Path.{◌≡◌, sym, ap, ap₂, ◌∙◌}
-use mathlib.Core.Bool.{true, false, not, ◌&&◌}
+use mathlib.Core.Bool.{false, not, ◌&&◌}
 use mathlib.Core.List.{List, ◌++◌, append-nil}
 use Prim.Native.Nat.{ℕ, ◌+◌, ◌-◌, ◌*◌, ◌≤◌, ◌<◌}
 use native.Mathlib.Omega.{arith}
-use borrow.Author.Tests.{eq-eqb, ne_eqb}
+use borrow.Author.Tests.{ne_eqb}
 use lib.Dec.{eqb}
 use lib.ListN.{length, take, drop, replicate, length-append, length-take, length-drop, drop_of_length-le}
 use lib.Seq.{take_at, drop_at, drop-drop, length-take-le}
-use Rattle.std.specs.Prelude.{Result, is_ok}
 use Rattle.lists.specs.Same.{same}
 use Rattle.lists.proofs.Tests.{and_tail, or_tail}
 use Rattle.lists.proofs.Sames.{no_same}
@@ -18,11 +17,8 @@ use Rattle.wire.specs.declared.Round.TheVariants.{Pieces}
 use Rattle.wire.specs.Length.{kind_length}
 use Rattle.wire.proofs.Laws.{kind_length_is, row_pieces, Sized, sized_bytes}
 use Rattle.settings.specs.Valid.{Coded}
-use Rattle.settings.specs.declared.Refusal.{Refusal}
-use Rattle.settings.specs.Number.{number_of}
-use Rattle.settings.proofs.Laws.{ok_0}
-use Rattle.reed_solomon.specs.Encode.{piece_of, Encoded, encoded, encode_of, Coding}
-use Rattle.reed_solomon.proofs.Laws.{encode_valid, length_piece}
+use Rattle.reed_solomon.specs.Encode.{piece_of}
+use Rattle.reed_solomon.proofs.Laws.{length_piece}
 use Rattle.dispersal.specs.Dispersal.{two_pieces, is_marked}
 use Rattle.dispersal.proofs.Calls.{two_pieces_is}
 
@@ -31,17 +27,6 @@ pub kind_pieces : {n t k : ℕ} → Coded n t k → kind_length Pieces n t k ≡
 kind_pieces {n} {t} {k} v = kind_length_is v Pieces ∙ row_pieces n t k
 
 -- ---- pieces
--- coding within the settings is carried out
-module _ {n t k j : ℕ} {b : List ℕ} (v : Coding n t k j b) (r : Result Unit Refusal) (p q : List ℕ) (l : length p ≡ k)
-    (e : encoded (number_of r) q ≡ encode_of n t k j b p) where
-  done : encoded (number_of r) q ≡ encoded 0 (piece_of k t b j)
-  done = e ∙ encode_valid n t k j b p v.coded v.number v.size l
-
-  pub coded_ok : is_ok r ≡ true
-  coded_ok = ok_0 r ∙ eq-eqb (number_of r) 0 (ap (λ (x : Encoded). x.number) done)
-
-  pub coded_piece : q ≡ piece_of k t b j
-  coded_piece = ap (λ (x : Encoded). x.piece) done
 
 -- the k bytes of m from a on
 module _ (a k : ℕ) (m : List ℕ) where

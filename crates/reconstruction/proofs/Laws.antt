@@ -14,9 +14,9 @@
 --     finished-refused                   decoding refused: open, and the block as it was
 --     finished_answers                   what decoding answers and leaves is what the last call sets
 --     finished_lt                        the marks are 16 bits
---     agreed-number                      agreed is known by its number
+--     agreed-number                      agreed is known by its number; outcome_back: the number of an outcome gives it back
 --   Inboxes with one message in each slot
 --     shared_same, finished_same         give one piece to send, and one ending
 pub use Rattle.reconstruction.proofs.Rounds.{in_core_lem, kind_forward, kind_rebuild, forwarded-member, forwarded_other, own_member, own_other}
 pub use Rattle.reconstruction.proofs.Rounds.{length_chosen, chosen_each, chosen, shared_sends, shared_none, finished_none, finished-agreed}
-pub use Rattle.reconstruction.proofs.Rounds.{finished-beyond, finished-refused, finished_answers, finished_lt, agreed-number, shared_same, finished_same}
+pub use Rattle.reconstruction.proofs.Rounds.{finished-beyond, finished-refused, finished_answers, finished_lt, agreed-number, outcome_back, shared_same, finished_same}

@@ -33,7 +33,7 @@ use Rattle.reconstruction.specs.declared.Outcome.TheVariants.{Open, None}
 use Rattle.reconstruction.specs.declared.Outcome.TheVariants as outcome
 use Rattle.reconstruction.specs.Reconstruction.{in_core, forwarded, votes, is_chosen, chosen_piece, own_piece, sent_piece, shared, ending, finish}
 use Rattle.reconstruction.specs.Reconstruction.{finished_by, finished, FinishedAgreed, FinishedBeyond}
-use Rattle.reconstruction.specs.Outcomes.{outcome_number}
+use Rattle.reconstruction.specs.Outcomes.{outcome_number, outcome_from}
 use Rattle.reconstruction.specs.declared.Ending.{Ending}
 
 -- membership by number
@@ -278,6 +278,13 @@ module _ (layout : Layout) (inbox other : List ℕ) (h : SameMessages layout inb
       by_same n t len (option.some B) = ap (λ (m : ℕ). finish (ending outcome.Agreed m) B) (named_same layout inbox other h n t B)
 
 -- agreed is known by its number
+pub outcome_back : (w : Outcome) → outcome_from (outcome_number w) ≡ w
+unfolding outcome_from
+outcome_back outcome.Open = refl
+outcome_back outcome.Agreed = refl
+outcome_back outcome.None = refl
+outcome_back outcome.Beyond = refl
+
 pub agreed-number : (w : Outcome) → outcome_number w ≡ outcome_number outcome.Agreed → w ≡ outcome.Agreed
 agreed-number Open e = absurd (omega (arith, e))
 agreed-number outcome.Agreed e = refl

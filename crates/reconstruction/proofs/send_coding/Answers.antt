@@ -1,5 +1,6 @@
 -- `send_coding` meets its contract.
-use Rattle.reconstruction.proofs.Pieces.{coded_ok, coded_piece, pieces, sized_pieces}
+use Rattle.reed_solomon.proofs.Laws.{coded_ok, coded_piece}
+use Rattle.reconstruction.proofs.Pieces.{pieces, sized_pieces}
 use Rattle.reed_solomon.specs.Encode.{piece_of, Coding}
 use Rattle.wire.proofs.Laws.{slots_start, put_next_slot}
 use Rattle.wire.specs.Slot.{width, bytes}

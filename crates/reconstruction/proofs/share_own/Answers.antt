@@ -1,5 +1,5 @@
 -- `share_own` meets its contract.
-use Rattle.reconstruction.proofs.Pieces.{coded_ok, coded_piece}
+use Rattle.reed_solomon.proofs.Laws.{coded_ok, coded_piece}
 use Rattle.reconstruction.proofs.Choice.{sent_some}
 use Rattle.reed_solomon.proofs.Laws.{length_piece}
 use Rattle.reed_solomon.specs.Encode.{piece_of}

@@ -1,5 +1,6 @@
 -- `Coder::write_piece` meets its contract.
-use Rattle.dispersal.proofs.Steps.{coded_ok, coded_piece, length-part, put_piece}
+use Rattle.reed_solomon.proofs.Laws.{coded_ok, coded_piece}
+use Rattle.dispersal.proofs.Steps.{length-part, put_piece}
 use Rattle.reed_solomon.specs.Encode.{Coding}
 use Rattle.dispersal.proofs.Coder.write_piece.Goals as goal
 
