@@ -1,11 +1,14 @@
 -- Laws of numbers as bytes. The main one: `number_back`, what w bytes hold of a number below 256 ^ w is the number.
-use mathlib.Core.Path.{◌≡◌, refl, sym, ap, subst, ◌∙◌}
+use lib.ListN.{take}
+use native.Mathlib.Nat.{le_of_suc-le-suc, div-div-eq-div-mul}
+use mathlib.Core.Path.{sym}
+use Rattle.std.specs.Int.{to_le_bytes, bytes_low_first}
+use mathlib.Core.Path.{◌≡◌, refl, ap, ◌∙◌}
 use mathlib.Core.List.{List, [], ◌∷◌}
-use Prim.Native.Nat.{ℕ, zero, suc, ◌+◌, ◌-◌, ◌*◌, ◌/◌, ◌%◌, ◌^◌, ◌<◌}
+use Prim.Native.Nat.{ℕ, zero, suc, ◌+◌, ◌*◌, ◌/◌, ◌%◌, ◌^◌, ◌≤◌, ◌<◌}
 use native.Mathlib.Omega.{arith}
 use native.Mathlib.Nat.{pow-suc}
-use native.Mathlib.Numerals.{add-one}
-use lib.ListN.{length, get_or, drop}
+use lib.ListN.{length, get_or}
 use Rattle.std.specs.Int.{w64, from_le_bytes}
 use Rattle.state_bytes.specs.State.{little_endian, number_of}
 
@@ -13,25 +16,6 @@ pub length_digits : (w x : ℕ) → length (little_endian w x) ≡ w
 unfolding little_endian
 length_digits zero x = refl
 length_digits (suc w) x = ap suc (length_digits w (x / 256))
-
--- ---- one byte more
-no_cons : {y : ℕ} {r : List ℕ} → [] ≡ y ∷ r → ⊥
-no_cons e = omega (arith, ap length e)
-
-head_and_rest : (w x : ℕ) (l : List ℕ) (i : ℕ) → drop i l ≡ little_endian (suc w) x → (get_or l i 0 ≡ x % 256) × (drop (suc i) l ≡ little_endian w (x / 256))
-unfolding little_endian
-head_and_rest w x [] zero e = absurd (no_cons e)
-head_and_rest w x (y ∷ l) zero e = (ap (λ (r : List ℕ). get_or r 0 0) e, ap (drop 1) e)
-head_and_rest w x [] (suc i) e = absurd (no_cons e)
-head_and_rest w x (y ∷ l) (suc i) e = head_and_rest w x l i e
-
--- a turn of the loop that writes: the bytes from i on are those of the number x
-pub digit_next : (n x : ℕ) (l : List ℕ) (i : ℕ) → i < n → drop i l ≡ little_endian (n - i) x
-    → (get_or l i 0 ≡ x % 256) × (drop (i + 1) l ≡ little_endian (n - (i + 1)) (x / 256))
-digit_next n x l i h e =
-    let m : n - i ≡ suc (n - (i + 1)) = omega arith in
-    let d = head_and_rest (n - (i + 1)) x l i (e ∙ ap (λ (w : ℕ). little_endian w x) m) in
-    (d.0, subst (λ (j : ℕ). drop j l ≡ little_endian (n - (i + 1)) (x / 256)) (sym (add-one i)) d.1)
 
 -- ---- the bound of a number
 pub number_lt : (l : List ℕ) → ((i : ℕ) → get_or l i 0 < 256) → number_of l < 256 ^ length l
@@ -62,7 +46,29 @@ number_back (suc w) x h =
     let l : x / 256 < 256 ^ w = omega (arith, pow-suc 256 w) in
     ap (λ (y : ℕ). x % 256 + 256 * y) (number_back w (x / 256) l) ∙ omega arith
 
--- ---- the number of eight bytes, as the library reads them
+-- ---- the numbers of eight bytes, as the library has them
+digits_from : (i k x : ℕ) → bytes_low_first (suc i) k x ≡ little_endian k (x / 256 ^ suc i)
+unfolding little_endian
+digits_from i zero x = refl
+digits_from i (suc k) x =
+    ap (λ (l : List ℕ). x / 256 ^ suc i % 256 ∷ l)
+    (digits_from (suc i) k x
+    ∙ ap (little_endian k) (ap (λ (m : ℕ). x / m) (pow-suc 256 (suc i)) ∙ sym (div-div-eq-div-mul x (256 ^ suc i) 256)))
+
+-- the first w bytes of a number
+take_digits : (w m x : ℕ) → w ≤ m → take w (little_endian m x) ≡ little_endian w x
+unfolding little_endian
+take_digits zero m x h = refl
+take_digits (suc w) zero x h = absurd (omega arith)
+take_digits (suc w) (suc m) x h = ap (λ (l : List ℕ). x % 256 ∷ l) (take_digits w m (x / 256) (le_of_suc-le-suc h))
+
+to_digits : (x : ℕ) → to_le_bytes w64 x ≡ little_endian 8 x
+unfolding little_endian
+to_digits x = ap (λ (l : List ℕ). x % 256 ∷ l) (digits_from 0 7 x)
+
+pub take_le_bytes : (w x : ℕ) → w ≤ 8 → take w (to_le_bytes w64 x) ≡ little_endian w x
+take_le_bytes w x h = ap (take w) (to_digits x) ∙ take_digits w 8 x h
+
 pub from_digits : (l : List ℕ) → length l ≡ 8 → from_le_bytes w64 l ≡ number_of l
 unfolding number_of
 from_digits [] q = absurd (omega arith)

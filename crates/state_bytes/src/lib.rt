@@ -48,19 +48,16 @@ pub fn length() -> usize
     LENGTH
 }
 
-// The low bytes of x, the lowest first. By `to_le_bytes` tried: it asks for a bound of 8 bytes, whose proof at the ten calls in `put_field` did not close.
+// The low bytes of x, the lowest first.
 fn put(bytes: &mut [u8], x: usize)
+    requires { length bytes.old ≤ 8 }
     ensures { bytes.new ≡ little_endian (length bytes.old) x }
 {
-    let mut rest = x;
-    for byte in bytes.iter_mut() {
-        *byte = (rest % 256) as u8;
-        rest /= 256;
-    }
+    bytes.copy_from_slice(&x.to_le_bytes()[..bytes.len()]);
 }
 
 // Writes field i to as many bytes as it takes. A match on i, as `field_bytes s i` counts the fields.
-#[tactic(auto, unfolding(crate::specs::State::field_bytes))]
+#[tactic(auto, unfolding(crate::specs::State::field_bytes, crate::specs::State::width_of))]
 fn put_field(bytes: &mut [u8], s: State, i: usize)
     requires { (i < length widths) × (length bytes.old ≡ width_of i) }
     ensures { bytes.new ≡ field_bytes s i }
