@@ -1,15 +1,11 @@
 -- Laws of numbers as bytes. The main one: `number_back`, what w bytes hold of a number below 256 ^ w is the number.
-use lib.ListN.{take}
-use native.Mathlib.Nat.{le_of_suc-le-suc, div-div-eq-div-mul}
-use mathlib.Core.Path.{sym}
-use Rattle.std.specs.Int.{to_le_bytes, bytes_low_first}
-use mathlib.Core.Path.{◌≡◌, refl, ap, ◌∙◌}
+use mathlib.Core.Path.{◌≡◌, refl, sym, ap, ◌∙◌}
 use mathlib.Core.List.{List, [], ◌∷◌}
 use Prim.Native.Nat.{ℕ, zero, suc, ◌+◌, ◌*◌, ◌/◌, ◌%◌, ◌^◌, ◌≤◌, ◌<◌}
 use native.Mathlib.Omega.{arith}
-use native.Mathlib.Nat.{pow-suc}
-use lib.ListN.{length, get_or}
-use Rattle.std.specs.Int.{w64, from_le_bytes}
+use native.Mathlib.Nat.{le_of_suc-le-suc, div-div-eq-div-mul, pow-suc}
+use lib.ListN.{length, get_or, take}
+use Rattle.std.specs.Int.{w64, to_le_bytes, from_le_bytes, bytes_low_first}
 use Rattle.state_bytes.specs.State.{little_endian, number_of}
 
 pub length_digits : (w x : ℕ) → length (little_endian w x) ≡ w
