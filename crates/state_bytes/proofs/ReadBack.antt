@@ -1,6 +1,6 @@
 -- What was written is read back. The main laws: `read_written` (what was written is read back), `length_state` (the bytes of a state have the
 -- stated length) and `state_words` (every list of bytes is a state whose fields are within their bounds).
-use mathlib.Core.Path.{◌≡◌, refl, sym, ap, subst, ◌∙◌}
+use mathlib.Core.Path.{◌≡◌, sym, ap, subst, ◌∙◌}
 use mathlib.Core.Logic.{⊎_elim}
 use mathlib.Core.List.{List, [], ◌∷◌}
 use Prim.Native.Nat.{ℕ, zero, suc, ◌/◌, ◌%◌, ◌^◌, ◌≤◌, ◌<◌}
@@ -22,6 +22,7 @@ use Rattle.protocol.specs.declared.State.{State}
 use Rattle.protocol.specs.State.{zero_state}
 use Rattle.state_bytes.specs.State.{little_endian, number_of, widths, width_of, offset, state_length, six_numbers, field_bytes, state_bytes, field_in}
 use Rattle.reconstruction.specs.Outcomes.{outcome_from}
+use Rattle.reconstruction.proofs.Laws.{outcome_back}
 use Rattle.state_bytes.specs.State.{field_number, state_in, state_of, Words}
 use Rattle.state_bytes.proofs.Digits.{number_lt, number_back}
 use Rattle.state_bytes.proofs.Fields.{number-width_is, number-field, length_fields, field_read, made}
@@ -42,12 +43,15 @@ number_read_lem s w i h =
     let fits : x < 256 ^ width_of i = subst (λ (m : ℕ). x < 256 ^ m) (sym (number-width_is i h)) (w.numbers i) in
     sym (ap number_of (field_back s i (omega arith) ∙ number-field s i h) ∙ number_back (width_of i) x fits)
 
-outcome_back : (w : Outcome) → outcome_from (number_of (little_endian (width_of 6) (outcome_number w))) ≡ w
-unfolding outcome_from number_of little_endian width_of
-outcome_back Open = refl
-outcome_back Agreed = refl
-outcome_back None = refl
-outcome_back Beyond = refl
+outcome_fits : (w : Outcome) → outcome_number w < 256 ^ width_of 6
+unfolding width_of
+outcome_fits Open = omega arith
+outcome_fits Agreed = omega arith
+outcome_fits None = omega arith
+outcome_fits Beyond = omega arith
+
+outcome_read : (w : Outcome) → outcome_from (number_of (little_endian (width_of 6) (outcome_number w))) ≡ w
+outcome_read w = ap outcome_from (number_back (width_of 6) (outcome_number w) (outcome_fits w)) ∙ outcome_back w
 
 rows_back : (m : List ℕ) → length m ≡ 16 → ((i : ℕ) → get_or m i 0 < 2 ^ 16) → tabulate (row_of 16 (rows_of 16 m)) 16 ≡ m
 rows_back m e h =
@@ -67,7 +71,7 @@ fields_back s w =
     let b = state_bytes s in
     let number = number_read_lem s w in
     made b (number 0 (omega arith)) (number 1 (omega arith)) (number 2 (omega arith)) (number 3 (omega arith)) (number 4 (omega arith)) (number 5 (omega arith))
-    (sym (ap (λ (x : List ℕ). outcome_from (number_of x)) (field_back s 6 (omega arith)) ∙ outcome_back s.outcome))
+    (sym (ap (λ (x : List ℕ). outcome_from (number_of x)) (field_back s 6 (omega arith)) ∙ outcome_read s.outcome))
     (sym (ap rows_in (field_back s 7 (omega arith)) ∙ rows_back s.matrix w.matrix_length w.matrix_rows))
     (sym (ap rows_in (field_back s 8 (omega arith)) ∙ rows_back s.weak w.weak-length w.weak_rows))
     (sym (ap (λ (x : List ℕ). row_of 16 x 0) (field_back s 9 (omega arith)) ∙ row_back s.core w.core_row))
