@@ -189,11 +189,6 @@ pub const BENT: &[(&str, &str, &[Turn])] = &[
         &[X(2, 20.0), Below(9, 15.0), X(0, GAP), Below(8, 15.0), X(0, SECOND)],
     ),
     ("simulation_agreement", "simulator", &[X(2, SECOND), Below(9, 15.0), X(3, 100.0)]),
-    (
-        "cases",
-        "lists",
-        &[X(4, SECOND), Below(8, 15.0), X(4, 165.0)],
-    ),
 ];
 
 pub fn place(name: &str) -> &'static Place {
