@@ -115,6 +115,7 @@ pub fn potekawhi_next_call(state: &[u8]) -> usize
     state_bytes::read(state).next
 }
 
+// Not one function with `row_number`: () has no number, so it would take a closure for the Ok.
 // The number that C is given for an outcome: its own, or that of the row.
 fn outcome_number(answer: Result<Outcome, Refusal>) -> u8
     ensures { result ≡ outcome_or_row answer }

@@ -1,5 +1,6 @@
 // The functions that programs in C, or in Rust, link as a static library: those of the crate boards under the same names, by the C calling convention.
 // include/potekawhi.h declares them for C. The C interface needs each function once more: no crate, and no theorem, can use a static library.
+// Numbers for answers, and each setting by itself: as C needs them.
 #![tactic(auto)]
 
 ghost use Rattle.std.specs.Prelude.{◌≡◌, cond, length};

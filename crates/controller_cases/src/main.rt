@@ -518,6 +518,7 @@ fn last_examples(rt: &impl Print) -> io::Result<()> {
     Ok(())
 }
 
+// Not one function with `last_examples`: one would take the table, and each table would be a constant with the same comment, no shorter.
 // The same pieces in run 258: slot 3 is of run 2 or 257, with its true piece, or of run 2 with a false one. Then 1 and 4 are of run 513, and two pieces
 // are left; then 2 is of run 0 besides, and one piece determines nothing. Last, the slots before these in run 513, in which 1 and 4 are left.
 fn last_late(rt: &impl Print) -> io::Result<()> {
@@ -559,6 +560,7 @@ fn last_late(rt: &impl Print) -> io::Result<()> {
     Ok(())
 }
 
+// Two cases, whose settings, run, core, block and inbox all differ: one function of them is `last`.
 // Three stripes 0a14, each with another false value.
 fn last_stripes(rt: &impl Print) -> io::Result<()> {
     last(

@@ -1,5 +1,6 @@
 // Interpolation of a polynomial through values some of which are wrong (Welch and Berlekamp, by the pairs of Kötter), over a list of points
 // and a list of values. It knows of the field only its contracts and laws.
+// Points and values are two slices, as `candidate_into` of specs/ has them: the caller has the points for all stripes and the values for one.
 #![tactic(auto)]
 
 ghost use Rattle.std.specs.Prelude.{◌≡◌, ◌+◌, ◌-◌, ◌≤◌, ◌<◌, length};

@@ -11,6 +11,7 @@ use bitset::{below, difference, insert, intersection, lowest, member, remove, si
 use graph::missing_row;
 
 // A matching: its pairs, each the smaller end first, the first pair last; zeros after them.
+// With no heap an array of fixed size, and how many of its places count.
 #[derive(Clone, Copy, PartialEq, Eq)]
 pub struct Matching {
     count: usize,

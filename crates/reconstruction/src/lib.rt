@@ -25,6 +25,7 @@ pub enum Outcome {
 
 impl Outcome {
     // Document 01's word for an outcome.
+    // No Display: the simulator appends it to a buffer, and what std's Display writes is known of a String or a Vec alone.
     // Shut out: open for none; beyond with a blank before it; must-fail/beyond_worded_none.
     pub fn word(self) -> &'static [u8]
         ensures { result.now ≡ outcome_word self }
@@ -54,6 +55,7 @@ impl From<Outcome> for u8 {
 }
 
 // The outcome of a number; open where it is no outcome's.
+// From and not TryFrom: `outcome_from` of specs/ answers open.
 // Shut out: beyond for every number past 3; must-fail/none_read_as_agreed.
 impl From<u8> for Outcome {
     ghost from_gives = { λ x w. w ≡ outcome_from x };

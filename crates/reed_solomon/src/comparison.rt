@@ -37,6 +37,7 @@ fn compare_slot(pieces: &Pieces, cols: &[u8], j: usize, piece: &mut [u8], counts
 }
 
 // The marks of the slots of 1 .. n that do not hold their piece of the block, and how many are present and differ in each stripe, added to zeros.
+// Not bitset::select: its test would have to write to piece and counts.
 fn compare(
     pieces: &Pieces,
     block: &[u8],

@@ -25,6 +25,7 @@ fn load_column(pieces: &Pieces, j: usize, from: usize, column: &mut [u8]) {
     }
 }
 
+// 0 < rows, or the length of tmp, is asked where columns of so many bytes are cut; `guess` tests it once.
 // The bytes of the slots c from stripe `from` on, a column of as many rows for each.
 fn load(pieces: &Pieces, c: &[u8], from: usize, rows: usize, cols: &mut [u8])
     requires { 0 < rows }

@@ -20,6 +20,10 @@ use pieces::{Choice, Pieces};
 use settings::Refusal;
 use wire::Layout;
 
+// n, t, the layout, the slots and the block come one by one down to `decode_slots`, which makes a Pieces: the clauses name each
+// (`Answers n t layout slots`). t ≤ 5 is asked where a product of lengths must not overflow, of functions that have a t and no Pieces: a struct for one
+// number is no plainer.
+
 // Whether slot j is present.
 fn has_piece(slots: &[u8], layout: Layout, j: usize) -> bool
     ensures { result ≡ has_piece layout slots.now j }

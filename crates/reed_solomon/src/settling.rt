@@ -56,7 +56,7 @@ fn is_right(xs: &[u8], ys: &[u8], t: usize, m: &[u8]) -> bool
     2 * bitset::size(mark_different(xs, ys, m)) + t + 1 <= xs.len()
 }
 
-// The value of stripe s in slot j; 0 where the slot is absent.
+// The value of stripe s in slot j; 0 where the slot is absent, as `received` of specs/ has it.
 fn received(pieces: &Pieces, s: usize, j: usize) -> u8
     ensures { result ≡ received pieces.now.layout pieces.now.slots.now s j }
 {

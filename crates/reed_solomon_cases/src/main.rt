@@ -195,6 +195,7 @@ const DECODINGS: [[usize; 6]; 41] = [
     [4, 1, 9223372036854775808, 257, 12, 0],
 ];
 
+// (`row_number` of boards is private to that crate.)
 // The number that is printed for coding's answer.
 fn coded(a: Result<(), Refusal>) -> u8 {
     match a {
@@ -313,6 +314,8 @@ impl Case {
         }
     }
 }
+
+// n ≤ 16 and t ≤ 5 are asked where a Case is made, and of what takes n or t alone: a Case in its place would bring five fields that are not read.
 
 fn root_byte(t: usize, b: usize) -> u8
     requires { t ≤ 5 }

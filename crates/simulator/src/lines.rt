@@ -25,6 +25,7 @@ fn append_result(w: &mut Writer, i: usize, outcome: Outcome, block: &[u8])
     w.append(b"\n");
 }
 
+// b ≤ 192 is asked where a block is cut, as in run.rt: the array is of fixed size.
 // Appends the lines of the correct controllers, each with b bytes of its block.
 fn append_results(w: &mut Writer, file: &SystemFile, b: usize, controllers: &[Controller; 16])
     requires { (file.now.settings.n ≤ 16) × (b ≤ 192) × Room w.old.out.now w.old.end (file.now.settings.n * 395) }
@@ -79,6 +80,7 @@ pub(crate) fn results(file: &SystemFile, controllers: &[Controller; 16]) -> Outp
     Output { bytes, length }
 }
 
+// Not one function with `results`: it would take a closure that writes, and three of its four lines would stay.
 // The output for a file whose first wrong line is `line`.
 pub(crate) fn bad(line: usize) -> Output
     ensures { (result.bytes ≡ padded 6400 (bad_line line)) × (result.length ≡ length (bad_line line)) }

@@ -20,6 +20,8 @@ const WIDTHS: [usize; FIELDS] = [8, 8, 8, 8, 8, 8, 1, 32, 32, 2, 2, 2];
 // How many bytes a state takes: `length` ties it to the widths.
 const LENGTH: usize = 119;
 
+// A field's number stays a number with a `requires`, as the definitions count the fields: a struct of it would be made at every turn of a loop.
+
 // The width of field i.
 fn width(i: usize) -> usize
     requires { i < length widths }
@@ -78,6 +80,7 @@ fn put_field(bytes: &mut [u8], s: State, i: usize)
     }
 }
 
+// The place is counted: the widths differ, so that no chunks of one size are the fields.
 // Writes the fields one behind the other.
 fn put_fields(bytes: &mut [u8; LENGTH], s: State)
     ensures { bytes.new ≡ state_bytes s }

@@ -42,6 +42,7 @@ impl From<FormError> for usize {
 
 // What a file says. The block's bytes stand at the front of `block`. `faulty` is the set of those that stand under `from`. `places` has, for each
 // round, sender and receiver, the byte of the file where the message starts, 0 for none.
+// Memory is fixed: the block's array is as long as the longest, and the settings say how much counts. Why a place is a number: see table.rt.
 #[derive(Drop)]
 pub struct SystemFile {
     pub settings: Settings,

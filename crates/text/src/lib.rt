@@ -106,6 +106,8 @@ pub fn read_bytes(f: &[u8], out: &mut [u8])
     }
 }
 
+// By hand: `to_digit` of char takes upper case too, and `hex_of` of specs/ has 0 for any other byte.
+
 // The byte that two digits say.
 #[tactic(auto, using(crate::proofs::Bytes::hex_lt))]
 fn byte(a: u8, b: u8) -> u8

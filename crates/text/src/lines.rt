@@ -57,6 +57,7 @@ pub fn after_names(input: &[u8], at: usize, names: &[u8]) -> Option<usize>
 }
 
 // The numbers in the first fields of l, each in a range of its own, and four at most. `ranges` has the lowest and the highest number of each range.
+// The place is counted: the answer has where what follows the fields starts, which `split` does not say.
 // Shut out: the place of the comma as the end; the first range for each field.
 pub fn read_numbers(l: &[u8], ranges: &[(u32, u32)]) -> Option<Numbers>
     ensures { result ≡ numbers_of (flat ranges.now) l.now }

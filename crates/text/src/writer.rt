@@ -73,6 +73,8 @@ fn write_digits(b: &mut [u8; 20], x: usize) -> usize
     at
 }
 
+// The digits below are made by hand, for the reason at `write_digits`.
+
 // The byte of a decimal digit.
 fn digit_byte(d: usize) -> u8
     requires { d < 10 }

@@ -106,6 +106,8 @@ struct Turn {
     layout: Layout,
 }
 
+// An index below 16 stays a number with a `requires`: a struct of it would be made at every turn of a loop.
+
 impl Turn {
     fn new(vote: Setup, c: usize) -> Turn {
         let layout = wire::round_layout(vote.run_number(), vote.n, vote.t, 1, c);

@@ -155,7 +155,7 @@ fn last_call(m: usize) -> Call
     }
 }
 
-// The phase of round c, which is the number of its king; 0 before the vote.
+// The phase of round c, which is the number of its king; 0 before the vote, as `phase_of` of specs/ has it.
 // Shut out: half of c - 1; phase 1 at 0.
 #[tactic(auto, unfolding(crate::specs::Round::phase_of))]
 pub fn phase(c: usize) -> usize
