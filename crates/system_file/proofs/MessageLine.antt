@@ -11,7 +11,7 @@ use lib.ListN.{length, get_or, drop}
 use Rattle.lists.proofs.Tests.{either, fails, and_left, and_right, and_both, and_no_left, and_no_right}
 use Rattle.text.specs.Read.{value_of, is_bytes}
 use Rattle.text.specs.declared.lines.Numbers.{Numbers}
-use Rattle.text.specs.Lines.{line_at, is_ended, rest, field, in_range, is_numbers, numbers_of, flat}
+use Rattle.text.specs.Lines.{line_at, is_ended, rest, field, in_range, is_numbers, numbers_of}
 use Rattle.text.proofs.Laws.{number_range, bytes-digits, ended_yes, rest_le, NumbersFound, numbers-found, numbers_none, numbers_range, numbers_three}
 use Rattle.settings.specs.Valid.{Coded, Numbered}
 use Rattle.wire.specs.Length.{message_length}
@@ -26,19 +26,16 @@ use Rattle.system_file.specs.Steps.{line_in, message_ranges, said, Enters}
 abbrev is_text : Settings → List ℕ → Bool
 is_text σ l = is_bytes (message_length σ.n σ.t σ.k (value_of (field 0 l))) (rest 3 l)
 
-abbrev ranges : Settings → List ℕ
-ranges σ = flat (message_ranges σ)
-
 regroup : (a b c d : Bool) → (a && (b && (c && d))) ≡ (((a && b) && c) && d)
 regroup true true c d = refl
 regroup true false c d = refl
 regroup false b c d = refl
 
-message_is : (σ : Settings) (l : List ℕ) → is_message σ l ≡ (is_numbers (ranges σ) l && is_text σ l)
+message_is : (σ : Settings) (l : List ℕ) → is_message σ l ≡ (is_numbers (message_ranges σ) l && is_text σ l)
 unfolding is_message
 message_is σ l =
-    let r = in_range (ranges σ) l in
-    regroup (r 0) (r 1) (r 2) (is_text σ l) ∙ ap (λ (b : Bool). b && is_text σ l) (sym (numbers_three (ranges σ) l refl))
+    let r = in_range (message_ranges σ) l in
+    regroup (r 0) (r 1) (r 2) (is_text σ l) ∙ ap (λ (b : Bool). b && is_text σ l) (sym (numbers_three (message_ranges σ) l refl))
 
 -- ---- the cases of the code
 module _ (σ : Settings) (l : List ℕ) (a : ℕ) where
@@ -51,24 +48,24 @@ module _ (σ : Settings) (l : List ℕ) (a : ℕ) where
   line_is e = ap (λ (b : Bool). cond b (Some there) None) (sym e)
 
   -- rs are the ranges that the code holds
-  module _ {rs : List (ℕ × ℕ)} (g : rs ≡ message_ranges σ) where
-    held : {x : Option Numbers} → x ≡ numbers_of (flat rs) l → x ≡ numbers_of (ranges σ) l
-    held d = d ∙ ap (λ (x : List (ℕ × ℕ)). numbers_of (flat x) l) g
+  module _ {rs : List ℕ} (g : rs ≡ message_ranges σ) where
+    held : {x : Option Numbers} → x ≡ numbers_of rs l → x ≡ numbers_of (message_ranges σ) l
+    held d = d ∙ ap (λ (x : List ℕ). numbers_of x l) g
 
-    pub no_numbers : None ≡ numbers_of (flat rs) l → None ≡ line_in σ l a
-    no_numbers d = line_is (message_is σ l ∙ and_no_left _ _ (numbers_none (ranges σ) l (held d)))
+    pub no_numbers : None ≡ numbers_of rs l → None ≡ line_in σ l a
+    no_numbers d = line_is (message_is σ l ∙ and_no_left _ _ (numbers_none (message_ranges σ) l (held d)))
 
     -- f are the numbers, x is what follows them, and b says whether it is m bytes
-    module _ {f : Numbers} (d : Some f ≡ numbers_of (flat rs) l) {x : List ℕ} (e : x ≡ drop f.end l)
+    module _ {f : Numbers} (d : Some f ≡ numbers_of rs l) {x : List ℕ} (e : x ≡ drop f.end l)
         {m : ℕ} (u : m ≡ message_length σ.n σ.t σ.k (get_or f.values 0 0)) {b : Bool} (v : b ≡ is_bytes m x) where
-      pub said_numbers : NumbersFound (ranges σ) l f
-      said_numbers = numbers-found (ranges σ) l (held d)
+      pub said_numbers : NumbersFound (message_ranges σ) l f
+      said_numbers = numbers-found (message_ranges σ) l (held d)
 
       text_is : is_text σ l ≡ b
       text_is = sym (v ∙ rw (u, said_numbers.value 0 (omega arith), e, said_numbers.follows))
 
       pub no_message : b ≡ false → None ≡ line_in σ l a
-      no_message w = line_is (message_is σ l ∙ and_no_right (is_numbers (ranges σ) l) _ (text_is ∙ w))
+      no_message w = line_is (message_is σ l ∙ and_no_right (is_numbers (message_ranges σ) l) _ (text_is ∙ w))
 
       pub line_yes : b ≡ true
           → Some (record { round = get_or f.values 0 0; from = get_or f.values 1 0; to = get_or f.values 2 0; place = a + f.end }) ≡ line_in σ l a
@@ -110,7 +107,7 @@ unfolding message_at
 message-placed σ input a h e y =
     let l = line_at input a in
     let p = sym (message_is σ l) ∙ y in
-    let range = numbers_range (ranges σ) l (and_left _ _ p) in
+    let range = numbers_range (message_ranges σ) l (and_left _ _ p) in
     let rr = number_range 1 (3 * σ.t + 8) (field 0 l) (range 0 (omega arith)) in
     let rf = number_range 1 σ.n (field 1 l) (range 1 (omega arith)) in
     let rt = number_range 0 σ.n (field 2 l) (range 2 (omega arith)) in
@@ -120,7 +117,7 @@ message-placed σ input a h e y =
       from = record { least = rf.0; most = rf.1 };
       to_most = rt.1;
       place-least = omega arith;
-      room = omega (arith, ended_yes input a e, rest_le 3 l, bytes-digits _ _ (and_right (is_numbers (ranges σ) l) _ p));
+      room = omega (arith, ended_yes input a e, rest_le 3 l, bytes-digits _ _ (and_right (is_numbers (message_ranges σ) l) _ p));
     }
 
 pub placed_enters : {σ : Settings} → Coded σ.n σ.t σ.k → (size : ℕ) → size ≤ file_limit → (m : Message) → Placed σ size m → Enters m

@@ -44,8 +44,8 @@ head_in l a =
 unfoldable pub head_at : List ℕ → ℕ → Option Head
 head_at input a = cond (is_ended input a) (head_in (line_at input a) a) None
 
-abbrev pub message_ranges : Settings → List (ℕ × ℕ)
-message_ranges s = (1, 3 * s.t + 8) ∷ (1, s.n) ∷ (0, s.n) ∷ []
+abbrev pub message_ranges : Settings → List ℕ
+message_ranges s = 1 ∷ (3 * s.t + 8) ∷ 1 ∷ s.n ∷ 0 ∷ s.n ∷ []
 
 unfoldable pub line_in : Settings → List ℕ → ℕ → Option Said
 line_in s l a =

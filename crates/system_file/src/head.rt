@@ -31,7 +31,7 @@ fn settings_line(l: &[u8], at: usize) -> Option<Head>
     ensures { result ≡ head_in l.now at }
 {
     // n, t, k and the sender, each in its range
-    let numbers = lines::read_numbers(l, &[(4, 16), (1, 5), (1, 32), (0, 16)])?;
+    let numbers = lines::read_numbers(l, &[4, 16, 1, 5, 1, 32, 0, 16])?;
     let [n, t, k, sender] = numbers.values;
     let settings = Settings { n, t, k, sender };
     // 3t + 1 is at most n, and so is the sender: controller 1 could be started with them

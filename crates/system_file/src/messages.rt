@@ -94,10 +94,10 @@ fn message_line(l: &[u8], at: usize, s: Settings) -> Option<Said>
 }
 
 // The ranges of the numbers in a message line: round, from, to.
-fn ranges(s: Settings) -> [(u32, u32); 3]
+fn ranges(s: Settings) -> [u32; 6]
     requires { Coded s.n s.t s.k }
     ensures { result ≡ message_ranges s }
 {
     let n = s.n as u32;
-    [(1, 3 * s.t as u32 + 8), (1, n), (0, n)]
+    [1, 3 * s.t as u32 + 8, 1, n, 0, n]
 }

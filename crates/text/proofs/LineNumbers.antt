@@ -2,7 +2,7 @@
 -- `numbers_none` (what an answer tells), `numbers_range` (each field is in its range), and the turns of the loop that reads the fields.
 use mathlib.Core.Path.{◌≡◌, refl, sym, ap, ◌∙◌}
 use mathlib.Core.Bool.{true, false, ◌&&◌}
-use mathlib.Core.List.{List, [], ◌∷◌}
+use mathlib.Core.List.{List}
 use mathlib.Core.Logic.{⊎_elim}
 use Prim.Native.Nat.{ℕ, zero, suc, ◌+◌, ◌-◌, ◌*◌, ◌/◌, ◌≤◌, ◌<◌}
 use native.Mathlib.Numerals.{add-one}
@@ -19,7 +19,7 @@ use Rattle.lists.proofs.Parts.{end_drop}
 use Rattle.std.specs.Prelude.{Option, Some, None}
 use Rattle.text.specs.declared.lines.Numbers.{Numbers}
 use Rattle.text.specs.Read.{comma, before, behind, value_of, number_read}
-use Rattle.text.specs.Lines.{rest, field, in_range, in_ranges, is_numbers, numbers_in, numbers_of, flat}
+use Rattle.text.specs.Lines.{rest, field, in_range, in_ranges, is_numbers, numbers_in, numbers_of}
 use Rattle.text.proofs.Fields.{before_le, behind-drop}
 use Rattle.text.proofs.Numbers.{number_some, number_is, answer_value, answer-wrong}
 
@@ -44,29 +44,6 @@ rest_more : (i : ℕ) (l : List ℕ) → rest (suc i) l ≡ behind comma (rest i
 unfolding rest
 rest_more zero l = refl
 rest_more (suc i) l = rest_more i (behind comma l)
-
--- ---- ranges, in turn
-pub half_flat : (rs : List (ℕ × ℕ)) → length (flat rs) / 2 ≡ length rs
-half_flat [] = refl
-half_flat (r ∷ rs) = omega (arith, half_flat rs)
-
-flat_low : (rs : List (ℕ × ℕ)) (i : ℕ) → get_or (flat rs) (2 * i) 0 ≡ (get_or rs i (0, 0)).0
-flat_low [] i = refl
-flat_low (r ∷ rs) zero = refl
-flat_low (r ∷ rs) (suc i) =
-    let e : 2 * suc i ≡ suc (suc (2 * i)) = omega arith in
-    rw e (flat_low rs i)
-
-flat_high : (rs : List (ℕ × ℕ)) (i : ℕ) → get_or (flat rs) (2 * i + 1) 0 ≡ (get_or rs i (0, 0)).1
-flat_high [] i = refl
-flat_high (r ∷ rs) zero = refl
-flat_high (r ∷ rs) (suc i) =
-    let e : 2 * suc i + 1 ≡ suc (suc (2 * i + 1)) = omega arith in
-    rw e (flat_high rs i)
-
-pub read_flat : (rs : List (ℕ × ℕ)) (i : ℕ) (f : List ℕ)
-    → number_read (get_or rs i (0, 0)).0 (get_or rs i (0, 0)).1 f ≡ number_read (get_or (flat rs) (2 * i) 0) (get_or (flat rs) (2 * i + 1) 0) f
-read_flat rs i f = rw (flat_low rs i, flat_high rs i) refl
 
 -- ---- the numbers in the first fields
 module _ (rs l : List ℕ) where

@@ -10,8 +10,7 @@
 --   is_numbers rs l         there are four ranges at most, and the first fields are numbers in them
 --   numbers_in rs l         the values of these fields, with zeros up to four, and where what follows these fields starts
 --   numbers_of rs l         these, or none where this test fails
---   flat rs                 the lowest and the highest number of each range in turn
-use Rattle.std.specs.Prelude.{Bool, true, cond, ◌&&◌, Option, Some, None, List, [], ◌∷◌, ℕ, zero, suc, ◌+◌, ◌-◌, ◌*◌, ◌/◌, leb, ltb, length, get_or, drop, replicate}
+use Rattle.std.specs.Prelude.{Bool, true, cond, ◌&&◌, Option, Some, None, List, ℕ, zero, suc, ◌+◌, ◌-◌, ◌*◌, ◌/◌, leb, ltb, length, get_or, drop, replicate}
 use Rattle.lists.specs.Fill.{filled}
 use Rattle.lists.specs.Same.{same}
 use Rattle.text.specs.Read.{newline, comma, before, behind, value_of, number_in}
@@ -57,7 +56,3 @@ numbers_in rs l = record {
 
 unfoldable pub numbers_of : List ℕ → List ℕ → Option Numbers
 numbers_of rs l = cond (is_numbers rs l) (Some (numbers_in rs l)) None
-
-abbrev pub flat : List (ℕ × ℕ) → List ℕ
-flat [] = []
-flat (r ∷ rs) = r.0 ∷ r.1 ∷ flat rs

@@ -1,7 +1,7 @@
 // Lines of a text and fields of a line. A place past the end has an empty line and an empty field.
 ghost use Rattle.std.specs.Prelude.{◌≡◌, drop};
 ghost use Rattle.text.specs.Read.{before};
-ghost use Rattle.text.specs.Lines.{line_at, named_at, flat, numbers_of};
+ghost use Rattle.text.specs.Lines.{line_at, named_at, numbers_of};
 
 // The numbers in the first fields of a line, with zeros behind them, and where what follows these fields starts.
 #[derive(Clone, Copy)]
@@ -56,20 +56,22 @@ pub fn after_names(input: &[u8], at: usize, names: &[u8]) -> Option<usize>
     Some(end + 1)
 }
 
-// The numbers in the first fields of l, each in a range of its own, and four at most. `ranges` has the lowest and the highest number of each range.
+// The numbers in the first fields of l, each in a range of its own, and four at most. `ranges` has the lowest and the highest number of each range
+// in turn; a number too many is not read.
 // The place is counted: the answer has where what follows the fields starts, which `split` does not say.
-// Shut out: the place of the comma as the end; the first range for each field.
-pub fn read_numbers(l: &[u8], ranges: &[(u32, u32)]) -> Option<Numbers>
-    ensures { result ≡ numbers_of (flat ranges.now) l.now }
+// Shut out: the place of the comma as the end; the first range for each field; must-fail/odd_list_refused.
+pub fn read_numbers(l: &[u8], ranges: &[u32]) -> Option<Numbers>
+    ensures { result ≡ numbers_of ranges.now l.now }
 {
-    if ranges.len() > 4 {
+    let count = ranges.len() / 2;
+    if count > 4 {
         return None;
     }
     let mut values = [0usize; 4];
     let mut at: usize = 0;
-    for (i, (low, high)) in ranges.iter().enumerate() {
+    for i in 0..count {
         let f = until(l, at, b',');
-        let x = crate::read_number(f, *low, *high)?;
+        let x = crate::read_number(f, ranges[2 * i], ranges[2 * i + 1])?;
         values[i] = x as usize;
         at += f.len() + 1;
     }
