@@ -15,7 +15,6 @@ use lib.ListN.{length, get_or, take, drop, length-append, length-drop, drop_of_l
 use lib.Seq.{length-take-le, drop_at, take_all, take-append-le, drop-append-le}
 use Rattle.lists.specs.Fill.{filled}
 use Rattle.lists.specs.Join.{joined}
-use Rattle.lists.specs.Sum.{sum}
 use Rattle.lists.proofs.Sums.{below_suc, sum_none, sum_more, sum-suc, sum_le, sum_const}
 use Rattle.lists.proofs.Joins.{joined_none, joined_more}
 use Rattle.lists.proofs.Parts.{put_next}
@@ -29,6 +28,7 @@ use Rattle.protocol.specs.declared.State.{State}
 use Rattle.state_bytes.specs.State.{little_endian, widths, width_of, offset, state_length, six_numbers, field_bytes, state_bytes, field_in, field_number}
 use Rattle.reconstruction.specs.Outcomes.{outcome_from}
 use Rattle.state_bytes.specs.State.{field_rows, state_in}
+use Rattle.state_bytes.specs.declared.TheConstants.{LENGTH}
 use Rattle.state_bytes.proofs.Digits.{length_digits}
 
 -- ---- widths and offsets
@@ -76,16 +76,32 @@ field-within (suc n) i h =
     (λ (l : i < n). omega (arith, field-within n i l, offset-suc n))
     (below_suc h)
 
-pub state_length_is : state_length ≡ 119
-unfolding offset width_of sum
-state_length_is = refl
+pub state_length_is : state_length ≡ LENGTH
+unfolding width_of
+state_length_is =
+    omega (
+      arith,
+      offset_none,
+      offset_more 0,
+      offset_more 1,
+      offset_more 2,
+      offset_more 3,
+      offset_more 4,
+      offset_more 5,
+      offset_more 6,
+      offset_more 7,
+      offset_more 8,
+      offset_more 9,
+      offset_more 10,
+      offset_more 11,
+    )
 
 -- whether bytes are as many as a state's
 module _ {A : Type 0} (bytes : List ℕ) (x y : A) where
-  pub if-state : length bytes ≡ 119 → cond (eqb (length bytes) state_length) x y ≡ x
+  pub if-state : length bytes ≡ LENGTH → cond (eqb (length bytes) state_length) x y ≡ x
   if-state h = cond_yes (eqb (length bytes) state_length) x y (eq-eqb (length bytes) state_length (h ∙ sym state_length_is))
 
-  pub if-other : (length bytes ≡ 119 → ⊥) → cond (eqb (length bytes) state_length) x y ≡ y
+  pub if-other : (length bytes ≡ LENGTH → ⊥) → cond (eqb (length bytes) state_length) x y ≡ y
   if-other h = cond_no (eqb (length bytes) state_length) x y (ne_eqb (length bytes) state_length (λ (e : length bytes ≡ state_length). h (e ∙ state_length_is)))
 
 -- ---- the bytes of a field

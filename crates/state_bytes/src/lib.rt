@@ -17,8 +17,19 @@ const FIELDS: usize = 12;
 // those named, run number.
 const WIDTHS: [usize; FIELDS] = [8, 8, 8, 8, 8, 8, 1, 32, 32, 2, 2, 2];
 
-// How many bytes a state takes: `length` ties it to the widths.
-const LENGTH: usize = 119;
+// How many bytes a state takes: the sum of all widths.
+const LENGTH: usize = WIDTHS[0]
+    + WIDTHS[1]
+    + WIDTHS[2]
+    + WIDTHS[3]
+    + WIDTHS[4]
+    + WIDTHS[5]
+    + WIDTHS[6]
+    + WIDTHS[7]
+    + WIDTHS[8]
+    + WIDTHS[9]
+    + WIDTHS[10]
+    + WIDTHS[11];
 
 // A field's number stays a number with a `requires`, as the definitions count the fields: a struct of it would be made at every turn of a loop.
 
@@ -43,7 +54,7 @@ fn offset(i: usize) -> usize
 }
 
 // How many bytes a state takes: the sum of all widths.
-// Shut out: without the last field; must-fail/wrong_width.
+// Shut out: must-fail/last_field_left_out; must-fail/wrong_width.
 pub fn length() -> usize
     ensures { result ≡ state_length }
 {

@@ -2,6 +2,7 @@
 use Rattle.state_bytes.proofs.Digits.{from_digits}
 use Rattle.state_bytes.proofs.Fields.{state_length_is, number-width_is, length-field}
 use Rattle.state_bytes.specs.State.{number_of, field_in}
+use Rattle.state_bytes.specs.declared.TheConstants.{LENGTH}
 use lib.ListN.{length}
 use native.Mathlib.Omega.{arith}
 use mathlib.Core.List.{List}
@@ -10,7 +11,7 @@ use mathlib.Core.Path.{◌≡◌, sym, ap, ◌∙◌}
 use Rattle.state_bytes.proofs.field_number.Goals as goal
 
 -- the field has eight bytes
-eight : (b f : List ℕ) (i : ℕ) → length b ≡ 119 → i < 6 → f ≡ field_in b i → length f ≡ 8
+eight : (b f : List ℕ) (i : ℕ) → length b ≡ LENGTH → i < 6 → f ≡ field_in b i → length f ≡ 8
 eight b f i e h is = ap length is ∙ length-field b i (e ∙ sym state_length_is) (omega (arith, h)) ∙ number-width_is i h
 
 pub unwrap-requires : goal.unwrap-requires

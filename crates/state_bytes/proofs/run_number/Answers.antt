@@ -2,6 +2,7 @@
 use Rattle.state_bytes.proofs.Digits.{word_number}
 use Rattle.state_bytes.proofs.Fields.{state_length_is, length-field}
 use Rattle.state_bytes.specs.State.{width_of, number_of, field_in}
+use Rattle.state_bytes.specs.declared.TheConstants.{LENGTH}
 use lib.ListN.{length}
 use mathlib.Core.List.{List}
 use Prim.Native.Nat.{ℕ}
@@ -10,7 +11,7 @@ use mathlib.Core.Path.{◌≡◌, sym, ap, ◌∙◌}
 use Rattle.state_bytes.proofs.run_number.Goals as goal
 
 -- the field has two bytes
-two : (b f : List ℕ) → length b ≡ 119 → f ≡ field_in b 11 → length f ≡ 2
+two : (b f : List ℕ) → length b ≡ LENGTH → f ≡ field_in b 11 → length f ≡ 2
 unfolding width_of
 two b f r e = ap length e ∙ length-field b 11 (r ∙ sym state_length_is) (omega arith)
 
