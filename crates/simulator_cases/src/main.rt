@@ -3,8 +3,10 @@
 //     cargo run --release --bin system_files -- crates/simulator_cases
 #![tactic(auto)]
 
+ghost use Rattle.std.specs.Prelude.{◌≤◌, length, IfOk};
+
 use std::env::FillError;
-use std::io::Write;
+use std::io::{Read, Write};
 use std::rt::{Env, Files};
 use std::{fs, io};
 
@@ -37,16 +39,23 @@ fn fail(rt: &impl Print, name: &[u8], error: io::Error) -> io::Result<()> {
     cases::newline(rt)
 }
 
+// What a file holds, as far as buf reaches; the file is closed before anything is done with it.
+fn read(mut file: impl Read + Drop, buf: &mut [u8]) -> io::Result<usize>
+    ensures { IfOk result (λ n. n ≤ length buf.new) }
+{
+    simulator::read_full(&mut file, buf)
+}
+
 // One file, of which one byte more than the longest is read.
 fn play(rt: &(impl Files + Print), err: &impl Print, name: &[u8]) -> io::Result<()> {
     cases::text(rt, name)?;
     cases::newline(rt)?;
-    let mut file = match open(rt, name) {
+    let file = match open(rt, name) {
         Ok(file) => file,
         Err(error) => return fail(err, name, error),
     };
     let mut input = [0u8; 65537];
-    let length = simulator::read_full(&mut file, &mut input)?;
+    let length = read(file, &mut input)?;
     let output = simulator::simulate(&input[..length]);
     cases::text(rt, output.as_slice())
 }
