@@ -32,9 +32,8 @@ use Rattle.system_file.specs.Table.{text_of, place_in, some_place}
 use Rattle.system_file.proofs.Laws.{text_none, text_some}
 use Rattle.simulation.specs.Run.{run_number, Scenario, Playing, sent_as, slot_to, inbox_of}
 use Rattle.simulation.proofs.Laws.{slot_faulty, slot_correct, inbox_first, inbox-later}
-use Rattle.simulator.specs.declared.run.Controller.{Controller}
 use Rattle.simulator.specs.Play.{FileSettings, Playable}
-use Rattle.simulator.specs.Steps.{layout_in, inbox_in, Making, scene, zero_controller, sent_by}
+use Rattle.simulator.specs.Steps.{layout_in, inbox_in, Making, scene, sent_by}
 
 -- the digits of a message that stands in the file, read into m
 pub read_text : (input m : List ℕ) (len place : ℕ) → (place ≡ 0 → ⊥) → length m ≡ len → place + 2 * len ≤ length input
@@ -71,28 +70,28 @@ rest_zeros : (w m : ℕ) → drop w (zeros (w + m)) ≡ zeros m
 rest_zeros w m = let e : w + m - w ≡ m = omega arith in drop-zeros w (w + m) ∙ ap zeros e
 
 -- the outbox of the controller of index x, as the code keeps it
-abbrev pub sent : List Controller → ℕ → ℕ → List ℕ
-sent cs o x = take o (get_or cs x zero_controller).outbox
+abbrev pub sent : List (List ℕ) → ℕ → ℕ → List ℕ
+sent boxes o x = take o (get_or boxes x [])
 
 -- slot x of the inbox, counted from 0, and the inbox after j slots
-abbrev pub slot_at : (input : List ℕ) (file : SystemFile) (cs : List Controller) (c i : ℕ) → ℕ → List ℕ
-slot_at input file cs c i x = slot_to (scene input file []) c (sent_by cs (inbox_in file.settings c)) i (x + 1)
+abbrev pub slot_at : (input : List ℕ) (file : SystemFile) (boxes : List (List ℕ)) (c i : ℕ) → ℕ → List ℕ
+slot_at input file boxes c i x = slot_to (scene input file []) c (sent_by boxes (inbox_in file.settings c)) i (x + 1)
 
-abbrev pub filled_to : (input : List ℕ) (file : SystemFile) (cs : List Controller) (c i : ℕ) → ℕ → List ℕ
-filled_to input file cs c i j =
-    joined (slot_at input file cs c i) j ++ zeros ((file.settings.n - j) * width (layout_in file.settings c))
+abbrev pub filled_to : (input : List ℕ) (file : SystemFile) (boxes : List (List ℕ)) (c i : ℕ) → ℕ → List ℕ
+filled_to input file boxes c i j =
+    joined (slot_at input file boxes c i) j ++ zeros ((file.settings.n - j) * width (layout_in file.settings c))
 
 -- the inbox of a later call
 later_inbox : (F : Scenario) (now : ℕ → Playing) (i c : ℕ) → 1 ≤ c → joined (λ x. slot_to F c now i (x + 1)) F.settings.n ≡ inbox_of F c now i
 later_inbox F now i zero l = absurd (omega arith)
 later_inbox F now i (suc c) l = sym (inbox-later F c now i)
 
-module _ {input : List ℕ} {file : SystemFile} {c i : ℕ} {inbox₀ : List ℕ} (cs : List Controller) (play : Playable input file) (h : Making input file c i inbox₀) (later : 1 ≤ c) where
+module _ {input : List ℕ} {file : SystemFile} {c i : ℕ} {inbox₀ : List ℕ} (boxes : List (List ℕ)) (play : Playable input file) (h : Making input file c i inbox₀) (later : 1 ≤ c) where
   abbrev slot : ℕ → List ℕ
-  slot = slot_at input file cs c i
+  slot = slot_at input file boxes c i
 
   abbrev filled : ℕ → List ℕ
-  filled = filled_to input file cs c i
+  filled = filled_to input file boxes c i
 
   some : 0 < message_length file.settings.n file.settings.t file.settings.k c
   some = length_pos play.small.coded c later h.calls-most
@@ -124,7 +123,7 @@ module _ {input : List ℕ} {file : SystemFile} {c i : ℕ} {inbox₀ : List ℕ
   at_silent : (x : ℕ) → member file.faulty x ≡ true → place_in file.places c (x + 1) i ≡ 0 → slot x ≡ zeros (width (layout_in file.settings c))
   at_silent x f z =
       let len = message_length file.settings.n file.settings.t file.settings.k c in
-      slot_faulty (scene input file []) c (sent_by cs (inbox_in file.settings c)) i (x + 1) (ap (member file.faulty) (back x) ∙ f)
+      slot_faulty (scene input file []) c (sent_by boxes (inbox_in file.settings c)) i (x + 1) (ap (member file.faulty) (back x) ∙ f)
       ∙ ap (λ (p : ℕ). written (layout_in file.settings c) (sent_as (text_of input len p))) z
       ∙ ap (λ (s : List ℕ). written (layout_in file.settings c) (sent_as s)) (text_none input len)
       ∙ silent_slot (layout_in file.settings c)
@@ -132,16 +131,16 @@ module _ {input : List ℕ} {file : SystemFile} {c i : ℕ} {inbox₀ : List ℕ
   at_said : (x : ℕ) → member file.faulty x ≡ true → (place_in file.places c (x + 1) i ≡ 0 → ⊥) → slot x ≡ written (layout_in file.settings c) (bytes (said x))
   unfolding said
   at_said x f z =
-      slot_faulty (scene input file []) c (sent_by cs (inbox_in file.settings c)) i (x + 1) (ap (member file.faulty) (back x) ∙ f)
+      slot_faulty (scene input file []) c (sent_by boxes (inbox_in file.settings c)) i (x + 1) (ap (member file.faulty) (back x) ∙ f)
       ∙ ap (written (layout_in file.settings c)) (sent_some (said x) (omega (arith, said_length x z, some)))
 
-  at_correct : (x : ℕ) → member file.faulty x ≡ false → slot x ≡ slot_of (sent cs (inbox_in file.settings c) x) (layout_in file.settings c) i
+  at_correct : (x : ℕ) → member file.faulty x ≡ false → slot x ≡ slot_of (sent boxes (inbox_in file.settings c) x) (layout_in file.settings c) i
   at_correct x f =
-      slot_correct (scene input file []) c (sent_by cs (inbox_in file.settings c)) i (x + 1) (ap (member file.faulty) (back x) ∙ f)
-      ∙ ap (λ (y : ℕ). slot_of (sent cs (inbox_in file.settings c) y) (layout_in file.settings c) i) (back x)
+      slot_correct (scene input file []) c (sent_by boxes (inbox_in file.settings c)) i (x + 1) (ap (member file.faulty) (back x) ∙ f)
+      ∙ ap (λ (y : ℕ). slot_of (sent boxes (inbox_in file.settings c) y) (layout_in file.settings c) i) (back x)
 
   -- the inbox after j slots, which is as long as it was
-  module _ {j : ℕ} (l : j < file.settings.n) {inbox : List ℕ} (e : inbox ≡ filled_to input file cs c i j) (same : length inbox ≡ length inbox₀)
+  module _ {j : ℕ} (l : j < file.settings.n) {inbox : List ℕ} (e : inbox ≡ filled_to input file boxes c i j) (same : length inbox ≡ length inbox₀)
       {layout : Layout} (lay : layout ≡ layout_in file.settings c) where
     rest_is : (file.settings.n - j) * width (layout_in file.settings c) ≡ width (layout_in file.settings c) + (file.settings.n - (j + 1)) * width (layout_in file.settings c)
     rest_is =
@@ -172,7 +171,7 @@ module _ {input : List ℕ} {file : SystemFile} {c i : ℕ} {inbox₀ : List ℕ
     room_left = omega (arith, rest_is, length-zeros ((file.settings.n - j) * width (layout_in file.settings c)))
 
     -- the turns of the loop
-    pub turn_silent : member file.faulty j ≡ true → place_in file.places c (j + 1) i ≡ 0 → inbox ≡ filled_to input file cs c i (j + 1)
+    pub turn_silent : member file.faulty j ≡ true → place_in file.places c (j + 1) i ≡ 0 → inbox ≡ filled_to input file boxes c i (j + 1)
     turn_silent f z =
         let v = width (layout_in file.settings c) in
         let r = (file.settings.n - (j + 1)) * width (layout_in file.settings c) in
@@ -184,7 +183,7 @@ module _ {input : List ℕ} {file : SystemFile} {c i : ℕ} {inbox₀ : List ℕ
     pub turn_said : member file.faulty j ≡ true → (place_in file.places c (j + 1) i ≡ 0 → ⊥) → {place : ℕ} → place ≡ place_in file.places c (j + 1) i
         → {inbox' : List ℕ}
         → inbox' ≡ put_slot inbox layout (j + 1) (text_of input layout.length place)
-        → inbox' ≡ filled_to input file cs c i (j + 1)
+        → inbox' ≡ filled_to input file boxes c i (j + 1)
     unfolding said
     turn_said f n {place} p d =
         let len = message_length file.settings.n file.settings.t file.settings.k c in
@@ -193,30 +192,30 @@ module _ {input : List ℕ} {file : SystemFile} {c i : ℕ} {inbox₀ : List ℕ
         (said j) (said_length j n)
         ∙ goes_on (written (layout_in file.settings c) (bytes (said j))) (at_said j f n)
 
-    pub turn_sent : member file.faulty j ≡ false → {outbox : List ℕ} → outbox ≡ sent cs (inbox_in file.settings c) j → length outbox ≡ inbox_in file.settings c
-        → {inbox' : List ℕ} → inbox' ≡ relayed inbox layout (j + 1) outbox i → inbox' ≡ filled_to input file cs c i (j + 1)
+    pub turn_sent : member file.faulty j ≡ false → {outbox : List ℕ} → outbox ≡ sent boxes (inbox_in file.settings c) j → length outbox ≡ inbox_in file.settings c
+        → {inbox' : List ℕ} → inbox' ≡ relayed inbox layout (j + 1) outbox i → inbox' ≡ filled_to input file boxes c i (j + 1)
     turn_sent f {outbox} g size d =
         let v = width (layout_in file.settings c) in
-        let room : i * v ≤ length (sent cs (inbox_in file.settings c) j) = omega (arith, size, ap length g, outbox_fits, mul-le-mul_right v h.number-most) in
+        let room : i * v ≤ length (sent boxes (inbox_in file.settings c) j) = omega (arith, size, ap length g, outbox_fits, mul-le-mul_right v h.number-most) in
         d ∙ ap (λ (x : Layout). relayed inbox x (j + 1) outbox i) lay ∙ ap₂ (λ (x y : List ℕ). relayed x (layout_in file.settings c) (j + 1) y i) e g
-        ∙ relay_into (layout_in file.settings c) (joined slot j) (zeros ((file.settings.n - j) * v)) j front_is room_left (sent cs (inbox_in file.settings c) j) i
+        ∙ relay_into (layout_in file.settings c) (joined slot j) (zeros ((file.settings.n - j) * v)) j front_is room_left (sent boxes (inbox_in file.settings c) j) i
         h.number-least room
-        ∙ goes_on (slot_of (sent cs (inbox_in file.settings c) j) (layout_in file.settings c) i) (at_correct j f)
+        ∙ goes_on (slot_of (sent boxes (inbox_in file.settings c) j) (layout_in file.settings c) i) (at_correct j f)
 
-  pub fill_start : inbox₀ ≡ filled_to input file cs c i 0
+  pub fill_start : inbox₀ ≡ filled_to input file boxes c i 0
   fill_start =
       let e : file.settings.n - 0 ≡ file.settings.n = omega arith in
       h.cleared ∙ ap zeros (outbox_fits ∙ ap (λ (y : ℕ). y * width (layout_in file.settings c)) (sym e))
       ∙ ap (λ (x : List ℕ). x ++ zeros ((file.settings.n - 0) * width (layout_in file.settings c))) (sym (joined_none slot))
 
-  pub fill_end : {inbox : List ℕ} {j : ℕ} → j ≡ file.settings.n → inbox ≡ filled_to input file cs c i j
-      → inbox ≡ inbox_of (scene input file []) c (sent_by cs (inbox_in file.settings c)) i
+  pub fill_end : {inbox : List ℕ} {j : ℕ} → j ≡ file.settings.n → inbox ≡ filled_to input file boxes c i j
+      → inbox ≡ inbox_of (scene input file []) c (sent_by boxes (inbox_in file.settings c)) i
   fill_end {inbox} {j} q e =
       let z : file.settings.n - file.settings.n ≡ 0 = omega arith in
       e ∙ ap filled q
       ∙ ap (λ (x : List ℕ). joined slot file.settings.n ++ x)
       (ap (λ (y : ℕ). zeros (y * width (layout_in file.settings c))) z ∙ ap zeros (zero-mul (width (layout_in file.settings c))))
-      ∙ append-nil (joined slot file.settings.n) ∙ later_inbox (scene input file []) (sent_by cs (inbox_in file.settings c)) i c later
+      ∙ append-nil (joined slot file.settings.n) ∙ later_inbox (scene input file []) (sent_by boxes (inbox_in file.settings c)) i c later
 
 -- ---- sizes
 small_row : (r : Round) (n t k : ℕ) → n ≤ 16 → t ≤ 5 → k ≤ 32 → row_length r n t k ≤ 192

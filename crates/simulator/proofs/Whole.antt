@@ -63,10 +63,10 @@ file_playable input {file} is =
     playable input q.0 q.1 (is ∙ ap file_of q.1)
 
 -- what it ends with
-pub run_output : (input : List ℕ) {file : SystemFile} → Ok file ≡ file_of (read_of input) → (cs : List Controller) (o : ℕ)
-    → AfterCalls (scene input file (given file)) (3 * file.settings.t + 9) cs o
+pub run_output : (input : List ℕ) {file : SystemFile} → Ok file ≡ file_of (read_of input) → (cs : List Controller) (sent : List (List ℕ)) (o : ℕ)
+    → AfterCalls (scene input file (given file)) (3 * file.settings.t + 9) cs sent o
     → names_line ++ results_of file (block_in file.settings) cs ≡ simulated input
-run_output input {file} is cs o H =
+run_output input {file} is cs sent o H =
     let q = file_right (read_of input) file is in
     let F = scene input file (given file) in
     ap (λ (l : List ℕ). names_line ++ l)

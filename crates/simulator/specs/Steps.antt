@@ -5,12 +5,13 @@
 --   Making ..               what making an inbox finds: a call and a controller of the run, and a cleared inbox
 --   scene input file block  the scenario of what the reader answers
 --   zero_controller         what stands for a controller that is not there
---   sent_by cs o            what each sent, as the code keeps it: o bytes of its outbox
---   held x b o              what a controller holds, as the code keeps it: b bytes of its block and o bytes of its outbox
---   now_of cs S o           what each controller holds
+--   sent_by sent o          what each sent, as the code keeps it: o bytes of its outbox
+--   held x b y              what a controller holds whose outbox is y, as the code keeps it: b bytes of its block
+--   now_of cs sent S o      what each controller holds
 --   taken a                 what is held after a step
+--   stepped F c x sent i    what controller i holds after call c + 1, where it held x and all sent what stands in `sent`
 --   Called F c now ..       each correct controller made call c + 1, and the others stay
---   AfterCalls F c cs o     each controller holds what it holds after c calls
+--   AfterCalls F c cs ..    each controller holds what it holds after c calls
 --   results_of file b cs    the lines of the correct controllers of a file, with b bytes of each one's block
 --   Room out at m           the text ends at `at`, zeros follow, and m more bytes fit
 --   Wrote out at s out' r   s was appended
@@ -21,12 +22,12 @@ use Rattle.text.specs.Write.{padded}
 use Rattle.wire.specs.Length.{round_layout, message_length, inbox_length, outbox_length}
 use Rattle.wire.specs.declared.slot.Layout.{Layout}
 use Rattle.protocol.specs.State.{zero_state}
-use Rattle.protocol.specs.Step.{After}
+use Rattle.protocol.specs.Step.{After, step_of}
 use Rattle.system_file.specs.declared.SystemFile.{SystemFile}
 use Rattle.system_file.specs.Table.{text_of, place_in}
 use Rattle.simulator.specs.Output.{results}
 use Rattle.simulator.specs.Play.{block_in}
-use Rattle.simulation.specs.Run.{run_number, Scenario, Playing, called, played}
+use Rattle.simulation.specs.Run.{run_number, Scenario, Playing, inbox_of, called, played}
 use Rattle.simulator.specs.declared.run.Controller.{Controller}
 
 abbrev pub layout_in : Settings → ℕ → Layout
@@ -53,30 +54,34 @@ scene input file block = record {
 }
 
 abbrev pub zero_controller : Controller
-zero_controller = record { state = zero_state; block = []; outbox = [] }
+zero_controller = record { state = zero_state; block = [] }
 
-abbrev pub sent_by : List Controller → ℕ → ℕ → Playing
-sent_by cs o i = record { state = zero_state; block = []; outbox = take o (get_or cs (i - 1) zero_controller).outbox }
+abbrev pub sent_by : List (List ℕ) → ℕ → ℕ → Playing
+sent_by sent o i = record { state = zero_state; block = []; outbox = take o (get_or sent (i - 1) []) }
 
-abbrev pub held : Controller → (b o : ℕ) → Playing
-held x b o = record { state = x.state; block = take b x.block; outbox = take o x.outbox }
+abbrev pub held : Controller → (b : ℕ) (outbox : List ℕ) → Playing
+held x b outbox = record { state = x.state; block = take b x.block; outbox = outbox }
 
-abbrev pub now_of : List Controller → Settings → ℕ → ℕ → Playing
-now_of cs S o i = held (get_or cs (i - 1) zero_controller) (block_in S) o
+abbrev pub now_of : List Controller → List (List ℕ) → Settings → ℕ → ℕ → Playing
+now_of cs sent S o i = held (get_or cs (i - 1) zero_controller) (block_in S) (take o (get_or sent (i - 1) []))
 
 -- a step, with what is held after it
 abbrev pub taken : After → Playing
 taken a = record { state = a.answer.state; block = a.block; outbox = a.outbox }
+
+abbrev pub stepped : Scenario → (c : ℕ) → Controller → List (List ℕ) → (i : ℕ) → Playing
+stepped F c x sent i =
+    taken (step_of x.state (take (block_in F.settings) x.block) (inbox_of F c (sent_by sent (inbox_in F.settings c)) i) (replicate (outbox_in F.settings (c + 1)) 0))
 
 pub record Called (F : Scenario) (c : ℕ) (now after : ℕ → Playing) : Type 0 where
   pub correct : (i : ℕ) → 1 ≤ i → i ≤ F.settings.n → F.faulty i ≡ false → after i ≡ called F c now i
   pub state : (i : ℕ) → 1 ≤ i → i ≤ F.settings.n → F.faulty i ≡ true → (after i).state ≡ (now i).state
   pub block : (i : ℕ) → 1 ≤ i → i ≤ F.settings.n → F.faulty i ≡ true → (after i).block ≡ (now i).block
 
-pub record AfterCalls (F : Scenario) (c : ℕ) (cs : List Controller) (o : ℕ) : Type 0 where
-  pub state : (i : ℕ) → 1 ≤ i → i ≤ F.settings.n → (now_of cs F.settings o i).state ≡ (played F c i).state
-  pub block : (i : ℕ) → 1 ≤ i → i ≤ F.settings.n → (now_of cs F.settings o i).block ≡ (played F c i).block
-  pub outbox : (i : ℕ) → 1 ≤ i → i ≤ F.settings.n → c ≤ 3 * F.settings.t + 8 → F.faulty i ≡ false → (now_of cs F.settings o i).outbox ≡ (played F c i).outbox
+pub record AfterCalls (F : Scenario) (c : ℕ) (cs : List Controller) (sent : List (List ℕ)) (o : ℕ) : Type 0 where
+  pub state : (i : ℕ) → 1 ≤ i → i ≤ F.settings.n → (now_of cs sent F.settings o i).state ≡ (played F c i).state
+  pub block : (i : ℕ) → 1 ≤ i → i ≤ F.settings.n → (now_of cs sent F.settings o i).block ≡ (played F c i).block
+  pub outbox : (i : ℕ) → 1 ≤ i → i ≤ F.settings.n → c ≤ 3 * F.settings.t + 8 → F.faulty i ≡ false → (now_of cs sent F.settings o i).outbox ≡ (played F c i).outbox
 
 abbrev pub results_of : SystemFile → ℕ → List Controller → List ℕ
 results_of file b cs =

@@ -8,4 +8,4 @@ pub returns-else-c-ne0 : goal.returns-else-c-ne0
 returns-else-c-ne0 c =
     let a = c.args in
     let f = a.self.now.file.now in
-    first_made (scene a.self.now.input.now f []) (sent_by a.now.now (inbox_in f.settings a.c)) a.c a.i a.inbox.now c.if-c-ne0.false c.requires.cleared
+    first_made (scene a.self.now.input.now f []) (sent_by a.sent.now (inbox_in f.settings a.c)) a.c a.i a.inbox.now c.if-c-ne0.false c.requires.cleared
