@@ -10,6 +10,7 @@ use native.Mathlib.Numerals.{add-one}
 use native.Mathlib.Omega.{arith}
 use borrow.Author.Tests.{eq-eqb, eqb-true}
 use lib.Dec.{eqb}
+use mir.Val.{bool_byte}
 use Rattle.lists.specs.Sum.{sum, ind, count}
 use Rattle.lists.proofs.Tests.{true≢false, either, fails, and_right, and_tail}
 
@@ -87,6 +88,11 @@ ind_yes e = ap ind e
 
 pub ind_no : {b : Bool} → b ≡ false → ind b ≡ 0
 ind_no e = ap ind e
+
+-- as the code makes one
+pub byte_ind : (b : Bool) → bool_byte b ≡ ind b
+byte_ind true = refl
+byte_ind false = refl
 
 pub ind-not : (b : Bool) → ind b + ind (not b) ≡ 1
 ind-not true = refl

@@ -8,11 +8,15 @@ ghost use Rattle.phase_king.specs.Matrix.{cell};
 
 use crate::inbox::Inbox;
 
-// How many of the first n rows have bit j.
+// How many of the first n rows have bit j. The count is as wide as the rows, so that the compiler adds up eight of them at once.
 fn count_bit(inbox: &Inbox, rows: &[u16; 16], j: usize) -> usize
     ensures { result ≡ count inbox.now.n (λ i. cell rows.now i j) }
 {
-    bitset::size(inbox.row_of(|i| bitset::member(rows[i], j)))
+    let mut count: u16 = 0;
+    for i in 0..inbox.n {
+        count += u16::from(bitset::member(rows[i], j));
+    }
+    usize::from(count)
 }
 
 // Whether at least n - t say 0 at bit j.
@@ -48,12 +52,12 @@ pub(crate) fn weak_bit(
 ) -> bool
     ensures { result ≡ weak inbox.now.n t (λ i. cell zeros.now i j) (λ i. cell ones.now i j) }
 {
-    let counted = if held_bit(inbox, ones, t, j) {
-        ones
+    let quorum = inbox.n.saturating_sub(t);
+    if held_bit(inbox, ones, t, j) {
+        count_bit(inbox, ones, j) < quorum
     } else {
-        zeros
-    };
-    count_bit(inbox, counted, j) < inbox.n.saturating_sub(t)
+        count_bit(inbox, zeros, j) < quorum
+    }
 }
 
 // Bit j after round 3p + 3.

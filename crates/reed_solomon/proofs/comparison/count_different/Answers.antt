@@ -1,5 +1,5 @@
 -- `count_different` meets its contract.
-use mathlib.Core.Path.{◌≡◌, refl, sym, ap, ◌∙◌}
+use mathlib.Core.Path.{◌≡◌, sym, ap, ◌∙◌}
 use mathlib.Core.Bool.{Bool, true, false, not}
 use mathlib.Core.List.{List}
 use Prim.Native.Nat.{ℕ, ◌+◌, ◌≤◌}
@@ -9,13 +9,10 @@ use lib.Dec.{eqb}
 use lib.ListN.{length, get_or}
 use Rattle.lists.specs.Fill.{filled}
 use Rattle.lists.specs.Sum.{ind}
+use Rattle.lists.proofs.Sums.{byte_ind}
 use Rattle.lists.proofs.Fills.{filled_none, fill_own, get_or-filled_past}
 use Rattle.reed_solomon.specs.Steps.{counted}
 use Rattle.reed_solomon.proofs.comparison.count_different.Goals as goal
-
-byte_ind : (b : Bool) → bool_byte b ≡ ind b
-byte_ind true = refl
-byte_ind false = refl
 
 byte_le : (b : Bool) → bool_byte b ≤ 1
 byte_le true = omega arith
