@@ -15,7 +15,7 @@ use lib.Seq.{length-take-le, take_all, take_at, drop_at, drop-drop, get_or-take}
 use Rattle.lists.proofs.Tests.{either, and_left, and_right, and_both, and_no_left, and_no_right, and_tail, cond_yes, cond_no, lt_or_le, same_or_not, true≢false}
 use Rattle.lists.specs.Join.{part}
 use Rattle.lists.proofs.Parts.{all_take, all_drop, all_zeros, next_offset, drop-take, length_put}
-use Rattle.lists.proofs.Joins.{part_take, joined_none, joined_more, length-joined, part_joined, all_joined, part_put_same}
+use Rattle.lists.proofs.Joins.{part_take, joined_none, joined_more, joined-zeros, length-joined, part_joined, all_joined, part_put_same}
 use Rattle.lists.proofs.Joins.{part_put_other}
 use Rattle.wire.specs.declared.slot.Layout.{Layout}
 use Rattle.wire.specs.Slot.{header, width, slot_of, holds, run_in, is_present, message_of, offset_of, Sent, silence, bytes, written, slots, to_all, put_slot}
@@ -200,6 +200,11 @@ slots_none layout f = joined_none (λ i. written layout (f (i + 1)))
 pub slots_next : (layout : Layout) (f : ℕ → Sent) (j : ℕ) → slots layout f (j + 1) ≡ slots layout f j ++ written layout (f (j + 1))
 unfolding slots
 slots_next layout f j = joined_more (λ i. written layout (f (i + 1))) j
+
+-- silence is an outbox of zeros
+pub silent_slots : (layout : Layout) (n : ℕ) → replicate (n * width layout) 0 ≡ slots layout (λ _. silence) n
+unfolding slots written
+silent_slots layout n = joined-zeros (width layout) n
 
 -- slot j of an outbox written slot by slot
 pub slot_of-slots : (layout : Layout) (f : ℕ → Sent) → ((j : ℕ) → Sized layout (f j)) → (n j : ℕ) → 1 ≤ j → j ≤ n

@@ -41,6 +41,7 @@ fn is_present(slot: &[u8], layout: Layout) -> bool
 }
 
 // Where in a box slot j is; None where the box does not hold it whole.
+// Shut out: must-fail/slots_off_by_one.
 #[tactic(auto, unfolding(crate::specs::Slot::width))]
 fn slot_in(slots: &[u8], layout: Layout, j: usize) -> Option<Range<usize>>
     ensures { MatchOption result (holds slots.now layout j ≡ false) (λ s. IsSlot slots.now layout j s.start s.end) }
