@@ -177,7 +177,7 @@ fn recover(xs: &[u8], ys: &[u8], t: usize, m: &mut [u8])
 
 // The only polynomial of m.len() coefficients that can agree with the values ys received at the points xs in enough places, into m. Nothing
 // is written where ys has not a value for each point, m is empty, or there are more than MOST points and coefficients together.
-// Shut out: must-fail/larger_pair; must-fail/discrepancies_swapped; must-fail/coefficients_reversed.
+// Shut out: must-fail/larger_pair; must-fail/discrepancies_swapped; must-fail/discrepancies_swapped_in_both; must-fail/coefficients_reversed.
 pub fn candidate(xs: &[u8], ys: &[u8], m: &mut [u8])
     ensures { m.new ≡ candidate_into xs.now ys.now m.old }
 {
