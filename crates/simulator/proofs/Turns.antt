@@ -17,32 +17,33 @@ use Rattle.simulator.specs.Play.{block_in}
 use Rattle.simulator.specs.Steps.{Called, inbox_in, outbox_in, scene, zero_controller, held, stepped, now_of}
 use Rattle.simulator.proofs.Plays.{call_is}
 
--- the controllers before index i made their calls; the others, and the faulty ones, are as they were
-pub record Turned (input : List ℕ) (file : SystemFile) (c i : ℕ) (cs : List Controller) (sent : List (List ℕ)) (after : List Controller) (sending : List (List ℕ)) : Type 0 where
+-- the controllers before index i made their calls; the others, and the faulty ones, are as they were, and so are their outboxes
+pub record Turned (input : List ℕ) (file : SystemFile) (c i : ℕ) (cs : List Controller) (sent sending₀ : List (List ℕ)) (after : List Controller) (sending : List (List ℕ)) : Type 0 where
   pub size : length after ≡ length cs
-  pub boxes : length sending ≡ 16
+  pub boxes : length sending ≡ length sending₀
   pub called_is : (x : ℕ) → x < i → member file.faulty x ≡ false
       → held (get_or after x zero_controller) (block_in file.settings) (take (outbox_in file.settings (c + 1)) (get_or sending x []))
       ≡ called (scene input file []) c (now_of cs sent file.settings (inbox_in file.settings c)) (x + 1)
   pub same : (x : ℕ) → (i ≤ x) ⊎ (member file.faulty x ≡ true) → get_or after x zero_controller ≡ get_or cs x zero_controller
+  pub same_box : (x : ℕ) → (i ≤ x) ⊎ (member file.faulty x ≡ true) → get_or sending x [] ≡ get_or sending₀ x []
 
-pub turn_start : (input : List ℕ) (file : SystemFile) (c : ℕ) (cs : List Controller) (sent sending : List (List ℕ)) → length sending ≡ 16
-    → Turned input file c 0 cs sent cs sending
-turn_start input file c cs sent sending b = record { size = refl; boxes = b; called_is = λ x l. absurd (omega arith); same = λ x h. refl }
+pub turn_start : (input : List ℕ) (file : SystemFile) (c : ℕ) (cs : List Controller) (sent sending : List (List ℕ)) → Turned input file c 0 cs sent sending cs sending
+turn_start input file c cs sent sending = record { size = refl; boxes = refl; called_is = λ x l. absurd (omega arith); same = λ x h. refl; same_box = λ x h. refl }
 
-module _ {input : List ℕ} {file : SystemFile} {c i : ℕ} {cs : List Controller} {sent : List (List ℕ)} {after : List Controller} {sending : List (List ℕ)}
-    (T : Turned input file c i cs sent after sending) where
+module _ {input : List ℕ} {file : SystemFile} {c i : ℕ} {cs : List Controller} {sent sending₀ : List (List ℕ)} {after : List Controller} {sending : List (List ℕ)}
+    (T : Turned input file c i cs sent sending₀ after sending) where
   weaker : (x : ℕ) → (i + 1 ≤ x) ⊎ (member file.faulty x ≡ true) → (i ≤ x) ⊎ (member file.faulty x ≡ true)
   weaker x (inl h) = inl (omega arith)
   weaker x (inr h) = inr h
 
   -- a faulty one stays
-  pub turn_faulty : member file.faulty i ≡ true → Turned input file c (i + 1) cs sent after sending
+  pub turn_faulty : member file.faulty i ≡ true → Turned input file c (i + 1) cs sent sending₀ after sending
   turn_faulty f = record {
     size = T.size;
     boxes = T.boxes;
     called_is = λ x h g. T.called_is x (before x h g) g;
     same = λ x h. T.same x (weaker x h);
+    same_box = λ x h. T.same_box x (weaker x h);
   }
     where
       before : (x : ℕ) → x < i + 1 → member file.faulty x ≡ false → x < i
@@ -53,9 +54,9 @@ module _ {input : List ℕ} {file : SystemFile} {c i : ℕ} {cs : List Controlle
           (same_or_not x i)
 
   -- a correct one makes its call, and its outbox is y
-  pub turn_correct : member file.faulty i ≡ false → i < length cs → i < 16 → (x : Controller) (y : List ℕ)
+  pub turn_correct : member file.faulty i ≡ false → i < length cs → i < length sending₀ → (x : Controller) (y : List ℕ)
       → held x (block_in file.settings) (take (outbox_in file.settings (c + 1)) y) ≡ stepped (scene input file []) c (get_or after i zero_controller) sent (i + 1)
-      → Turned input file c (i + 1) cs sent (set after i x) (set sending i y)
+      → Turned input file c (i + 1) cs sent sending₀ (set after i x) (set sending i y)
   turn_correct f l m x y e = record {
     size = length-set after i x ∙ T.size;
     boxes = length-set sending i y ∙ T.boxes;
@@ -71,6 +72,7 @@ module _ {input : List ℕ} {file : SystemFile} {c i : ℕ} {cs : List Controlle
         ∙ T.called_is j d g)
         (below_suc (omega arith));
     same = λ j h. get_or-set_other after i j x zero_controller (other j h) ∙ T.same j (weaker j h);
+    same_box = λ j h. get_or-set_other sending i j y [] (other j h) ∙ T.same_box j (weaker j h);
   }
     where
       kept : Controller → List ℕ → Playing

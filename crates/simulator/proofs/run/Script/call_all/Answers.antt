@@ -8,7 +8,7 @@ use Rattle.simulator.proofs.run.Script.call_all.Goals as goal
 use Rattle.simulator.proofs.run.Script.call_all.Goals.{then-not-member, else-not-member}
 
 pub loop-i-init : goal.loop-i-init
-loop-i-init c = turn_start c.args.self.now.input.now c.args.self.now.file.now c.args.c c.args.controllers.now c.args.sent.now c.args.sending.now c.told-sending
+loop-i-init c = turn_start c.args.self.now.input.now c.args.self.now.file.now c.args.c c.args.controllers.now c.args.sent.now c.args.sending.now
 
 pub loop-i-preserved : goal.loop-i-preserved
 loop-i-preserved c =
@@ -20,7 +20,7 @@ loop-i-preserved c =
     elim c.if-not-member.branch [
       | then-not-member w ↦
           let e = w.call.ensures ∙ ap (λ (x : Controller). stepped (scene a.self.now.input.now f []) a.c x a.sent.now (i + 1)) (get_or_inside c.loop-i.controllers i _ zero_controller (omega (arith, few))) in
-          rw w.controllers-is (rw w.sending-is (turn_correct T (sym c.member.ensures ∙ w.if-not-member.true) (omega (arith, few)) (omega (arith, few)) w.call.result w.call.new.outbox e))
+          rw w.controllers-is (rw w.sending-is (turn_correct T (sym c.member.ensures ∙ w.if-not-member.true) (omega (arith, few)) (omega (arith, few, c.told-sending)) w.call.result w.call.new.outbox e))
       | else-not-member w ↦ rw w.controllers-is (rw w.sending-is (turn_faulty T (sym c.member.ensures ∙ w.if-not-member.false)))
     ]
 
